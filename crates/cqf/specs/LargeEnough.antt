@@ -1,0 +1,40 @@
+-- What the large-enough-cycle theorem says of one plan and one duration T (000, Theorem 1; document 01, demand 3).
+use mathlib.Core.Path.{_≡_}
+use mathlib.Core.Logic.{_↔_}
+use mathlib.Core.Bool.{Bool, true, false}
+use Prim.Native.Nat.{ℕ, suc, _+_, _*_, _/_, _≤_, _<_}
+use lib.ListN.{length, getD}
+use Rattle.cqf.specs.Plan.{Plan, routeOf}
+use Rattle.cqf.specs.Condition.{admissible}
+use Rattle.cqf.specs.Emission.{Emission, Keeps, Cycles, cyclesOf}
+use Rattle.cqf.specs.Run.{Overruns, Leaves}
+
+-- an emission that keeps every contract and leaves a frame unsent
+pub record Counterexample (p : Plan) (T : ℕ) : Type 0 where
+  pub emission : Emission
+  pub keeps : Keeps p emission
+  pub overruns : Overruns p T (cyclesOf T emission)
+
+-- frame k of flow f, emitted at t and with h ports on its route, leaves the last of them in the h-th cycle after its own and
+-- in no other. Wherever its sending ends, from S after that cycle's start to S before its end, both included, its delay
+-- end - t is at least (h - 1) T and at most (h + 1) T.
+pub record OnTime (p : Plan) (T : ℕ) (cycles : Cycles) (f k t h : ℕ) : Type 0 where
+  pub leaves : Leaves p T cycles f k (t / T + h)
+  pub once : (c : ℕ) → Leaves p T cycles f k c → c ≡ t / T + h
+  pub delay
+      : (end : ℕ)
+      → (t / T + h) * T + p .guard ≤ end
+      → end + p .guard ≤ suc (t / T + h) * T
+      → (t + h * T ≤ end + T) × (end ≤ t + suc h * T)
+
+-- T is refused exactly when some emission that keeps every contract leaves a frame unsent; where it is accepted, every frame
+-- of every such emission is on time
+pub record LargeEnough (p : Plan) (T : ℕ) : Type 0 where
+  pub refused : admissible p T ≡ false ↔ Counterexample p T
+  pub accepted
+      : admissible p T ≡ true
+      → (e : Emission)
+      → Keeps p e
+      → (f k : ℕ)
+      → k < length (e f)
+      → OnTime p T (cyclesOf T e) f k (getD (e f) k 0) (length (routeOf p f))

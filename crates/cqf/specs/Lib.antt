@@ -1,0 +1,9 @@
+-- Document 01 as definitions, one concept a file, in its order.
+pub mod Bounded
+pub mod Limits
+pub mod Plan
+pub mod Condition
+pub mod Emission
+pub mod Run
+pub mod LargeEnough
+pub mod Worked

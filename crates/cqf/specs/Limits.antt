@@ -1,0 +1,50 @@
+-- The numbers of a plan and their ranges (document 01, "The plan's bytes").
+use Prim.Native.Nat.{ℕ}
+use mathlib.Core.Bool.{Bool, _||_}
+use lib.Dec.{eqb}
+use Rattle.cqf.specs.Bounded.{within}
+
+-- ports are numbered from 1 to 64, flows from 1 to 256; a route has at most 16 ports
+abbrev pub portSlots : ℕ
+portSlots = 64
+
+abbrev pub flowSlots : ℕ
+flowSlots = 256
+
+abbrev pub maxHops : ℕ
+maxHops = 16
+
+abbrev pub maxTop : ℕ
+maxTop = 100000000
+
+abbrev pub guardOk : ℕ → Bool
+guardOk n = within 0 1000000 n
+
+abbrev pub topOk : ℕ → Bool
+topOk n = within 1 maxTop n
+
+abbrev pub portOk : ℕ → Bool
+portOk n = within 1 portSlots n
+
+abbrev pub rateOk : ℕ → Bool
+rateOk n = within 1 100000 n
+
+-- a frame's length in bytes, destination address through check sequence
+abbrev pub lengthOk : ℕ → Bool
+lengthOk n = within 64 2000 n
+
+-- 0 stands for no blocking frame
+abbrev pub blockingOk : ℕ → Bool
+blockingOk n = eqb n 0 || lengthOk n
+
+abbrev pub flowOk : ℕ → Bool
+flowOk n = within 1 flowSlots n
+
+abbrev pub periodOk : ℕ → Bool
+periodOk n = within 1000 100000000 n
+
+abbrev pub countOk : ℕ → Bool
+countOk n = within 1 64 n
+
+abbrev pub hopsOk : ℕ → Bool
+hopsOk n = within 1 maxHops n

@@ -1,0 +1,98 @@
+-- A plan as its two tables of fixed size: port n in slot n - 1 of 64, flow n in slot n - 1 of 256. An absent port has rate 0,
+-- an absent flow period 0, and the plan that holds nothing top 0. The route of the flow in slot f stands at f * maxHops.
+use Prim.Native.Nat.{ℕ, suc, _*_}
+use mathlib.Core.List.{List, _∷_}
+use mathlib.Core.Bool.{Bool, true, false, not, _&&_, _||_}
+use lib.ListN.{getD, replicate}
+use lib.Dec.{eqb, ltb}
+use Rattle.cqf.specs.Bounded.{anyTo, allTo, elem, distinct, every, row}
+use Rattle.cqf.specs.Limits.{portSlots, flowSlots, maxHops, guardOk, topOk, portOk, rateOk, lengthOk, blockingOk, periodOk, countOk, hopsOk}
+
+pub record Plan : Type 0 where
+  pub guard : ℕ
+  pub top : ℕ
+  pub rates : List ℕ
+  pub blockings : List ℕ
+  pub periods : List ℕ
+  pub counts : List ℕ
+  pub lengths : List ℕ
+  pub hops : List ℕ
+  pub routes : List ℕ
+
+-- the plan that holds nothing
+unfoldable pub noPlan : Plan
+noPlan =
+    record {
+      guard = 0;
+      top = 0;
+      rates = replicate portSlots 0;
+      blockings = replicate portSlots 0;
+      periods = replicate flowSlots 0;
+      counts = replicate flowSlots 0;
+      lengths = replicate flowSlots 0;
+      hops = replicate flowSlots 0;
+      routes = replicate (flowSlots * maxHops) 0;
+    }
+
+-- the numbers of the port in slot q
+abbrev pub rateOf : Plan → ℕ → ℕ
+rateOf p q = getD (p .rates) q 0
+
+abbrev pub blockingOf : Plan → ℕ → ℕ
+blockingOf p q = getD (p .blockings) q 0
+
+-- the numbers of the flow in slot f
+abbrev pub periodOf : Plan → ℕ → ℕ
+periodOf p f = getD (p .periods) f 0
+
+abbrev pub countOf : Plan → ℕ → ℕ
+countOf p f = getD (p .counts) f 0
+
+abbrev pub lengthOf : Plan → ℕ → ℕ
+lengthOf p f = getD (p .lengths) f 0
+
+abbrev pub hopsOf : Plan → ℕ → ℕ
+hopsOf p f = getD (p .hops) f 0
+
+-- its route: port numbers, in the order in which a frame meets them
+abbrev pub routeOf : Plan → ℕ → List ℕ
+routeOf p f = row (p .routes) (f * maxHops) (hopsOf p f)
+
+-- whether slot f holds a flow
+abbrev pub present : Plan → ℕ → Bool
+present p f = ltb f flowSlots && ltb 0 (periodOf p f)
+
+-- whether the route of flow f holds the port in slot q
+abbrev pub crosses : Plan → ℕ → ℕ → Bool
+crosses p f q = elem (suc q) (routeOf p f)
+
+-- whether a port of number n is in the plan: its rate is not 0
+abbrev pub portIn : List ℕ → ℕ → Bool
+portIn rates n = portOk n && ltb 0 (getD (0 ∷ rates) n 0)
+
+-- whether slot q is empty, or holds a port in range
+unfoldable pub portSound : Plan → ℕ → Bool
+portSound p q =
+    (eqb (rateOf p q) 0 && eqb (blockingOf p q) 0)
+    || (rateOk (rateOf p q) && blockingOk (blockingOf p q))
+
+-- whether slot f is empty, or holds a flow in range over distinct ports of the plan
+unfoldable pub flowSound : Plan → ℕ → Bool
+flowSound p f =
+    (eqb (periodOf p f) 0 && eqb (countOf p f) 0 && eqb (lengthOf p f) 0 && eqb (hopsOf p f) 0)
+    || (periodOk (periodOf p f)
+    && countOk (countOf p f)
+    && lengthOk (lengthOf p f)
+    && hopsOk (hopsOf p f)
+    && every (portIn (p .rates)) (routeOf p f)
+    && distinct (routeOf p f))
+
+-- whether the tables hold a plan that the rules accept: what every accepted plan is, and what the questions test first
+unfoldable pub wellFormed : Plan → Bool
+unfolding portSound flowSound
+wellFormed p =
+    topOk (p .top)
+    && guardOk (p .guard)
+    && allTo portSlots (portSound p)
+    && allTo flowSlots (flowSound p)
+    && anyTo flowSlots (present p)
