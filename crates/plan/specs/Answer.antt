@@ -1,0 +1,33 @@
+-- Document 01's number and values for each case of the answers.
+use Prim.Native.Nat.{ℕ}
+use Rattle.plan.specs.declared.Fault.{Fault}
+use Rattle.plan.specs.declared.Fault.the-variants.{Size, Truncated, UnknownTag, WrongLength, OutOfRange, Duplicate, RepeatedPort, Incomplete, UnknownPort}
+use Rattle.plan.specs.declared.Head.{Head}
+use Rattle.plan.specs.declared.Head.the-variants.{Whole, Cut}
+use Rattle.plan.specs.declared.Field as declaredField
+use Rattle.plan.specs.declared.Reading as declaredReading
+use Rattle.plan.specs.Field.{HeadRead, head, cut, Field, header, port, flow, FieldRead, field, refused}
+
+abbrev pub faultNumber : Fault → ℕ
+faultNumber Size = 1
+faultNumber Truncated = 2
+faultNumber UnknownTag = 3
+faultNumber WrongLength = 4
+faultNumber OutOfRange = 5
+faultNumber Duplicate = 6
+faultNumber RepeatedPort = 7
+faultNumber Incomplete = 8
+faultNumber UnknownPort = 9
+
+abbrev pub headOf : Head → HeadRead
+headOf (Whole tag size) = head tag size
+headOf Cut = cut
+
+abbrev pub fieldOf : declaredField.Field → Field
+fieldOf (declaredField.Field.Header h) = header (h .guard) (h .top)
+fieldOf (declaredField.Field.Port p) = port (p .number) (p .rate) (p .blocking)
+fieldOf (declaredField.Field.Flow f) = flow (f .number) (f .period) (f .count) (f .length) (f .hops)
+
+abbrev pub readingOf : declaredReading.Reading → FieldRead
+readingOf (declaredReading.Reading.Field x next) = field (fieldOf x) next
+readingOf (declaredReading.Reading.Refused fault offset) = refused (faultNumber fault) offset

@@ -1,0 +1,113 @@
+-- A field and the tests 2 to 5 of document 01 for one field.
+use Prim.Native.Nat.{ℕ, zero, suc, _+_, _-_, _*_, _/_}
+use mathlib.Core.List.{List, [], _∷_}
+use mathlib.Core.Bool.{Bool, true, false, cond, not, _&&_}
+use lib.Dec.{leb, eqb}
+use lib.ListN.{length, getD}
+use Rattle.cqf.specs.Bounded.{every, distinct, elem}
+use Rattle.cqf.specs.Limits.{guardOk, topOk, portOk, rateOk, lengthOk, blockingOk, flowOk, periodOk, countOk, hopsOk}
+use Rattle.plan.specs.Bytes.{number2, number4, numbers2, headSize, tagAt, sizeAt, wholeAt, valueAt}
+
+-- a field's numbers. A flow's route stays in its value; hops is how many ports it has.
+pub data Field : Type 0 where
+  header : (guard top : ℕ) → Field
+  port : (number rate blocking : ℕ) → Field
+  flow : (number period count length hops : ℕ) → Field
+
+-- a field's head: its tag and its value's length, or cut where the plan does not hold the whole field (refusal 2)
+pub data HeadRead : Type 0 where
+  head : (tag size : ℕ) → HeadRead
+  cut : HeadRead
+
+unfoldable pub headAt : List ℕ → ℕ → HeadRead
+unfolding wholeAt sizeAt
+headAt s at = cond (wholeAt s at) (head (tagAt s at) (sizeAt s at)) cut
+
+-- a field and the offset after it, or a refusal's number and its offset (document 01: place)
+pub data FieldRead : Type 0 where
+  field : Field → ℕ → FieldRead
+  refused : (number offset : ℕ) → FieldRead
+
+-- the answer where the test holds, else the refusal of this number
+abbrev pub unless : ℕ → ℕ → Bool → FieldRead → FieldRead
+unless number offset ok answer = cond ok answer (refused number offset)
+
+-- the tags and the lengths of their values
+abbrev pub headerTag : ℕ
+headerTag = 1
+
+abbrev pub portTag : ℕ
+portTag = 2
+
+abbrev pub flowTag : ℕ
+flowTag = 3
+
+abbrev pub headerSize : ℕ
+headerSize = 8
+
+abbrev pub portSize : ℕ
+portSize = 8
+
+-- a flow's value before its route
+abbrev pub flowSize : ℕ
+flowSize = 10
+
+-- how many ports a flow's value of this length names
+abbrev pub hopsIn : ℕ → ℕ
+hopsIn size = (size - flowSize) / 2
+
+-- the route in a flow's value
+unfoldable pub routeIn : List ℕ → List ℕ
+unfolding numbers2
+routeIn v = numbers2 v flowSize (hopsIn (length v))
+
+-- port i of that route, counted from 0; 0 past its end
+unfoldable pub routePort : List ℕ → ℕ → ℕ
+unfolding routeIn
+routePort v i = getD (routeIn v) i 0
+
+-- a field with value v at offset at, next being the offset after it: test 4, then test 5
+unfoldable pub headerIn : List ℕ → ℕ → ℕ → FieldRead
+unfolding number4
+headerIn v at next =
+    unless 4 at (eqb (length v) headerSize)
+    (unless 5 at (guardOk (number4 v 0) && topOk (number4 v 4))
+    (field (header (number4 v 0) (number4 v 4)) next))
+
+unfoldable pub portInValue : List ℕ → ℕ → ℕ → FieldRead
+unfolding number2 number4
+portInValue v at next =
+    unless 4 at (eqb (length v) portSize)
+    (unless 5 at (portOk (number2 v 0) && rateOk (number4 v 2) && blockingOk (number2 v 6))
+    (field (port (number2 v 0) (number4 v 2) (number2 v 6)) next))
+
+unfoldable pub flowIn : List ℕ → ℕ → ℕ → FieldRead
+unfolding number2 number4 every routeIn
+flowIn v at next =
+    unless 4 at (hopsOk (hopsIn (length v)) && eqb (length v) (flowSize + 2 * hopsIn (length v)))
+    (unless 5 at
+    (flowOk (number2 v 0)
+    && periodOk (number4 v 2)
+    && countOk (number2 v 6)
+    && lengthOk (number2 v 8)
+    && every portOk (routeIn v))
+    (field (flow (number2 v 0) (number4 v 2) (number2 v 6) (number2 v 8) (hopsIn (length v))) next))
+
+-- the field by its tag: test 3
+unfoldable pub fieldIn : ℕ → List ℕ → ℕ → ℕ → FieldRead
+unfolding headerIn portInValue flowIn
+fieldIn tag v at next =
+    cond (eqb tag headerTag) (headerIn v at next)
+    (cond (eqb tag portTag) (portInValue v at next)
+    (cond (eqb tag flowTag) (flowIn v at next)
+    (refused 3 at)))
+
+-- the field at this offset: test 2 first
+unfoldable pub fieldAt : List ℕ → ℕ → FieldRead
+unfolding fieldIn wholeAt valueAt sizeAt
+fieldAt s at = unless 2 at (wholeAt s at) (fieldIn (tagAt s at) (valueAt s at) at (at + headSize + sizeAt s at))
+
+-- test 7: a port twice in the route of a flow's value
+unfoldable pub repeats : List ℕ → Bool
+unfolding routeIn distinct
+repeats v = not (distinct (routeIn v))

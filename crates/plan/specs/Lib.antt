@@ -1,0 +1,6 @@
+-- The plan's bytes (document 01): numbers, a field's head and value, fields, and the reading of a whole plan.
+pub mod Bytes
+pub mod Field
+pub mod Answer
+pub mod Draft
+pub mod Reading
