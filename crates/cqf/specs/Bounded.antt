@@ -29,6 +29,11 @@ unfoldable pub lowest : ℕ → (ℕ → Bool) → ℕ
 lowest zero b = zero
 lowest (suc n) b = elim (b zero) [ true ↦ zero | false ↦ suc (lowest n (λ i. b (suc i))) ]
 
+-- g 0, g 1, .. to g (n - 1)
+unfoldable pub tabulate : ℕ → (ℕ → ℕ) → List ℕ
+tabulate zero g = []
+tabulate (suc n) g = g zero ∷ tabulate n (λ i. g (suc i))
+
 -- from lo to hi, both included
 abbrev pub within : ℕ → ℕ → ℕ → Bool
 within lo hi n = leb lo n && leb n hi

@@ -1,0 +1,53 @@
+-- Rows of calls from the empty planner, each given the planner as the call before left it.
+use Prim.Native.Nat.{ℕ}
+use mathlib.Core.List.{List, [], _∷_}
+use mathlib.Core.Option.{Option, none, some}
+use Rattle.cqf.specs.Plan.{Plan, noPlan}
+use Rattle.plan.specs.Reading.{Reading, accepted, rejected, readPlan}
+use Rattle.planner.specs.Outcome.{loadLeaves}
+
+pub data Call : Type 0 where
+  load : (bytes : List ℕ) → Call
+  check : (duration : ℕ) → Call
+  slack : (port duration : ℕ) → Call
+  least : (scratch : List ℕ) → Call
+  marginSafe : (scratch : List ℕ) → Call
+
+-- the plan held after a call
+abbrev pub leaves : Plan → Call → Plan
+leaves p (load s) = loadLeaves p s
+leaves p (check T) = p
+leaves p (slack n T) = p
+leaves p (least scratch) = p
+leaves p (marginSafe scratch) = p
+
+unfoldable pub afterFrom : Plan → List Call → Plan
+unfolding loadLeaves
+afterFrom p [] = p
+afterFrom p (c ∷ cs) = afterFrom (leaves p c) cs
+
+-- the planner after a row of calls
+unfoldable pub after : List Call → Plan
+unfolding afterFrom noPlan
+after calls = afterFrom noPlan calls
+
+-- the bytes of the last load in which the rules find no refusal
+abbrev pub accepting : Option (List ℕ) → List ℕ → Reading → Option (List ℕ)
+accepting held s (accepted p ports flows) = some s
+accepting held s (rejected number offset) = held
+
+abbrev pub keeping : Option (List ℕ) → Call → Option (List ℕ)
+keeping held (load s) = accepting held s (readPlan s)
+keeping held (check T) = held
+keeping held (slack n T) = held
+keeping held (least scratch) = held
+keeping held (marginSafe scratch) = held
+
+unfoldable pub heldFrom : Option (List ℕ) → List Call → Option (List ℕ)
+unfolding readPlan
+heldFrom held [] = held
+heldFrom held (c ∷ cs) = heldFrom (keeping held c) cs
+
+unfoldable pub heldBytes : List Call → Option (List ℕ)
+unfolding heldFrom
+heldBytes calls = heldFrom none calls

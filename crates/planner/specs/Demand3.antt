@@ -1,0 +1,44 @@
+-- Demand 3: what an answer of the plain question means, for every row of calls, every emission and its whole run.
+use mathlib.Core.Path.{_≡_}
+use mathlib.Core.Logic.{_↔_}
+use mathlib.Core.List.{List, [], _∷_}
+use mathlib.Core.Option.{Option, some}
+use Prim.Native.Nat.{ℕ, _≤_, _<_}
+use lib.ListN.{length, getD}
+use Rattle.cqf.specs.Plan.{Plan, routeOf}
+use Rattle.cqf.specs.Emission.{Emission, Keeps, cyclesOf}
+use Rattle.cqf.specs.LargeEnough.{Counterexample, OnTime}
+use Rattle.plan.specs.Reading.{accepted, readPlan}
+use Rattle.planner.specs.Outcome.{Answer, result, refusal}
+use Rattle.planner.specs.Calls.{Call, after, heldBytes}
+
+-- the answer is refusal 21
+pub record Refuses (answer : Answer (Unit {0})) : Type 0 where
+  pub lowest : ℕ
+  pub count : ℕ
+  pub is : answer ≡ refusal 21 (lowest ∷ count ∷ [])
+
+-- T is refused exactly when some emission that keeps every flow's contract leaves a frame unsent; it is accepted exactly when
+-- none does; and then every frame of every such emission is on time
+pub record Means (p : Plan) (T : ℕ) (answer : Answer (Unit {0})) : Type 0 where
+  pub refused : Refuses answer ↔ Counterexample p T
+  pub accepted : (answer ≡ result tt) ↔ (Counterexample p T → ⊥)
+  pub on-time
+      : answer ≡ result tt
+      → (e : Emission)
+      → Keeps p e
+      → (f k : ℕ)
+      → k < length (e f)
+      → OnTime p T (cyclesOf T e) f k (getD (e f) k 0) (length (routeOf p f))
+
+-- the answer to T after every row of calls that leaves the planner at these tables: the plan is the one in the bytes of the
+-- last load in which the rules find no refusal, and T is from 1 to its top
+abbrev pub Demand3 : Plan → ℕ → Answer (Unit {0}) → Type 0
+Demand3 tables T answer =
+    (calls : List Call) (bytes : List ℕ) (p : Plan) (ports flows : ℕ)
+    → tables ≡ after calls
+    → heldBytes calls ≡ some bytes
+    → readPlan bytes ≡ accepted p ports flows
+    → 1 ≤ T
+    → T ≤ p .top
+    → Means p T answer

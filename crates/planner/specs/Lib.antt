@@ -1,0 +1,5 @@
+-- The calls of the planner: what each answers, what it leaves, and rows of calls.
+pub mod Outcome
+pub mod Calls
+pub mod Answer
+pub mod Demand3

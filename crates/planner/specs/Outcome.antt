@@ -1,0 +1,94 @@
+-- What each call answers and leaves, for any held plan and any input. A plan that is not well formed, as no call leaves it but
+-- the empty planner, counts as no plan held (refusal 20).
+use Prim.Native.Nat.{ℕ, _-_}
+use mathlib.Core.List.{List, [], _∷_, _++_}
+use mathlib.Core.Bool.{Bool, true, false, cond, not, _&&_}
+use lib.Dec.{ltb, leb}
+use lib.IntN.{ℤ}
+use lib.ListN.{length, drop}
+use Rattle.cqf.specs.Bounded.{within, tabulate}
+use Rattle.cqf.specs.Limits.{portSlots, portOk}
+use Rattle.cqf.specs.Plan.{Plan, wellFormed}
+use Rattle.cqf.specs.Condition.{demand, slack, crossed, admissible, failing, lowestFailing, least, marginSafe}
+use Rattle.plan.specs.Reading.{Reading, accepted, rejected, readPlan}
+
+-- a result, or a refusal's number in document 01 and what it carries
+pub data Answer (A : Type 0) : Type 0 where
+  result : A → Answer A
+  refusal : (number : ℕ) → (values : List ℕ) → Answer A
+
+-- the load: the numbers of port and flow fields, or 1 to 9 with the offset
+pub record Fields : Type 0 where
+  pub ports : ℕ
+  pub flows : ℕ
+
+abbrev pub readingAnswer : Reading → Answer Fields
+readingAnswer (accepted p ports flows) = result (record { ports = ports; flows = flows })
+readingAnswer (rejected number offset) = refusal number (offset ∷ [])
+
+abbrev pub readingLeaves : Plan → Reading → Plan
+readingLeaves held (accepted p ports flows) = p
+readingLeaves held (rejected number offset) = held
+
+unfoldable pub loadAnswer : List ℕ → Answer Fields
+unfolding readPlan
+loadAnswer s = readingAnswer (readPlan s)
+
+-- the plan held after a load: the one read, or the one held before
+unfoldable pub loadLeaves : Plan → List ℕ → Plan
+unfolding readPlan
+loadLeaves held s = readingLeaves held (readPlan s)
+
+-- 20, then 10, then what the question says
+abbrev pub asked : {A : Type 0} → Plan → ℕ → Answer A → Answer A
+asked p T answer =
+    cond (wellFormed p)
+    (cond (within 1 (p .top) T) answer (refusal 10 (0 ∷ [])))
+    (refusal 20 (0 ∷ []))
+
+-- a refusal that names the failing ports at T: the lowest, and how many
+abbrev pub failingAt : {A : Type 0} → ℕ → Plan → ℕ → Answer A
+failingAt number p T = refusal number (lowestFailing p T ∷ failing p T ∷ [])
+
+-- the plain question
+unfoldable pub checkAnswer : Plan → ℕ → Answer (Unit {0})
+unfolding admissible failing lowestFailing wellFormed
+checkAnswer p T = asked p T (cond (admissible p T) (result tt) (failingAt 21 p T))
+
+-- the spare of port n
+unfoldable pub slackAnswer : Plan → ℕ → ℕ → Answer ℤ
+unfolding crossed slack wellFormed
+slackAnswer p n T =
+    asked p T (cond (portOk n && crossed p (n - 1)) (result (slack p (n - 1) T)) (refusal 24 (0 ∷ [])))
+
+-- a search for a duration from 1 to top: 20, then 11, then the refusal of this number where there is none
+abbrev pub searched : ℕ → Plan → ℕ → List ℕ → Answer ℕ
+searched number p found scratch =
+    cond (wellFormed p)
+    (cond (leb portSlots (length scratch))
+    (cond (leb found (p .top)) (result found) (failingAt number p (p .top)))
+    (refusal 11 (0 ∷ [])))
+    (refusal 20 (0 ∷ []))
+
+-- what it leaves in the scratch: each port's demand at the duration found, or at top; the rest as it was
+abbrev pub searchLeaves : Plan → ℕ → List ℕ → List ℕ
+searchLeaves p found scratch =
+    cond (wellFormed p && leb portSlots (length scratch))
+    (tabulate portSlots (λ q. demand p q (cond (leb found (p .top)) found (p .top))) ++ drop portSlots scratch)
+    scratch
+
+unfoldable pub leastAnswer : Plan → List ℕ → Answer ℕ
+unfolding least failing lowestFailing wellFormed
+leastAnswer p scratch = searched 22 p (least p) scratch
+
+unfoldable pub leastLeaves : Plan → List ℕ → List ℕ
+unfolding least demand wellFormed tabulate
+leastLeaves p scratch = searchLeaves p (least p) scratch
+
+unfoldable pub marginSafeAnswer : Plan → List ℕ → Answer ℕ
+unfolding marginSafe failing lowestFailing wellFormed
+marginSafeAnswer p scratch = searched 23 p (marginSafe p) scratch
+
+unfoldable pub marginSafeLeaves : Plan → List ℕ → List ℕ
+unfolding marginSafe demand wellFormed tabulate
+marginSafeLeaves p scratch = searchLeaves p (marginSafe p) scratch

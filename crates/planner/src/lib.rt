@@ -1,0 +1,48 @@
+// The cycle planner: the held plan, the load, and the questions.
+use plan::Fault;
+
+// The held plan: port n in slot n - 1, flow n in slot n - 1, a flow's route at its slot times 16. An absent port has rate 0,
+// an absent flow period 0; top is 0 where no plan is held.
+pub struct Planner {
+    pub guard: u32,
+    pub top: u32,
+    pub rates: [u32; 64],
+    pub blockings: [u16; 64],
+    pub periods: [u32; 256],
+    pub counts: [u16; 256],
+    pub lengths: [u16; 256],
+    pub hops: [u8; 256],
+    pub routes: [u8; 4096],
+}
+
+pub enum LoadAnswer {
+    Held { ports: u16, flows: u16 },
+    Refused { fault: Fault, offset: usize },
+}
+
+// A load's answer beside the planner that it leaves.
+pub struct LoadOutcome {
+    pub planner: Planner,
+    pub answer: LoadAnswer,
+}
+
+pub enum CheckAnswer {
+    Admissible,
+    NoPlan,
+    BadDuration,
+    Failing { port: u32, count: u32 },
+}
+
+pub enum SlackAnswer {
+    Slack(i64),
+    NoPlan,
+    BadDuration,
+    NotCrossed,
+}
+
+pub enum SearchAnswer {
+    Duration(u64),
+    NoPlan,
+    ShortScratch,
+    Failing { port: u32, count: u32 },
+}
