@@ -21,11 +21,13 @@ unfoldable pub tabulate : ℕ → (ℕ → ℕ) → List ℕ
 tabulate zero g = []
 tabulate (suc n) g = g zero ∷ tabulate n (λ i. g (suc i))
 
+-- it has n numbers
 tabulate-length : (n : ℕ) (g : ℕ → ℕ) → length (tabulate n g) ≡ n
 unfolding tabulate
 tabulate-length zero g = refl
 tabulate-length (suc n) g = ap suc (tabulate-length n (λ i. g (suc i)))
 
+-- number k of it is g k
 tabulate-at : (n : ℕ) (g : ℕ → ℕ) (k : ℕ) → k < n → getD (tabulate n g) k 0 ≡ g k
 unfolding tabulate
 tabulate-at zero g k l = absurd (not-suc-le-zero l)
@@ -44,6 +46,7 @@ unfoldable pub burst : (T c count period : ℕ) → List ℕ
 unfolding tabulate ceilDiv
 burst T c count period = tabulate (count * ceilDiv T period) (λ k. c * T + k / count * period)
 
+-- as many frames as the condition counts
 pub burst-length : (T c count period : ℕ) → length (burst T c count period) ≡ count * ceilDiv T period
 unfolding burst
 burst-length T c count period = tabulate-length _ _
