@@ -1,0 +1,4 @@
+-- Laws of the definitions.
+pub mod Ceil
+pub mod Arrivals
+pub mod Burst
