@@ -11,28 +11,11 @@ use lib.ListN.{length, getD, length-map}
 use lib.Arith.{digits-div}
 use lib.Dec.{eqb}
 use borrow.Author.Tests.{eq-eqb}
-use Rattle.cqf.specs.Bounded.{countTo}
+use Rattle.cqf.specs.Bounded.{countTo, tabulate}
 use Rattle.cqf.specs.Condition.{ceilDiv}
 use Rattle.cqf.specs.laws.Ceil.{ceil-before}
+use Rattle.cqf.specs.laws.Tabulate.{tabulate-length, tabulate-at}
 use Rattle.cqf.specs.laws.Arrivals.{cycle-of}
-
--- g 0, .., g (n - 1)
-unfoldable pub tabulate : ℕ → (ℕ → ℕ) → List ℕ
-tabulate zero g = []
-tabulate (suc n) g = g zero ∷ tabulate n (λ i. g (suc i))
-
--- it has n numbers
-tabulate-length : (n : ℕ) (g : ℕ → ℕ) → length (tabulate n g) ≡ n
-unfolding tabulate
-tabulate-length zero g = refl
-tabulate-length (suc n) g = ap suc (tabulate-length n (λ i. g (suc i)))
-
--- number k of it is g k
-tabulate-at : (n : ℕ) (g : ℕ → ℕ) (k : ℕ) → k < n → getD (tabulate n g) k 0 ≡ g k
-unfolding tabulate
-tabulate-at zero g k l = absurd (not-suc-le-zero l)
-tabulate-at (suc n) g zero l = refl
-tabulate-at (suc n) g (suc k) l = tabulate-at n (λ i. g (suc i)) k (le-of-suc-le-suc l)
 
 -- where every number below n passes, n of them do
 pub count-all : (b : ℕ → Bool) (n : ℕ) → ((i : ℕ) → i < n → b i ≡ true) → countTo n b ≡ n
