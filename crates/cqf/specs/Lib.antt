@@ -7,3 +7,4 @@ pub mod Emission
 pub mod Run
 pub mod LargeEnough
 pub mod Worked
+pub mod laws

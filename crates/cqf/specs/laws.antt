@@ -1,0 +1,3 @@
+-- Laws of the definitions, one file a subject.
+pub mod Bounded
+pub mod Lists
