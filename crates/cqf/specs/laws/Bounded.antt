@@ -19,6 +19,11 @@ and-right false b e = let z : b ≡ true = cc in z
 pub and-both : (a b : Bool) → a ≡ true → b ≡ true → a && b ≡ true
 and-both a b e d = rw (e, d)
 
+-- a disjunction that holds, by the part that does
+pub or-cases : {C : Type 0} (a b : Bool) → a || b ≡ true → (a ≡ true → C) → (b ≡ true → C) → C
+or-cases true b e left right = left refl
+or-cases false b e left right = right e
+
 -- a property of the numbers below n + 1: of those below n, and of n
 below : (P : ℕ → Type 0) (n : ℕ) → ((i : ℕ) → i < n → P i) → P n → (i : ℕ) → i < suc n → P i
 below P n h last i l = go (ℕ-discrete i n)
