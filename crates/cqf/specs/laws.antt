@@ -1,5 +1,8 @@
--- Laws of the definitions, one file a subject.
+-- Laws of the definitions, one subject a file.
 pub mod Bounded
 pub mod Lists
 pub mod Formed
+pub mod Ceil
+pub mod Arrivals
+pub mod Burst
 pub mod Places

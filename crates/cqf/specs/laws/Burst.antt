@@ -1,0 +1,110 @@
+-- The emission of one flow that reaches the bound of its frames in cycle c: the first count frames at the cycle's start, and
+-- count more after each period.
+use mathlib.Core.Path.{_≡_, refl, ap, _∙_}
+use mathlib.Core.List.{List, [], _∷_, map}
+use Prim.Native.Nat.{ℕ, zero, suc, _+_, _*_, _/_, _≤_, _<_}
+use native.Mathlib.Nat.{le-of-suc-le-suc, not-suc-le-zero, mul-comm, suc-mul, mul-le-mul-right, add-div-right, div-mul-le-self, le-div-iff-mul-le, div-lt-iff-lt-mul}
+use native.Mathlib.Numerals.{add-one}
+use native.Mathlib.Omega.{arith}
+use lib.ListN.{length, getD, length-map}
+use lib.Arith.{digits-div}
+use lib.Dec.{eqb}
+use borrow.Author.Tests.{eq-eqb}
+use Rattle.cqf.specs.Bounded.{countTo}
+use Rattle.cqf.specs.Condition.{ceilDiv}
+use Rattle.cqf.specs.laws.Bounded.{countTo-all}
+use Rattle.cqf.specs.laws.Ceil.{ceil-before}
+use Rattle.cqf.specs.laws.Arrivals.{cycle-of}
+
+-- g 0, .., g (n - 1)
+unfoldable pub tabulate : ℕ → (ℕ → ℕ) → List ℕ
+tabulate zero g = []
+tabulate (suc n) g = g zero ∷ tabulate n (λ i. g (suc i))
+
+-- it has n numbers
+tabulate-length : (n : ℕ) (g : ℕ → ℕ) → length (tabulate n g) ≡ n
+unfolding tabulate
+tabulate-length zero g = refl
+tabulate-length (suc n) g = ap suc (tabulate-length n (λ i. g (suc i)))
+
+-- number k of it is g k
+tabulate-at : (n : ℕ) (g : ℕ → ℕ) (k : ℕ) → k < n → getD (tabulate n g) k 0 ≡ g k
+unfolding tabulate
+tabulate-at zero g k l = absurd (not-suc-le-zero l)
+tabulate-at (suc n) g zero l = refl
+tabulate-at (suc n) g (suc k) l = tabulate-at n (λ i. g (suc i)) k (le-of-suc-le-suc l)
+
+-- the instants of the burst in cycle c of duration T
+unfoldable pub burst : (T c count period : ℕ) → List ℕ
+unfolding tabulate ceilDiv
+burst T c count period = tabulate (count * ceilDiv T period) (λ k. c * T + k / count * period)
+
+-- as many frames as the condition counts
+pub burst-length : (T c count period : ℕ) → length (burst T c count period) ≡ count * ceilDiv T period
+unfolding burst
+burst-length T c count period = tabulate-length _ _
+
+-- the instant of frame k
+pub burst-at
+    : (T c count period k : ℕ)
+    → k < length (burst T c count period)
+    → getD (burst T c count period) k 0 ≡ c * T + k / count * period
+unfolding burst
+burst-at T c count period k l = tabulate-at _ _ k (rw tabulate-length at l)
+
+module _ (T c count period : ℕ) (long : 0 < T) (some : 0 < count) (apart : 0 < period) where
+  -- every frame is emitted in cycle c
+  pub burst-cycle
+      : (k : ℕ)
+      → k < length (burst T c count period)
+      → getD (burst T c count period) k 0 / T ≡ c
+  burst-cycle k l =
+      let l′ : k < ceilDiv T period * count = omega (arith, burst-length T c count period, mul-comm count (ceilDiv T period)) in
+      let early : k / count * period < T = ceil-before T (k / count) apart (div-lt-iff-lt-mul some .1 l′) in
+      rw (burst-at T c count period k l) (digits-div c early)
+
+  -- instants never fall
+  pub burst-rising
+      : (k : ℕ)
+      → suc k < length (burst T c count period)
+      → getD (burst T c count period) k 0 ≤ getD (burst T c count period) (suc k) 0
+  burst-rising k l =
+      let up : k / count ≤ suc k / count = le-div-iff-mul-le some .1 (omega (arith, div-mul-le-self k count)) in
+      omega (
+        arith,
+        burst-at T c count period k (omega arith),
+        burst-at T c count period (suc k) l,
+        mul-le-mul-right period up,
+      )
+
+  -- frame k + count comes one period after frame k
+  pub burst-spaced
+      : (k : ℕ)
+      → k + count < length (burst T c count period)
+      → getD (burst T c count period) k 0 + period ≤ getD (burst T c count period) (k + count) 0
+  burst-spaced k l =
+      let up : (k + count) / count ≡ suc (k / count) = add-div-right k some ∙ add-one _ in
+      omega (
+        arith,
+        burst-at T c count period k (omega arith),
+        burst-at T c count period (k + count) l,
+        ap (λ (x : ℕ). x * period) up,
+        suc-mul (k / count) period,
+      )
+
+  -- the same of its cycles: each is c
+  pub burst-cycles
+      : (k : ℕ)
+      → k < length (map (λ (t : ℕ). t / T) (burst T c count period))
+      → getD (map (λ (t : ℕ). t / T) (burst T c count period)) k 0 ≡ c
+  burst-cycles k l = cycle-of T (burst T c count period) k ∙ burst-cycle k (rw length-map at l)
+
+  -- so the cycle receives the frames of the condition
+  pub burst-count
+      : countTo (length (map (λ (t : ℕ). t / T) (burst T c count period)))
+      (λ k. eqb (getD (map (λ (t : ℕ). t / T) (burst T c count period)) k 0) c)
+      ≡ count * ceilDiv T period
+  burst-count =
+      countTo-all _ _ (λ i l. eq-eqb _ _ (burst-cycles i l))
+      ∙ length-map (burst T c count period) (λ (t : ℕ). t / T)
+      ∙ burst-length T c count period
