@@ -6,3 +6,4 @@ pub mod Ceil
 pub mod Arrivals
 pub mod Burst
 pub mod Places
+pub mod Sending

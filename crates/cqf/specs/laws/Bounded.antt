@@ -24,6 +24,11 @@ pub or-cases : {C : Type 0} (a b : Bool) → a || b ≡ true → (a ≡ true →
 or-cases true b e left right = left refl
 or-cases false b e left right = right e
 
+-- a test that does not pass fails
+pub not-true-false : (a : Bool) → (a ≡ true → ⊥) → a ≡ false
+not-true-false true h = absurd (h refl)
+not-true-false false h = refl
+
 -- a property of the numbers below n + 1: of those below n, and of n
 below : (P : ℕ → Type 0) (n : ℕ) → ((i : ℕ) → i < n → P i) → P n → (i : ℕ) → i < suc n → P i
 below P n h last i l = go (ℕ-discrete i n)
