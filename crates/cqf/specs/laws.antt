@@ -7,3 +7,4 @@ pub mod Arrivals
 pub mod Burst
 pub mod Places
 pub mod Sending
+pub mod Accepted

@@ -44,6 +44,18 @@ demand-crossed p q T l =
     some true n h = refl
     some false n h = absurd (not-suc-le-zero h)
 
+-- a port that does not fail leaves nothing unsent of bits up to its demand
+pub no-overrun : (p : Plan) (T q bits : ℕ) → fails p T q ≡ false → bits ≤ demand p q T → overrunAt p T bits q ≡ false
+unfolding overrunAt
+no-overrun p T q bits sound l = go (ltb 0 bits) refl
+  where
+    fits : (x : Bool) → x ≡ true → x && ltb (capacity p q T) (workload p q (demand p q T)) ≡ false → ltb (capacity p q T) (workload p q bits) ≡ false
+    fits true h e = le-ltb _ _ (le-trans (workload-mono p q l) (ltb-false _ _ e))
+    fits false h e = absurd (false≢true h)
+    go : (x : Bool) → ltb 0 bits ≡ x → x && ltb (capacity p q T) (workload p q bits) ≡ false
+    go true h = let some = ltb-true 0 bits h in fits (crossed p q) (demand-crossed p q T (omega arith)) (unfold fails in sound)
+    go false h = refl
+
 module _ (p : Plan) (T : ℕ) (cycles : Cycles) (c : ℕ) (places : Places) (goes : run p T cycles c ≡ running places) where
   -- where port q stands at i on the route, what flow f has queued there was emitted i + 1 cycles before, and all of it is
   pub queued-emitted
