@@ -9,3 +9,6 @@ pub mod Burst
 pub mod Places
 pub mod Sending
 pub mod Accepted
+pub mod Monotone
+pub mod Need
+pub mod Smallest
