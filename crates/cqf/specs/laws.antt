@@ -8,3 +8,4 @@ pub mod Burst
 pub mod Places
 pub mod Sending
 pub mod Accepted
+pub mod Refused

@@ -14,7 +14,7 @@ use Rattle.cqf.specs.Emission.{Emission, Keeps, Cycles, cyclesOf}
 use Rattle.cqf.specs.Run.{Places, source, isGone, running, run, overrun, overrunAt, queuedBits, Leaves}
 use Rattle.cqf.specs.LargeEnough.{OnTime}
 use Rattle.cqf.specs.laws.Bounded.{countTo-zero, anyTo-none}
-use Rattle.cqf.specs.laws.Formed.{Held, present-held}
+use Rattle.cqf.specs.laws.Formed.{Held, held-period, present-held}
 use Rattle.cqf.specs.laws.Arrivals.{at-most, cycle-of}
 use Rattle.cqf.specs.laws.Places.{track, moved, run-goes, run-track, track-there, track-gone}
 use Rattle.cqf.specs.laws.Sending.{emittedIn, bits-most, no-overrun}
@@ -45,7 +45,7 @@ module _ (p : Plan) (formed : wellFormed p ≡ true) (T : ℕ) (long : 0 < T) wh
     few : (f own : ℕ) → emittedIn (cyclesOf T e) f own ≤ frames p f T
     few f own =
         at-most p e keeps f T own
-        (λ h. let flow = present-held p formed f h in (flow .count-least, omega (arith, flow .period-least)))
+        (λ h. let flow = present-held p formed f h in (flow .count-least, held-period p f flow))
         long
 
     -- no port leaves a frame unsent

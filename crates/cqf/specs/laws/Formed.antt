@@ -34,6 +34,9 @@ pub record Held (p : Plan) (f : ℕ) : Type 0 where
   pub in-plan : every (portIn (p .rates)) (routeOf p f) ≡ true
   pub once : distinct (routeOf p f) ≡ true
 
+pub held-period : (p : Plan) (f : ℕ) → Held p f → 0 < periodOf p f
+held-period p f flow = omega (arith, flow .period-least)
+
 -- the two tests of a slot, either of which makes it sound
 abbrev emptyTest : Plan → ℕ → Bool
 emptyTest p f = eqb (periodOf p f) 0 && eqb (countOf p f) 0 && eqb (lengthOf p f) 0 && eqb (hopsOf p f) 0
@@ -113,4 +116,4 @@ module _ (p : Plan) (formed : wellFormed p ≡ true) where
 
 -- a slot that holds a flow is one of a flow that is present
 pub held-present : (p : Plan) (f : ℕ) → f < flowSlots → Held p f → present p f ≡ true
-held-present p f l e = rw (lt-ltb f flowSlots l, lt-ltb 0 (periodOf p f) (omega (arith, e .period-least)))
+held-present p f l e = rw (lt-ltb f flowSlots l, lt-ltb 0 (periodOf p f) (held-period p f e))
