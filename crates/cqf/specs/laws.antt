@@ -5,6 +5,7 @@ pub mod Formed
 pub mod Ceil
 pub mod Arrivals
 pub mod Burst
+pub mod Condition
 pub mod Places
 pub mod Sending
 pub mod Accepted

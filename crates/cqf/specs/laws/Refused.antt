@@ -1,76 +1,29 @@
 -- At a duration at which a port fails, an emission that keeps every contract and leaves a frame unsent: each flow that crosses
 -- the port emits all it may in one cycle, chosen so that all of it is queued at that port in one later cycle.
-use mathlib.Core.Path.{_≡_, refl, sym, ap, _∙_}
-use mathlib.Core.Bool.{Bool, true, false, cond, _&&_, false≢true, true≢false, and-eq-true-iff}
+use mathlib.Core.Path.{_≡_, refl, sym}
+use mathlib.Core.Bool.{Bool, true, false, cond, _&&_, and-eq-true-iff}
 use mathlib.Core.List.{List, []}
-use Prim.Native.Nat.{ℕ, zero, suc, _+_, _-_, _*_, _/_, _≤_, _<_, zero-le}
-use native.Mathlib.Nat.{mul-pos, not-suc-le-zero, le-trans, le-of-eq}
+use Prim.Native.Nat.{ℕ, suc, _+_, _-_, _*_, _≤_, _<_}
+use native.Mathlib.Nat.{not-suc-le-zero, le-trans, le-of-eq}
 use native.Mathlib.Decide.{decLt}
 use native.Mathlib.Omega.{arith}
 use lib.ListN.{length, getD}
-use lib.Dec.{eqb, ltb}
-use borrow.Author.Tests.{eq-eqb, eqb-true, eqb-false, ltb-true, lt-ltb}
-use Rattle.cqf.specs.Bounded.{sumTo, countTo, anyTo, lowest}
+use lib.Dec.{eqb}
+use borrow.Author.Tests.{eqb-true, eqb-false}
+use Rattle.cqf.specs.Bounded.{lowest}
 use Rattle.cqf.specs.Limits.{portSlots, flowSlots, maxHops}
 use Rattle.cqf.specs.Plan.{Plan, periodOf, countOf, hopsOf, routeOf, present, crosses, wellFormed}
-use Rattle.cqf.specs.Condition.{bitsOf, wireBits, ceilDiv, frames, demand, capacity, workload, crossed, fails, failing, admissible}
+use Rattle.cqf.specs.Condition.{frames, fails, admissible}
 use Rattle.cqf.specs.Emission.{Emission, Keeps, cyclesOf}
 use Rattle.cqf.specs.Run.{Places, Network, running, stopped, run, overrun, overrunAt, queuedBits, Overruns}
 use Rattle.cqf.specs.LargeEnough.{Counterexample}
-use Rattle.cqf.specs.laws.Bounded.{and-left, and-right, and-both, countTo-pos, sumTo-term, anyTo-true, anyTo-some, lowest-le, lowest-passes, lowest-below}
+use Rattle.cqf.specs.laws.Bounded.{anyTo-some, lowest-passes, lowest-below}
 use Rattle.cqf.specs.laws.Lists.{elem-index, row-length}
 use Rattle.cqf.specs.laws.Formed.{Held, held-period, present-held, crosses-held, held-present}
-use Rattle.cqf.specs.laws.Ceil.{ceil-positive}
 use Rattle.cqf.specs.laws.Burst.{burst, burst-rising, burst-spaced, burst-count}
+use Rattle.cqf.specs.laws.Condition.{some-fails, overrun-at}
 use Rattle.cqf.specs.laws.Places.{run-stops}
-use Rattle.cqf.specs.laws.Sending.{emittedIn, queuedOf, workload-mono, emitted-queued, bits-least}
-
--- a number that is not 0 is above it
-above-zero : (n : ℕ) → eqb n 0 ≡ false → 0 < n
-above-zero n h = let e : ¬ (n ≡ 0) = eqb-false n 0 h in omega arith
-
--- some port fails at a duration that is not admissible
-pub some-fails : (p : Plan) (T : ℕ) → admissible p T ≡ false → (q : ℕ) × (q < portSlots) × (fails p T q ≡ true)
-unfolding admissible failing
-some-fails p T bad = countTo-pos portSlots (fails p T) (above-zero (countTo portSlots (fails p T)) bad)
-
--- a frame has bits on the wire, a flow has frames, and so a crossed port has a demand
-pub wireBits-pos : (p : Plan) (f q : ℕ) → 0 < wireBits p f q
-unfolding wireBits bitsOf
-wireBits-pos p f q = omega arith
-
-pub frames-pos : (p : Plan) (f : ℕ) {T : ℕ} → Held p f → 0 < T → 0 < frames p f T
-unfolding frames
-frames-pos p f flow long =
-    mul-pos (flow .count-least) (ceil-positive long (held-period p f flow))
-
-pub demand-pos : (p : Plan) (q T : ℕ) → wellFormed p ≡ true → 0 < T → crossed p q ≡ true → 0 < demand p q T
-unfolding demand crossed
-demand-pos p q T formed long h =
-    let s = anyTo-true flowSlots (λ f. crosses p f q) h in
-    let term = sumTo-term flowSlots (λ f. cond (crosses p f q) (frames p f T * wireBits p f q) 0) (s .0) (s .1) in
-    le-trans
-    (mul-pos (frames-pos p (s .0) (crosses-held p formed (s .0) q (s .1) (s .2)) long) (wireBits-pos p (s .0) q))
-    (rw (s .2) at term)
-
--- a port that fails leaves a frame unsent of bits from its demand up
-overrun-at
-    : (p : Plan) (q T : ℕ)
-    → wellFormed p ≡ true
-    → 0 < T
-    → (bits : ℕ)
-    → fails p T q ≡ true
-    → demand p q T ≤ bits
-    → overrunAt p T bits q ≡ true
-unfolding overrunAt fails
-overrun-at p q T formed long bits failed l =
-    let crossing = and-left (crossed p q) (ltb (capacity p q T) (workload p q (demand p q T))) failed in
-    let over = ltb-true _ _ (and-right (crossed p q) (ltb (capacity p q T) (workload p q (demand p q T))) failed) in
-    and-both
-    (ltb 0 bits)
-    (ltb (capacity p q T) (workload p q bits))
-    (lt-ltb _ _ (le-trans (demand-pos p q T formed long crossing) l))
-    (lt-ltb _ _ (le-trans over (workload-mono p q l)))
+use Rattle.cqf.specs.laws.Sending.{emittedIn, queuedOf, emitted-queued, bits-least}
 
 -- where the port in slot q stands on the route of flow f
 hop : Plan → ℕ → ℕ → ℕ
@@ -82,6 +35,7 @@ hop-at p q f h = go (decLt (hop p q f) (length (routeOf p f)))
   where
     test : ℕ → Bool
     test i = eqb (getD (routeOf p f) i 0) (suc q)
+
     go
         : Dec (hop p q f < length (routeOf p f))
         → (hop p q f < length (routeOf p f)) × (getD (routeOf p f) (hop p q f) 0 ≡ suc q)
@@ -107,7 +61,7 @@ module _ (p : Plan) (formed : wellFormed p ≡ true) (T : ℕ) (long : 0 < T) (q
   worst-cases P f none some = go (present p f && crosses p f q) refl
     where
       go : (x : Bool) → present p f && crosses p f q ≡ x → P (cond x (burst T (maxHops - hop p q f) (countOf p f) (periodOf p f)) [])
-      go true h = some (present-held p formed f (and-left (present p f) (crosses p f q) h))
+      go true h = some (present-held p formed f (and-eq-true-iff (present p f) (crosses p f q) .0 h .0))
       go false h = none
 
   -- it keeps every contract
