@@ -6,9 +6,11 @@ pub mod Tabulate
 pub mod Ceil
 pub mod Arrivals
 pub mod Burst
+pub mod Condition
 pub mod Places
 pub mod Sending
 pub mod Accepted
+pub mod Refused
 pub mod Monotone
 pub mod Need
 pub mod Smallest

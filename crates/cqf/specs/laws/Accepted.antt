@@ -1,28 +1,22 @@
 -- At an admissible duration the run of an emission that keeps every contract never stops, and each frame is on time.
 use mathlib.Core.Path.{_≡_, refl, sym, ap, _∙_}
-use mathlib.Core.Bool.{Bool, true, false, false≢true, true≢false}
+use mathlib.Core.Bool.{true, false, true≢false}
 use Prim.Native.Nat.{ℕ, zero, suc, _+_, _*_, _/_, _%_, _≤_, _<_}
 use native.Mathlib.Nat.{div-add-mod', mod-lt, add-mul, suc-mul}
 use native.Mathlib.Omega.{arith}
 use lib.ListN.{length, getD}
-use borrow.Author.Tests.{eqb-true}
-use Rattle.cqf.specs.Bounded.{countTo, anyTo}
 use Rattle.cqf.specs.Limits.{portSlots}
 use Rattle.cqf.specs.Plan.{Plan, routeOf, wellFormed}
-use Rattle.cqf.specs.Condition.{frames, fails, failing, admissible}
-use Rattle.cqf.specs.Emission.{Emission, Keeps, Cycles, cyclesOf}
+use Rattle.cqf.specs.Condition.{frames, admissible}
+use Rattle.cqf.specs.Emission.{Emission, Keeps, cyclesOf}
 use Rattle.cqf.specs.Run.{Places, source, isGone, running, run, overrun, overrunAt, queuedBits, Leaves}
 use Rattle.cqf.specs.LargeEnough.{OnTime}
-use Rattle.cqf.specs.laws.Bounded.{countTo-zero, anyTo-none}
-use Rattle.cqf.specs.laws.Formed.{Held, present-held}
+use Rattle.cqf.specs.laws.Bounded.{anyTo-none}
+use Rattle.cqf.specs.laws.Formed.{held-period, present-held}
 use Rattle.cqf.specs.laws.Arrivals.{at-most, cycle-of}
 use Rattle.cqf.specs.laws.Places.{track, moved, run-goes, run-track, track-there, track-gone}
-use Rattle.cqf.specs.laws.Sending.{emittedIn, bits-most, no-overrun}
-
--- no port fails at an admissible duration
-pub none-fails : (p : Plan) (T : ℕ) → admissible p T ≡ true → (q : ℕ) → q < portSlots → fails p T q ≡ false
-unfolding admissible failing
-none-fails p T good = countTo-zero portSlots (fails p T) (eqb-true _ _ good)
+use Rattle.cqf.specs.laws.Condition.{none-fails, no-overrun}
+use Rattle.cqf.specs.laws.Sending.{emittedIn, bits-most}
 
 -- the delay of a frame that leaves h cycles after its own lies within one cycle of h cycles
 delay
@@ -45,7 +39,7 @@ module _ (p : Plan) (formed : wellFormed p ≡ true) (T : ℕ) (long : 0 < T) wh
     few : (f own : ℕ) → emittedIn (cyclesOf T e) f own ≤ frames p f T
     few f own =
         at-most p e keeps f T own
-        (λ h. let flow = present-held p formed f h in (flow .count-least, omega (arith, flow .period-least)))
+        (λ h. let flow = present-held p formed f h in (flow .count-least, held-period p f flow))
         long
 
     -- no port leaves a frame unsent
@@ -98,6 +92,7 @@ module _ (p : Plan) (formed : wellFormed p ≡ true) (T : ℕ) (long : 0 < T) wh
         where
           early : ¬ (own + length (routeOf p f) < c)
           early h = true≢false (sym (track-gone own (routeOf p f) c h) ∙ ap isGone (sym (place c (l .before) (l .starts))) ∙ l .there)
+
           late : ¬ (c < own + length (routeOf p f))
           late h =
               true≢false

@@ -1,18 +1,15 @@
 -- What a well-formed plan gives of each of its slots.
-use mathlib.Core.Path.{_≡_, refl, sym, ap, _∙_}
+use mathlib.Core.Path.{_≡_}
 use mathlib.Core.Logic.{_⊎_, inl, inr}
-use mathlib.Core.Bool.{Bool, true, false, _&&_, _||_, false≢true, true≢false, and-eq-true-iff}
-use mathlib.Core.List.{List, [], _∷_}
-use Prim.Native.Nat.{ℕ, zero, suc, _*_, _≤_, _<_}
+use mathlib.Core.Bool.{Bool, true, _&&_, false≢true, and-eq-true-iff}
+use Prim.Native.Nat.{ℕ, _≤_, _<_}
 use native.Mathlib.Omega.{arith}
-use lib.ListN.{length}
-use lib.Dec.{ltb, eqb}
+use lib.Dec.{eqb}
 use borrow.Author.Tests.{eqb-true, ltb-true, leb-true, lt-ltb}
 use Rattle.cqf.specs.Bounded.{elem, distinct, every, row}
 use Rattle.cqf.specs.Limits.{portSlots, flowSlots, maxHops, periodOk, countOk, lengthOk, hopsOk}
-use Rattle.cqf.specs.Plan.{Plan, rateOf, blockingOf, periodOf, countOf, lengthOf, hopsOf, routeOf, present, crosses, portIn, portSound, flowSound, wellFormed}
+use Rattle.cqf.specs.Plan.{Plan, periodOf, countOf, lengthOf, hopsOf, routeOf, present, crosses, portIn, portSound, flowSound, wellFormed}
 use Rattle.cqf.specs.laws.Bounded.{or-cases, allTo-at}
-use Rattle.cqf.specs.laws.Lists.{row-length}
 
 -- a slot without a flow
 pub record Empty (p : Plan) (f : ℕ) : Type 0 where
@@ -33,6 +30,9 @@ pub record Held (p : Plan) (f : ℕ) : Type 0 where
   pub hops-most : hopsOf p f ≤ maxHops
   pub in-plan : every (portIn (p .rates)) (routeOf p f) ≡ true
   pub once : distinct (routeOf p f) ≡ true
+
+pub held-period : (p : Plan) (f : ℕ) → Held p f → 0 < periodOf p f
+held-period p f flow = omega (arith, flow .period-least)
 
 -- the two tests of a slot, either of which makes it sound
 abbrev emptyTest : Plan → ℕ → Bool
@@ -113,4 +113,4 @@ module _ (p : Plan) (formed : wellFormed p ≡ true) where
 
 -- a slot that holds a flow is one of a flow that is present
 pub held-present : (p : Plan) (f : ℕ) → f < flowSlots → Held p f → present p f ≡ true
-held-present p f l e = rw (lt-ltb f flowSlots l, lt-ltb 0 (periodOf p f) (omega (arith, e .period-least)))
+held-present p f l e = rw (lt-ltb f flowSlots l, lt-ltb 0 (periodOf p f) (held-period p f e))

@@ -1,18 +1,19 @@
 -- The duration that a port needs for the bits of its demand, and what it says of the durations around it.
 use mathlib.Core.Path.{_≡_, sym, _∙_}
-use mathlib.Core.Bool.{true, false, false≢true}
+use mathlib.Core.Bool.{true, false, false≢true, and-eq-true-iff}
+use mathlib.Mathlib.Data.Bool.Basic.{eq-false-of-not-eq-true}
 use Prim.Native.Nat.{ℕ, _+_, _-_, _*_, _≤_, _<_}
 use native.Mathlib.Nat.{mul-comm, mul-le-mul-right, le-trans}
 use native.Mathlib.Decide.{decLt}
 use native.Mathlib.Omega.{arith}
-use borrow.Author.Tests.{eqb-true, eq-eqb, ltb-true, lt-ltb}
+use borrow.Author.Tests.{eq-eqb, ltb-true, lt-ltb}
 use Rattle.cqf.specs.Limits.{portSlots}
 use Rattle.cqf.specs.Plan.{Plan, rateOf}
 use Rattle.cqf.specs.Condition.{ceilDiv, demand, window, capacity, workload, crossed, fails, failing, admissible}
-use Rattle.cqf.specs.laws.Bounded.{and-left, and-right, and-both, not-true-false, countTo-none, countTo-zero}
+use Rattle.cqf.specs.laws.Bounded.{countTo-none}
 use Rattle.cqf.specs.laws.Ceil.{ceil-covers, ceil-least, ceil-positive}
+use Rattle.cqf.specs.laws.Condition.{workload-mono, none-fails}
 use Rattle.cqf.specs.laws.Monotone.{demand-mono}
-use Rattle.cqf.specs.laws.Sending.{workload-mono}
 
 -- the least duration in which the port in slot q can send so many bits, where it has any to send
 unfoldable pub needFor : Plan → ℕ → ℕ → ℕ
@@ -43,33 +44,29 @@ needed p q bits t h some l =
 -- a port fails exactly where it is crossed and has more to send than it can
 pub fails-over : (p : Plan) (T q : ℕ) → crossed p q ≡ true → capacity p q T < workload p q (demand p q T) → fails p T q ≡ true
 unfolding fails
-fails-over p T q c l = and-both _ _ c (lt-ltb _ _ l)
+fails-over p T q c l = and-eq-true-iff _ _ .1 (c, lt-ltb _ _ l)
 
 pub fails-crossed : (p : Plan) (T q : ℕ) → fails p T q ≡ true → crossed p q ≡ true
 unfolding fails
-fails-crossed p T q e = and-left _ _ e
+fails-crossed p T q e = and-eq-true-iff _ _ .0 e .0
 
 pub over-of-fails : (p : Plan) (T q : ℕ) → fails p T q ≡ true → capacity p q T < workload p q (demand p q T)
 unfolding fails
-over-of-fails p T q e = ltb-true _ _ (and-right (crossed p q) _ e)
+over-of-fails p T q e = ltb-true _ _ (and-eq-true-iff (crossed p q) _ .0 e .1)
 
 -- it does not fail where all of its demand fits, when it is crossed
 pub fails-not : (p : Plan) (T q : ℕ) → (crossed p q ≡ true → workload p q (demand p q T) ≤ capacity p q T) → fails p T q ≡ false
 fails-not p T q fits =
-    not-true-false (fails p T q) (λ e. omega (arith, fits (fails-crossed p T q e), over-of-fails p T q e))
+    eq-false-of-not-eq-true (λ e. omega (arith, fits (fails-crossed p T q e), over-of-fails p T q e))
 
 -- a duration is admissible exactly where no port fails
 pub admissible-none : (p : Plan) (T : ℕ) → ((q : ℕ) → q < portSlots → fails p T q ≡ false) → admissible p T ≡ true
 unfolding admissible failing
 admissible-none p T h = eq-eqb _ 0 (countTo-none portSlots (fails p T) h)
 
-pub admissible-at : (p : Plan) (T : ℕ) → admissible p T ≡ true → (q : ℕ) → q < portSlots → fails p T q ≡ false
-unfolding admissible failing
-admissible-at p T e = countTo-zero portSlots (fails p T) (eqb-true _ 0 e)
-
 pub not-admissible : (p : Plan) (T q : ℕ) → q < portSlots → fails p T q ≡ true → admissible p T ≡ false
 not-admissible p T q l e =
-    not-true-false (admissible p T) (λ a. false≢true (sym (admissible-at p T a q l) ∙ e))
+    eq-false-of-not-eq-true (λ a. false≢true (sym (none-fails p T a q l) ∙ e))
 
 -- up: where a port fails at T, it fails at each duration from T up to what it needs
 pub jump-up : (p : Plan) (T t q : ℕ) → 0 < rateOf p q → fails p T q ≡ true → T ≤ t → t < need p q T → fails p t q ≡ true

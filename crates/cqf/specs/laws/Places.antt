@@ -12,7 +12,7 @@ use lib.Dec.{eqb}
 use borrow.Author.Tests.{ne-eqb, eq-eqb, eqb-true}
 use Rattle.cqf.specs.Plan.{Plan, routeOf}
 use Rattle.cqf.specs.Emission.{Cycles}
-use Rattle.cqf.specs.Run.{Place, source, queued, gone, Places, handed, advance, isQueuedAt, isGone, Network, running, stopped, overrun, next, run}
+use Rattle.cqf.specs.Run.{Place, source, Places, handed, advance, isQueuedAt, isGone, Network, running, stopped, overrun, next, run}
 
 -- the places of a network, those of a start where it has stopped
 abbrev placesOf : Network → Places
@@ -149,6 +149,7 @@ module _ (p : Plan) (T : ℕ) (cycles : Cycles) where
           → after f k ≡ moved c before f k
       sent before true e f k = absurd (running≢stopped after (sym e))
       sent before false e f k = ap (λ (n : Network). placesOf n f k) (sym e)
+
       go
           : (n : Network)
           → run p T cycles c ≡ n

@@ -1,7 +1,8 @@
 -- The smallest duration that passes a test, the durations that are safe up to top, and the two answers built of them.
 use mathlib.Core.Path.{_≡_, refl, sym, ap, _∙_}
 use mathlib.Core.Logic.{_↔_}
-use mathlib.Core.Bool.{Bool, true, false, not, _&&_, false≢true, true≢false}
+use mathlib.Core.Bool.{Bool, true, false, not, _&&_, false≢true, true≢false, and-eq-true-iff}
+use mathlib.Mathlib.Data.Bool.Basic.{eq-false-of-not-eq-true}
 use Prim.Native.Nat.{ℕ, zero, suc, _≤_, _<_}
 use native.Mathlib.Nat.{le-refl, le-antisymm, not-suc-le-zero, le-of-suc-le-suc}
 use native.Mathlib.Decide.{decLt, decLe}
@@ -11,7 +12,7 @@ use borrow.Author.Tests.{le-leb, not-true, not-false, leb-true}
 use Rattle.cqf.specs.Bounded.{anyTo, lowest}
 use Rattle.cqf.specs.Plan.{Plan}
 use Rattle.cqf.specs.Condition.{admissible, safeFrom, smallest, least, marginSafe}
-use Rattle.cqf.specs.laws.Bounded.{and-left, and-right, and-both, not-true-false, anyTo-true, anyTo-some, lowest-le, lowest-passes, lowest-below}
+use Rattle.cqf.specs.laws.Bounded.{anyTo-true, anyTo-some, lowest-le, lowest-passes, lowest-below}
 
 module _ (good : ℕ → Bool) (top : ℕ) where
   -- it is from 1 to one above top; it passes where it is at most top; nothing below it does
@@ -60,7 +61,7 @@ module _ (good : ℕ → Bool) (top : ℕ) where
 -- a duration is safe exactly where each from it to top is admissible
 pub safe-every : (p : Plan) (T : ℕ) → ((t : ℕ) → T ≤ t → t ≤ p .top → admissible p t ≡ true) → safeFrom p T ≡ true
 unfolding safeFrom
-safe-every p T h = ap not (not-true-false (anyTo (suc (p .top)) bad) none)
+safe-every p T h = ap not (eq-false-of-not-eq-true none)
   where
     bad : ℕ → Bool
     bad t = leb T t && not (admissible p t)
@@ -68,9 +69,8 @@ safe-every p T h = ap not (not-true-false (anyTo (suc (p .top)) bad) none)
     none : anyTo (suc (p .top)) bad ≡ true → ⊥
     none e =
         let s = anyTo-true (suc (p .top)) bad e in
-        let from = leb-true T (s .0) (and-left _ _ (s .2)) in
-        let fails = not-true _ (and-right (leb T (s .0)) _ (s .2)) in
-        false≢true (sym fails ∙ h (s .0) from (omega (arith, s .1)))
+        let t = and-eq-true-iff (leb T (s .0)) _ .0 (s .2) in
+        false≢true (sym (not-true _ (t .1)) ∙ h (s .0) (leb-true T (s .0) (t .0)) (omega (arith, s .1)))
 
 pub safe-at : (p : Plan) (T t : ℕ) → safeFrom p T ≡ true → T ≤ t → t ≤ p .top → admissible p t ≡ true
 unfolding safeFrom
@@ -80,11 +80,11 @@ safe-at p T t e l m = go (admissible p t) refl
     go true a = refl
     go false a =
         absurd (true≢false
-        (sym (anyTo-some (suc (p .top)) (λ t. leb T t && not (admissible p t)) t (omega arith) (and-both _ _ (le-leb T t l) (ap not a)))
+        (sym (anyTo-some (suc (p .top)) (λ t. leb T t && not (admissible p t)) t (omega arith) (and-eq-true-iff _ _ .1 (le-leb T t l, ap not a)))
         ∙ not-true _ e))
 
 pub not-safe : (p : Plan) (T t : ℕ) → T ≤ t → t ≤ p .top → admissible p t ≡ false → safeFrom p T ≡ false
-not-safe p T t l m a = not-true-false (safeFrom p T) (λ e. false≢true (sym a ∙ safe-at p T t e l m))
+not-safe p T t l m a = eq-false-of-not-eq-true (λ e. false≢true (sym a ∙ safe-at p T t e l m))
 
 -- the two answers by the test that they are the smallest of
 pub least-of : (p : Plan) → least p ≡ smallest (admissible p) (p .top)
@@ -112,7 +112,7 @@ margin-safe-is p (suc T) h l safe edge =
 -- there is none exactly where top is not admissible
 pub margin-safe-none : (p : Plan) → 1 ≤ p .top → (marginSafe p ≡ suc (p .top)) ↔ (admissible p (p .top) ≡ false)
 margin-safe-none p h = (
-  (λ e. not-true-false (admissible p (p .top)) (λ a. false≢true (sym (unsafe e) ∙ safe-every p (p .top) (at-top a)))),
+  (λ e. eq-false-of-not-eq-true (λ a. false≢true (sym (unsafe e) ∙ safe-every p (p .top) (at-top a)))),
   λ a. margin-safe-of p ∙ smallest-none (safeFrom p) (p .top) (λ t _ l. not-safe p t (p .top) l (le-refl _) a),
 )
   where
