@@ -14,3 +14,4 @@ pub mod Refused
 pub mod Monotone
 pub mod Need
 pub mod Smallest
+pub mod Ranges

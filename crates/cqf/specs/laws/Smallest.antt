@@ -8,8 +8,8 @@ use native.Mathlib.Nat.{le-refl, le-antisymm, not-suc-le-zero, le-of-suc-le-suc}
 use native.Mathlib.Decide.{decLt, decLe}
 use native.Mathlib.Omega.{arith}
 use lib.Dec.{leb}
-use borrow.Author.Tests.{le-leb, not-true, not-false, leb-true}
-use Rattle.cqf.specs.Bounded.{anyTo, lowest}
+use borrow.Author.Tests.{le-leb, leb-true, not-true}
+use Rattle.cqf.specs.Bounded.{anyTo}
 use Rattle.cqf.specs.Plan.{Plan}
 use Rattle.cqf.specs.Condition.{admissible, safeFrom, smallest, least, marginSafe}
 use Rattle.cqf.specs.laws.Bounded.{anyTo-true, anyTo-some, lowest-le, lowest-passes, lowest-below}
