@@ -15,3 +15,4 @@ pub mod Monotone
 pub mod Need
 pub mod Smallest
 pub mod Ranges
+pub mod Search
