@@ -13,12 +13,28 @@ use Rattle.cqf.specs.Condition.{bitsOf, blockingBits, workload, crossed}
 use Rattle.cqf.specs.laws.Bounded.{or-cases, anyTo-true}
 use Rattle.cqf.specs.laws.Lists.{elem-index, every-at}
 use Rattle.cqf.specs.laws.Formed.{ports-sound, crosses-held}
-use Rattle.cqf.specs.laws.Ceil.{ceil-le-self}
-use Rattle.cqf.specs.laws.Need.{needFor}
 
 -- a port in the plan has a rate
 port-in : (rates : List ℕ) (q : ℕ) → portIn rates (suc q) ≡ true → 0 < getD rates q 0
 port-in rates q h = ltb-true _ _ (and-eq-true-iff (portOk (suc q)) (ltb 0 (getD rates q 0)) .0 h .1)
+
+-- the longest frame of another class has so few bits on the wire
+pub blocking-bits-most : (p : Plan) (q : ℕ) → blockingOf p q ≤ 2000 → blockingBits p q ≤ 16160
+unfolding blockingBits bitsOf
+blocking-bits-most p q l = bits (eqb (blockingOf p q) 0)
+  where
+    bits : (x : Bool) → cond x 0 (bitsOf (blockingOf p q)) ≤ 16160
+    bits true = zero-le
+    bits false = omega arith
+
+-- so the work of so many bits is far below 2 ^ 64
+pub workload-most
+    : (p : Plan) (q bits : ℕ)
+    → blockingOf p q ≤ 2000
+    → bits ≤ 100000000000000
+    → workload p q bits ≤ 1000 * 100000000016160
+unfolding workload
+workload-most p q bits l few = omega (arith, blocking-bits-most p q l)
 
 module _ (p : Plan) (formed : wellFormed p ≡ true) where
   pub top-positive : 1 ≤ p .top
@@ -59,15 +75,6 @@ module _ (p : Plan) (formed : wellFormed p ≡ true) where
           (λ e. omega (arith, eqb-true n 0 e))
           (λ e. leb-true _ _ (and-eq-true-iff (leb 64 n) (leb n 2000) .0 e .1))
 
-  -- the longest frame of another class has so few bits on the wire
-  pub blocking-bits-most : (q : ℕ) → q < portSlots → blockingBits p q ≤ 16160
-  unfolding blockingBits bitsOf
-  blocking-bits-most q l = bits (eqb (blockingOf p q) 0)
-    where
-      bits : (x : Bool) → cond x 0 (bitsOf (blockingOf p q)) ≤ 16160
-      bits true = zero-le
-      bits false = omega (arith, blocking-most q l)
-
   -- a port that a flow crosses is in the plan
   pub crossed-rate : (q : ℕ) → crossed p q ≡ true → 0 < rateOf p q
   unfolding crossed
@@ -77,13 +84,3 @@ module _ (p : Plan) (formed : wellFormed p ≡ true) where
       let at = elem-index (suc q) (routeOf p (s .0)) (s .2) in
       let port = every-at (portIn (p .rates)) (routeOf p (s .0)) (flow .in-plan) (at .0) (at .1) in
       port-in (p .rates) q (rw (at .2) at port)
-
-  -- so many bits are less work than a number of 64 bits holds a thousand times over, and need less than it as a duration
-  pub workload-most : (q bits : ℕ) → q < portSlots → bits ≤ 100000000000000 → workload p q bits ≤ 100000016160000 * 1000
-  unfolding workload
-  workload-most q bits l few = omega (arith, blocking-bits-most q l)
-
-  pub need-most : (q bits : ℕ) → q < portSlots → 0 < rateOf p q → bits ≤ 100000000000000 → needFor p q bits ≤ 100000016162000 * 1000
-  unfolding needFor
-  need-most q bits l some few =
-      omega (arith, guard-most, ceil-le-self (workload p q bits) some, workload-most q bits l few)
