@@ -24,6 +24,11 @@ needFor p q bits = 2 * p .guard + ceilDiv (workload p q bits) (rateOf p q)
 abbrev pub need : Plan → ℕ → ℕ → ℕ
 need p q T = needFor p q (demand p q T)
 
+-- bits to send are work to do
+pub workload-positive : (p : Plan) (q : ℕ) {bits : ℕ} → 0 < bits → 0 < workload p q bits
+unfolding workload
+workload-positive p q l = omega arith
+
 -- a duration is enough exactly where it is no shorter than what is needed
 pub enough : (p : Plan) (q bits t : ℕ) → 0 < rateOf p q → needFor p q bits ≤ t → workload p q bits ≤ capacity p q t
 unfolding needFor capacity window

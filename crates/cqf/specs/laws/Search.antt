@@ -7,9 +7,9 @@ use native.Mathlib.Decide.{decLt, decLe}
 use native.Mathlib.Omega.{arith}
 use Rattle.cqf.specs.Limits.{portSlots}
 use Rattle.cqf.specs.Plan.{Plan, rateOf, wellFormed}
-use Rattle.cqf.specs.Condition.{demand, fails, admissible, least, marginSafe}
+use Rattle.cqf.specs.Condition.{demand, capacity, workload, fails, admissible, least, marginSafe}
 use Rattle.cqf.specs.laws.Condition.{demand-pos, demand-crossed}
-use Rattle.cqf.specs.laws.Need.{need, enough, fails-crossed, fails-not, over-of-fails, admissible-none, not-admissible, jump-up, jump-down}
+use Rattle.cqf.specs.laws.Need.{need, workload-positive, enough, needed, fails-crossed, fails-over, over-of-fails, admissible-none, not-admissible, jump-up, jump-down}
 use Rattle.cqf.specs.laws.Smallest.{smallest-is, smallest-none, least-of, margin-safe-is, margin-safe-none}
 use Rattle.cqf.specs.laws.Ranges.{top-positive, crossed-rate}
 
@@ -26,10 +26,7 @@ pub record Descended (p : Plan) (t : ℕ) : Type 0 where
   pub safe : (u : ℕ) → t ≤ u → u ≤ p .top → admissible p u ≡ true
 
 module _ (p : Plan) (formed : wellFormed p ≡ true) where
-  -- a port without demand does not fail; one that fails has a demand and needs more than the duration
-  pub idle-port : (t q : ℕ) → 0 < t → demand p q t ≡ 0 → fails p t q ≡ false
-  idle-port t q long e = fails-not p t q (λ c. absurd (omega (arith, demand-pos p q t formed long c)))
-
+  -- a port with a demand has a rate; it fails exactly where it needs more than the duration
   pub busy-rate : (t q : ℕ) → 0 < demand p q t → 0 < rateOf p q
   busy-rate t q l = crossed-rate p formed q (demand-crossed p q t l)
 
@@ -40,6 +37,14 @@ module _ (p : Plan) (formed : wellFormed p ≡ true) where
       over (yes l) = l
       over (no l) =
           absurd (omega (arith, over-of-fails p t q e, enough p q (demand p q t) t (crossed-rate p formed q (fails-crossed p t q e)) (omega arith)))
+
+  pub need-fails : (t q : ℕ) → 0 < demand p q t → t < need p q t → fails p t q ≡ true
+  need-fails t q some less = fails-over p t q (demand-crossed p q t some) (over (decLt _ _))
+    where
+      over : Dec (capacity p q t < workload p q (demand p q t)) → capacity p q t < workload p q (demand p q t)
+      over (yes o) = o
+      over (no n) =
+          absurd (omega (arith, needed p q (demand p q t) t (busy-rate t q some) (workload-positive p q some) (omega arith)))
 
   pub climb-start : Climbed p 1
   climb-start = record { first = le-refl 1; within = top-positive p formed; none = λ u h l. absurd (omega arith) }
