@@ -1,0 +1,114 @@
+-- Laws of a route that is read port by port: tests of its first ports, and numbers kept for each port that it has met.
+use mathlib.Core.Path.{_≡_, refl, sym, ap, _∙_}
+use mathlib.Core.Bool.{Bool, true, false, cond, not, _&&_, _||_, or-false}
+use mathlib.Core.List.{List, [], _∷_, _++_}
+use Prim.Native.Nat.{ℕ, zero, suc, _+_, _-_, _≤_, _<_}
+use native.Mathlib.Nat.{add-suc, add-zero, suc-add}
+use native.Mathlib.Decide.{ℕ-discrete}
+use native.Mathlib.Omega.{arith}
+use lib.ListN.{length, getD, set}
+use lib.Seq.{getD-set-same, getD-set-other}
+use lib.Dec.{eqb}
+use borrow.Author.Tests.{eqb-true, eq-eqb, ne-eqb}
+use Rattle.cqf.specs.Bounded.{allTo, elem, distinct, every, row}
+use Rattle.cqf.specs.Limits.{portSlots}
+
+-- one more port of a row
+pub row-more : (l : List ℕ) (at h : ℕ) → row l at (suc h) ≡ row l at h ++ (getD l (at + h) 0 ∷ [])
+unfolding row
+row-more l at zero = rw add-zero
+row-more l at (suc h) =
+    ap (λ (r : List ℕ). getD l at 0 ∷ r)
+    (row-more l (suc at) h ∙ ap (λ (n : ℕ). row l (suc at) h ++ (getD l n 0 ∷ [])) (omega arith))
+
+eqb-sym : (m n : ℕ) → eqb m n ≡ eqb n m
+eqb-sym m n = go (ℕ-discrete m n)
+  where
+    go : Dec (m ≡ n) → eqb m n ≡ eqb n m
+    go (yes e) = rw e
+    go (no ne) = ne-eqb m n ne ∙ sym (ne-eqb n m (λ e. ne (sym e)))
+
+-- the tests of a list with one more number at its end
+pub elem-more : (n : ℕ) (r : List ℕ) (m : ℕ) → elem n (r ++ (m ∷ [])) ≡ elem n r || eqb n m
+unfolding elem
+elem-more n [] m = or-false (eqb n m)
+elem-more n (x ∷ r) m = go (eqb n x) (elem-more n r m)
+  where
+    go : (b : Bool) → elem n (r ++ (m ∷ [])) ≡ elem n r || eqb n m → b || elem n (r ++ (m ∷ [])) ≡ (b || elem n r) || eqb n m
+    go true h = refl
+    go false h = h
+
+pub every-more : (b : ℕ → Bool) (r : List ℕ) (m : ℕ) → every b (r ++ (m ∷ [])) ≡ every b r && b m
+unfolding every
+every-more b [] m = go (b m)
+  where
+    go : (x : Bool) → x && true ≡ x
+    go true = refl
+    go false = refl
+every-more b (x ∷ r) m = go (b x) (every-more b r m)
+  where
+    go : (x : Bool) → every b (r ++ (m ∷ [])) ≡ every b r && b m → x && every b (r ++ (m ∷ [])) ≡ (x && every b r) && b m
+    go true h = h
+    go false h = refl
+
+pub distinct-more : (r : List ℕ) (m : ℕ) → distinct (r ++ (m ∷ [])) ≡ distinct r && not (elem m r)
+unfolding distinct elem
+distinct-more [] m = refl
+distinct-more (x ∷ r) m =
+    rw (elem-more x r m, distinct-more r m, eqb-sym x m) (go (elem x r) (eqb m x) (distinct r) (elem m r))
+  where
+    go : (a e d k : Bool) → not (a || e) && (d && not k) ≡ (not a && d) && not (e || k)
+    go true e d k = refl
+    go false true true k = refl
+    go false true false k = refl
+    go false false d k = refl
+
+-- a route is sound where each port in turn passes the test and stands nowhere before
+pub route-test
+    : (b : ℕ → Bool) (l : List ℕ) (at h : ℕ)
+    → every b (row l at h) && distinct (row l at h)
+    ≡ allTo h (λ i. b (getD l (at + i) 0) && not (elem (getD l (at + i) 0) (row l at i)))
+unfolding allTo
+route-test b l at zero = unfold row every distinct in refl
+route-test b l at (suc h) =
+    rw (
+      row-more l at h,
+      every-more b (row l at h) (getD l (at + h) 0),
+      distinct-more (row l at h) (getD l (at + h) 0),
+      ← route-test b l at h,
+    )
+    (go (every b (row l at h)) (distinct (row l at h)) (b (getD l (at + h) 0)) (not (elem (getD l (at + h) 0) (row l at h))))
+  where
+    go : (e d x y : Bool) → (e && x) && (d && y) ≡ (e && d) && (x && y)
+    go true true x y = refl
+    go true false true y = refl
+    go true false false y = refl
+    go false d x y = refl
+
+-- a table l that has v more than l₀ at each port of r, and as much elsewhere
+abbrev pub Marked : (l₀ l r : List ℕ) → ℕ → Type 0
+Marked l₀ l r v = (q : ℕ) → q < portSlots → getD l q 0 ≡ getD l₀ q 0 + cond (elem (suc q) r) v 0
+
+-- nothing is marked for a route of no port
+pub mark-none : (l : List ℕ) (v : ℕ) → Marked l l [] v
+unfolding elem
+mark-none l v q h = sym (add-zero (getD l q 0))
+
+-- one more port is marked by setting its number
+pub mark
+    : (l₀ l r : List ℕ) (n v w : ℕ)
+    → Marked l₀ l r v
+    → 0 < n
+    → n ≤ length l
+    → elem n r ≡ false
+    → w ≡ getD l₀ (n - 1) 0 + v
+    → Marked l₀ (set l (n - 1) w) (r ++ (n ∷ [])) v
+mark l₀ l r n v w before some fits new is q h = rw (elem-more (suc q) r n) (go (ℕ-discrete q (n - 1)))
+  where
+    go : Dec (q ≡ n - 1) → getD (set l (n - 1) w) q 0 ≡ getD l₀ q 0 + cond (elem (suc q) r || eqb (suc q) n) v 0
+    go (yes e) =
+        let s : suc q ≡ n = omega arith in
+        rw (s, new, eq-eqb n n refl, e) (getD-set-same l (n - 1) w 0 (omega arith) ∙ is)
+    go (no ne) =
+        let s : suc q ≡ n → ⊥ = λ k. ne (omega arith) in
+        rw (ne-eqb (suc q) n s, or-false) (getD-set-other l (n - 1) q w 0 ne ∙ before q h)
