@@ -4,6 +4,8 @@ pub mod Lists
 pub mod Formed
 pub mod Bounds
 pub mod Route
+pub mod Slot
+pub mod Tests
 pub mod Tabulate
 pub mod Ceil
 pub mod Arrivals

@@ -4,7 +4,8 @@ use mathlib.Core.Bool.{Bool, true, false, false≢true}
 use Prim.Native.Nat.{ℕ, zero, suc, _+_, _*_, _≤_, _<_, zero-le}
 use native.Mathlib.Nat.{suc-mul}
 use native.Mathlib.Omega.{arith}
-use Rattle.cqf.specs.Bounded.{sumTo, allTo}
+use native.Mathlib.Numerals.{add-one}
+use Rattle.cqf.specs.Bounded.{sumTo, allTo, anyTo}
 use Rattle.cqf.specs.laws.Bounded.{allTo-at}
 
 -- a sum of n terms of at most m is at most n * m
@@ -21,3 +22,12 @@ allTo-false n b i l e = go (allTo n b) refl
     go : (x : Bool) → allTo n b ≡ x → x ≡ false
     go true h = absurd (false≢true (sym e ∙ allTo-at n b h i l))
     go false h = refl
+
+-- a test over all, and one over some, one number further
+pub allTo-next : (n : ℕ) (b : ℕ → Bool) → allTo n b ≡ true → b n ≡ true → allTo (n + 1) b ≡ true
+unfolding allTo
+allTo-next n b e h = rw (add-one n, e, h)
+
+pub anyTo-next : (n : ℕ) (b : ℕ → Bool) → anyTo n b ≡ false → b n ≡ false → anyTo (n + 1) b ≡ false
+unfolding anyTo
+anyTo-next n b e h = rw (add-one n, e, h)

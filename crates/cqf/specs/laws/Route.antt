@@ -1,17 +1,18 @@
 -- Laws of a route that is read port by port: tests of its first ports, and numbers kept for each port that it has met.
 use mathlib.Core.Path.{_≡_, refl, sym, ap, _∙_}
-use mathlib.Core.Bool.{Bool, true, false, cond, not, _&&_, _||_, or-false}
+use mathlib.Core.Bool.{Bool, true, false, cond, not, _&&_, _||_, or-false, and-false}
 use mathlib.Core.List.{List, [], _∷_, _++_}
 use Prim.Native.Nat.{ℕ, zero, suc, _+_, _-_, _≤_, _<_}
-use native.Mathlib.Nat.{add-suc, add-zero, suc-add}
+use native.Mathlib.Nat.{add-zero, zero-add, not-suc-le-zero}
 use native.Mathlib.Decide.{ℕ-discrete}
 use native.Mathlib.Omega.{arith}
 use lib.ListN.{length, getD, set}
 use lib.Seq.{getD-set-same, getD-set-other}
-use lib.Dec.{eqb}
-use borrow.Author.Tests.{eqb-true, eq-eqb, ne-eqb}
+use lib.Dec.{eqb, leb}
+use borrow.Author.Tests.{eq-eqb, ne-eqb, le-leb, lt-leb, lt-ltb}
 use Rattle.cqf.specs.Bounded.{allTo, elem, distinct, every, row}
-use Rattle.cqf.specs.Limits.{portSlots}
+use Rattle.cqf.specs.Limits.{portSlots, portOk}
+use Rattle.cqf.specs.Plan.{portIn}
 
 -- one more port of a row
 pub row-more : (l : List ℕ) (at h : ℕ) → row l at (suc h) ≡ row l at h ++ (getD l (at + h) 0 ∷ [])
@@ -112,3 +113,46 @@ mark l₀ l r n v w before some fits new is q h = rw (elem-more (suc q) r n) (go
     go (no ne) =
         let s : suc q ≡ n → ⊥ = λ k. ne (omega arith) in
         rw (ne-eqb (suc q) n s, or-false) (getD-set-other l (n - 1) q w 0 ne ∙ before q h)
+
+-- whether a port of number n is marked, where each port of r has 1 and every other 0
+module _ (l r : List ℕ) (n : ℕ) (marked : Marked [] l r 1) (some : 0 < n) (fits : n ≤ portSlots) where
+  marked-at : getD l (n - 1) 0 ≡ cond (elem n r) 1 0
+  marked-at =
+      let s : suc (n - 1) ≡ n = omega arith in
+      marked (n - 1) (omega arith) ∙ ap (λ (k : ℕ). 0 + cond (elem k r) 1 0) s ∙ zero-add (cond (elem n r) 1 0)
+
+  pub marked-new : getD l (n - 1) 0 ≡ 0 → elem n r ≡ false
+  marked-new e = go (elem n r) (sym marked-at ∙ e)
+    where
+      go : (x : Bool) → _≡_ {A = ℕ} (cond x 1 0) 0 → x ≡ false
+      go true h = absurd (omega arith)
+      go false h = refl
+
+  pub marked-again : (getD l (n - 1) 0 ≡ 0 → ⊥) → elem n r ≡ true
+  marked-again ne = go (elem n r) (λ e. ne (marked-at ∙ e))
+    where
+      go : (x : Bool) → (_≡_ {A = ℕ} (cond x 1 0) 0 → ⊥) → x ≡ true
+      go true h = refl
+      go false h = absurd (h refl)
+
+-- the tests of a port number that a route names
+module _ (rates : List ℕ) (n : ℕ) where
+  rate-at : 0 < n → getD (0 ∷ rates) n 0 ≡ getD rates (n - 1) 0
+  rate-at some = go n some
+    where
+      go : (n : ℕ) → 0 < n → getD (0 ∷ rates) n 0 ≡ getD rates (n - 1) 0
+      go zero h = absurd (not-suc-le-zero h)
+      go (suc m) h = ap (λ (k : ℕ). getD rates k 0) (omega arith)
+
+  pub portIn-low : n < 1 → portIn rates n ≡ false
+  portIn-low h = rw (lt-leb 1 n h)
+
+  pub portIn-high : portSlots < n → portIn rates n ≡ false
+  portIn-high h = rw (lt-leb n portSlots h, and-false (leb 1 n))
+
+  pub portIn-absent : 0 < n → getD rates (n - 1) 0 ≡ 0 → portIn rates n ≡ false
+  portIn-absent some e = rw (rate-at some, e) (and-false (portOk n))
+
+  pub portIn-there : 0 < n → n ≤ portSlots → (getD rates (n - 1) 0 ≡ 0 → ⊥) → portIn rates n ≡ true
+  portIn-there some fits e =
+      rw (le-leb 1 n some, le-leb n portSlots fits, rate-at some, lt-ltb 0 (getD rates (n - 1) 0) (omega (arith, e)))
