@@ -11,3 +11,4 @@ pub mod Ceil
 pub mod Arrivals
 pub mod Burst
 pub mod Condition
+pub mod Demand

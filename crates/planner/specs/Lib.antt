@@ -4,3 +4,4 @@ pub mod Calls
 pub mod Answer
 pub mod Demand3
 pub mod Columns
+pub mod laws

@@ -1,18 +1,18 @@
--- Laws of a route that is read port by port: tests of its first ports, and numbers kept for each port that it has met.
+-- Laws of a route that is read port by port.
 use mathlib.Core.Path.{_≡_, refl, sym, ap, _∙_}
-use mathlib.Core.Bool.{Bool, true, false, cond, not, _&&_, _||_, or-false, and-false}
+use mathlib.Core.Bool.{Bool, true, false, not, _&&_, _||_, or-false, and-false, and-eq-true-iff}
 use mathlib.Core.List.{List, [], _∷_, _++_}
 use Prim.Native.Nat.{ℕ, zero, suc, _+_, _-_, _≤_, _<_}
-use native.Mathlib.Nat.{add-zero, zero-add, not-suc-le-zero}
+use native.Mathlib.Nat.{add-zero, not-suc-le-zero}
 use native.Mathlib.Decide.{ℕ-discrete}
 use native.Mathlib.Omega.{arith}
-use lib.ListN.{length, getD, set}
-use lib.Seq.{getD-set-same, getD-set-other}
+use lib.ListN.{getD}
 use lib.Dec.{eqb, leb}
-use borrow.Author.Tests.{eq-eqb, ne-eqb, le-leb, lt-leb, lt-ltb}
+use borrow.Author.Tests.{ne-eqb, le-leb, lt-leb, lt-ltb, leb-true, not-true}
 use Rattle.cqf.specs.Bounded.{allTo, elem, distinct, every, row}
 use Rattle.cqf.specs.Limits.{portSlots, portOk}
 use Rattle.cqf.specs.Plan.{portIn}
+use Rattle.cqf.specs.laws.Bounded.{allTo-at}
 
 -- one more port of a row
 pub row-more : (l : List ℕ) (at h : ℕ) → row l at (suc h) ≡ row l at h ++ (getD l (at + h) 0 ∷ [])
@@ -86,55 +86,6 @@ route-test b l at (suc h) =
     go true false false y = refl
     go false d x y = refl
 
--- a table l that has v more than l₀ at each port of r, and as much elsewhere
-abbrev pub Marked : (l₀ l r : List ℕ) → ℕ → Type 0
-Marked l₀ l r v = (q : ℕ) → q < portSlots → getD l q 0 ≡ getD l₀ q 0 + cond (elem (suc q) r) v 0
-
--- nothing is marked for a route of no port
-pub mark-none : (l : List ℕ) (v : ℕ) → Marked l l [] v
-unfolding elem
-mark-none l v q h = sym (add-zero (getD l q 0))
-
--- one more port is marked by setting its number
-pub mark
-    : (l₀ l r : List ℕ) (n v w : ℕ)
-    → Marked l₀ l r v
-    → 0 < n
-    → n ≤ length l
-    → elem n r ≡ false
-    → w ≡ getD l₀ (n - 1) 0 + v
-    → Marked l₀ (set l (n - 1) w) (r ++ (n ∷ [])) v
-mark l₀ l r n v w before some fits new is q h = rw (elem-more (suc q) r n) (go (ℕ-discrete q (n - 1)))
-  where
-    go : Dec (q ≡ n - 1) → getD (set l (n - 1) w) q 0 ≡ getD l₀ q 0 + cond (elem (suc q) r || eqb (suc q) n) v 0
-    go (yes e) =
-        let s : suc q ≡ n = omega arith in
-        rw (s, new, eq-eqb n n refl, e) (getD-set-same l (n - 1) w 0 (omega arith) ∙ is)
-    go (no ne) =
-        let s : suc q ≡ n → ⊥ = λ k. ne (omega arith) in
-        rw (ne-eqb (suc q) n s, or-false) (getD-set-other l (n - 1) q w 0 ne ∙ before q h)
-
--- whether a port of number n is marked, where each port of r has 1 and every other 0
-module _ (l r : List ℕ) (n : ℕ) (marked : Marked [] l r 1) (some : 0 < n) (fits : n ≤ portSlots) where
-  marked-at : getD l (n - 1) 0 ≡ cond (elem n r) 1 0
-  marked-at =
-      let s : suc (n - 1) ≡ n = omega arith in
-      marked (n - 1) (omega arith) ∙ ap (λ (k : ℕ). 0 + cond (elem k r) 1 0) s ∙ zero-add (cond (elem n r) 1 0)
-
-  pub marked-new : getD l (n - 1) 0 ≡ 0 → elem n r ≡ false
-  marked-new e = go (elem n r) (sym marked-at ∙ e)
-    where
-      go : (x : Bool) → _≡_ {A = ℕ} (cond x 1 0) 0 → x ≡ false
-      go true h = absurd (omega arith)
-      go false h = refl
-
-  pub marked-again : (getD l (n - 1) 0 ≡ 0 → ⊥) → elem n r ≡ true
-  marked-again ne = go (elem n r) (λ e. ne (marked-at ∙ e))
-    where
-      go : (x : Bool) → (_≡_ {A = ℕ} (cond x 1 0) 0 → ⊥) → x ≡ true
-      go true h = refl
-      go false h = absurd (h refl)
-
 -- the tests of a port number that a route names
 module _ (rates : List ℕ) (n : ℕ) where
   rate-at : 0 < n → getD (0 ∷ rates) n 0 ≡ getD rates (n - 1) 0
@@ -156,3 +107,15 @@ module _ (rates : List ℕ) (n : ℕ) where
   pub portIn-there : 0 < n → n ≤ portSlots → (getD rates (n - 1) 0 ≡ 0 → ⊥) → portIn rates n ≡ true
   portIn-there some fits e =
       rw (le-leb 1 n some, le-leb n portSlots fits, rate-at some, lt-ltb 0 (getD rates (n - 1) 0) (omega (arith, e)))
+
+-- the port at i of a sound route: in range, and nowhere before
+pub next-port
+    : (l : List ℕ) (at h i : ℕ)
+    → every portOk (row l at h) ≡ true
+    → distinct (row l at h) ≡ true
+    → i < h
+    → (0 < getD l (at + i) 0) × (getD l (at + i) 0 ≤ portSlots) × (elem (getD l (at + i) 0) (row l at i) ≡ false)
+next-port l at h i ports once less =
+    let all = sym (route-test portOk l at h) ∙ and-eq-true-iff _ _ .1 (ports, once) in
+    let t = simp and-eq-true-iff at (allTo-at h _ all i less) in
+    (leb-true _ _ (t .0 .0), leb-true _ _ (t .0 .1), not-true _ (t .1))

@@ -4,13 +4,14 @@ use mathlib.Core.Path.{_≡_, refl, sym, ap, _∙_}
 use mathlib.Core.Bool.{Bool, true, false, not, _&&_, and-false}
 use mathlib.Core.List.{List, []}
 use Prim.Native.Nat.{ℕ, _+_, _-_, _≤_, _<_}
-use native.Mathlib.Numerals.{add-one}
-use lib.ListN.{length, getD, set, length-set, getD-replicate}
+use lib.ListN.{length, getD, length-set, getD-replicate}
 use Rattle.cqf.specs.Bounded.{allTo, elem, every, distinct, row}
 use Rattle.cqf.specs.Limits.{portSlots}
 use Rattle.cqf.specs.Plan.{portIn}
 use Rattle.cqf.specs.laws.Bounds.{allTo-next, allTo-false}
-use Rattle.cqf.specs.laws.Route.{Marked, mark, row-more, route-test, marked-new, marked-again, portIn-low, portIn-high, portIn-absent, portIn-there}
+use Rattle.cqf.specs.laws.Route.{route-test, portIn-low, portIn-high, portIn-absent, portIn-there}
+use Rattle.planner.specs.Columns.{Marked}
+use Rattle.planner.specs.laws.Marks.{mark-next, marked-new, marked-again}
 use native.Mathlib.Omega.{arith}
 use borrow.Author.Needs.{needs}
 use Rattle.planner.proofs.formed.route_sound.Statement.{statement}
@@ -45,18 +46,6 @@ module _ (rates routes : List ℕ) (base hops i : ℕ) (within : i < hops) where
       : elem (getD routes (base + i) 0) (row routes base i) ≡ true
       → false ≡ every (portIn rates) (row routes base hops) && distinct (row routes base hops)
   twice e = unsound (rw e (and-false (portIn rates (getD routes (base + i) 0))))
-
--- what is marked once the port at i is
-marked-more
-    : (seen routes : List ℕ) (base i : ℕ)
-    → Marked [] seen (row routes base i) 1
-    → 0 < getD routes (base + i) 0
-    → getD routes (base + i) 0 ≤ length seen
-    → elem (getD routes (base + i) 0) (row routes base i) ≡ false
-    → Marked [] (set seen (getD routes (base + i) 0 - 1) 1) (row routes base (i + 1)) 1
-marked-more seen routes base i before some fits new =
-    rw (add-one i, row-more routes base i)
-    (mark [] seen (row routes base i) (getD routes (base + i) 0) 1 1 before some fits new refl)
 
 loop-holds : tie.Need-loop-holds Inv-loop μ-loop
 unfolding allTo elem row
@@ -131,7 +120,7 @@ loop-again c =
       omega arith,
       simp length-set (at .loop .inv .1),
       allTo-next (at .loop .i) (passes (a .rates .now) (a .routes .now) (a .base)) (at .loop .inv .2) (rw (there, new)),
-      marked-more (at .loop .seen) (a .routes .now) (a .base) (at .loop .i) (at .loop .inv .3) (omega arith) (omega arith) new,
+      mark-next [] (at .loop .seen) (a .routes .now) (a .base) (at .loop .i) 1 1 (at .loop .inv .3) (omega arith) (omega arith) new refl,
     )
 
 returns-5 : tie.Need-returns-5 Inv-loop μ-loop
