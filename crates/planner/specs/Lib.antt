@@ -3,3 +3,5 @@ pub mod Outcome
 pub mod Calls
 pub mod Answer
 pub mod Demand3
+pub mod Columns
+pub mod laws

@@ -1,6 +1,9 @@
 // The cycle planner: the held plan, the load, and the questions.
 use plan::Fault;
 
+mod demand;
+mod formed;
+
 // The held plan: port n in slot n - 1, flow n in slot n - 1, a flow's route at its slot times 16. An absent port has rate 0,
 // an absent flow period 0; top is 0 where no plan is held.
 pub struct Planner {

@@ -1,0 +1,3 @@
+-- Laws of the definitions, one subject a file.
+pub mod Marks
+pub mod Sums
