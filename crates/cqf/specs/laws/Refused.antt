@@ -29,7 +29,10 @@ use Rattle.cqf.specs.laws.Sending.{emittedIn, queuedOf, emitted-queued, 
 hop : Plan → ℕ → ℕ → ℕ
 hop p q f = lowest (length (routeOf p f)) (λ i. eqb (getD (routeOf p f) i 0) (suc q))
 
-hop-at : (p : Plan) (q f : ℕ) → crosses p f q ≡ true → (hop p q f < length (routeOf p f)) × (getD (routeOf p f) (hop p q f) 0 ≡ suc q)
+hop-at
+    : (p : Plan) (q f : ℕ)
+    → crosses p f q ≡ true
+    → (hop p q f < length (routeOf p f)) × (getD (routeOf p f) (hop p q f) 0 ≡ suc q)
 unfolding hop
 hop-at p q f h = go (decLt (hop p q f) (length (routeOf p f)))
   where
@@ -147,13 +150,15 @@ module _ (p : Plan) (formed : wellFormed p ≡ true) (T : ℕ) (long : 0 < T) (q
         → overrun p T (cyclesOf T (worst p T q)) places ≡ true
     unfolding overrun
     worst-overrun places goes =
+        let bits = bits-least p T (cyclesOf T (worst p T q)) (suc maxHops) places goes q (worst-queued places goes) in
         anyTo-some
         portSlots
         (λ s. overrunAt p T (queuedBits p (cyclesOf T (worst p T q)) places s) s)
         q
         slot
-        (overrun-at p q T formed long _ failed (bits-least p T (cyclesOf T (worst p T q)) (suc maxHops) places goes q (worst-queued places goes)))
+        (overrun-at p q T formed long _ failed bits)
 
+    -- there, unless the run has stopped before
     worst-overruns : Overruns p T (cyclesOf T (worst p T q))
     worst-overruns = go (run p T (cyclesOf T (worst p T q)) (suc maxHops)) refl
       where

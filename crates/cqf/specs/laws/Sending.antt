@@ -29,7 +29,8 @@ abbrev pub queuedOf : Cycles → Places → ℕ → ℕ → ℕ
 queuedOf cycles places f q = countTo (length (cycles f)) (λ k. isQueuedAt (suc q) (places f k))
 
 module _ (p : Plan) (T : ℕ) (cycles : Cycles) (c : ℕ) (places : Places) (goes : run p T cycles c ≡ running places) where
-  -- where port q stands at i on the route, what flow f has queued there was emitted i + 1 cycles before, and all of it is
+  -- where the port in slot q stands at i on the route, flow f has queued there what it emitted i + 1 cycles before: no more,
+  -- since it crosses the port once, and no less
   pub queued-emitted
       : (f q i : ℕ)
       → distinct (routeOf p f) ≡ true
@@ -38,7 +39,11 @@ module _ (p : Plan) (T : ℕ) (cycles : Cycles) (c : ℕ) (places : Places) (goe
       → queuedOf cycles places f q ≤ emittedIn cycles f (c - suc i)
   queued-emitted f q i once l at = countTo-le (length (cycles f)) _ _ own
     where
-      own : (k : ℕ) → k < length (cycles f) → isQueuedAt (suc q) (places f k) ≡ true → eqb (getD (cycles f) k 0) (c - suc i) ≡ true
+      own
+          : (k : ℕ)
+          → k < length (cycles f)
+          → isQueuedAt (suc q) (places f k) ≡ true
+          → eqb (getD (cycles f) k 0) (c - suc i) ≡ true
       own k _ h =
           let t = track-queued (suc q) (getD (cycles f) k 0) (routeOf p f) c (rw (run-track p T cycles c places goes f k) at h) in
           let same : i ≡ t .0 = distinct-index (routeOf p f) once i (t .0) l (t .1) (at ∙ sym (t .2)) in
