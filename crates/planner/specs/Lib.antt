@@ -4,4 +4,5 @@ pub mod Calls
 pub mod Answer
 pub mod Demand3
 pub mod Columns
+pub mod Failing
 pub mod laws

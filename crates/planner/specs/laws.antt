@@ -1,3 +1,4 @@
 -- Laws of the definitions, one subject a file.
 pub mod Marks
 pub mod Sums
+pub mod Sets

@@ -2,6 +2,7 @@
 use plan::Fault;
 
 mod demand;
+mod failing;
 mod formed;
 
 // The held plan: port n in slot n - 1, flow n in slot n - 1, a flow's route at its slot times 16. An absent port has rate 0,
