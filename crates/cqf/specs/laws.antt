@@ -12,3 +12,4 @@ pub mod Arrivals
 pub mod Burst
 pub mod Condition
 pub mod Demand
+pub mod Slack
