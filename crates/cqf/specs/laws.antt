@@ -12,6 +12,7 @@ pub mod Arrivals
 pub mod Burst
 pub mod Condition
 pub mod Demand
+pub mod Slack
 pub mod Places
 pub mod Sending
 pub mod Accepted

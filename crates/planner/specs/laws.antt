@@ -2,3 +2,6 @@
 pub mod Marks
 pub mod Sums
 pub mod Sets
+pub mod Fails
+pub mod Signed
+pub mod Answers

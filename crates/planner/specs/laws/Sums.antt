@@ -3,21 +3,22 @@ use mathlib.Core.Path.{_≡_, refl, sym, ap, _∙_}
 use mathlib.Core.Logic.{_⊎_, inl, inr}
 use mathlib.Core.Bool.{Bool, true, false, cond, and-eq-true-iff}
 use mathlib.Core.List.{List, [], _∷_}
-use Prim.Native.Nat.{ℕ, suc, _+_, _*_, _^_, _≤_, _<_, zero-le}
+use Prim.Native.Nat.{ℕ, _+_, _*_, _≤_, _<_, zero-le}
 use native.Mathlib.Nat.{add-zero, mul-le-mul-right, le-trans}
 use native.Mathlib.Decide.{ℕ-discrete}
 use native.Mathlib.Omega.{arith}
 use lib.ListN.{length, getD}
 use lib.Seq.{ext-getD}
-use Rattle.cqf.specs.Bounded.{sumTo, elem, every, distinct, row, tabulate}
-use Rattle.cqf.specs.Limits.{portSlots, flowSlots, maxHops, maxTop, portOk}
+use Rattle.cqf.specs.Bounded.{sumTo, every, distinct, row, tabulate}
+use Rattle.cqf.specs.Limits.{portSlots, flowSlots, maxTop, portOk}
 use Rattle.cqf.specs.Plan.{Plan, periodOf, countOf, lengthOf, hopsOf, routeOf, crosses, portIn, wellFormed}
 use Rattle.cqf.specs.Condition.{bitsOf, wireBits, ceilDiv, frames, demand}
 use Rattle.cqf.specs.laws.Bounds.{sumTo-most}
 use Rattle.cqf.specs.laws.Formed.{Empty, Held, slot-cases}
 use Rattle.cqf.specs.laws.Tabulate.{tabulate-length, tabulate-at}
 use Rattle.cqf.specs.laws.Demand.{share, demand-sum, mostBits, bits-most, share-none, sum-next}
-use Rattle.planner.specs.Columns.{columns, Ready, FlowsReady, Marked}
+use Rattle.planner.specs.Failing.{mostDemand}
+use Rattle.planner.specs.Columns.{columns, Ready, Marked}
 
 -- a stronger test that each number of a list passes
 every-weaker : (a b : ℕ → Bool) → ((n : ℕ) → a n ≡ true → b n ≡ true) → (l : List ℕ) → every a l ≡ true → every b l ≡ true
@@ -123,11 +124,11 @@ module _ (p : Plan) (ready : AllReady p) (T : ℕ) (fits : T ≤ maxTop) where
       go (no there) = part (crosses p f q) (flow-most f l there)
 
   -- the sums by the flows before f, and so each demand
-  pub sum-most : (q f : ℕ) → f ≤ flowSlots → sumTo f (share p q T) ≤ flowSlots * mostBits
+  pub sum-most : (q f : ℕ) → f ≤ flowSlots → sumTo f (share p q T) ≤ mostDemand
   sum-most q f l =
       le-trans (sumTo-most f (share p q T) mostBits (λ i h. share-most q i (omega arith))) (mul-le-mul-right mostBits l)
 
-  pub demand-most : (q : ℕ) → demand p q T ≤ flowSlots * mostBits
+  pub demand-most : (q : ℕ) → demand p q T ≤ mostDemand
   demand-most q = omega (arith, demand-sum p q T, sum-most q flowSlots (omega arith))
 
 -- the demand depends on the flows' columns alone
@@ -137,3 +138,14 @@ pub demand-columns
 unfolding frames wireBits
 demand-columns p q T =
     demand-sum (columns [] [] (p .periods) (p .counts) (p .lengths) (p .hops) (p .routes)) q T ∙ sym (demand-sum p q T)
+
+-- the table of demands of a well-formed plan is within the largest demand
+pub demands-most
+    : (p : Plan)
+    → wellFormed p ≡ true
+    → (T : ℕ)
+    → T ≤ maxTop
+    → (q : ℕ)
+    → q < portSlots
+    → getD (tabulate portSlots (λ q. demand p q T)) q 0 ≤ mostDemand
+demands-most p formed T fits q l = rw (tabulate-at portSlots (λ q. demand p q T) q l) (demand-most p (slot-ready p formed) T fits q)
