@@ -5,4 +5,5 @@ pub mod Answer
 pub mod Demand3
 pub mod Columns
 pub mod Failing
+pub mod Need
 pub mod laws
