@@ -1,9 +1,13 @@
 // The two searches for a duration. Neither goes by single ns: each jumps by what the ports need.
+use super::Planner;
+use super::SearchAnswer;
 use super::demand::demands;
-use super::failing::{failing_ports, failing_set, port_fails, window};
+use super::failing::failing_ports;
+use super::failing::failing_set;
+use super::failing::port_fails;
+use super::failing::window;
 use super::formed::formed;
 use super::need::need;
-use super::{Planner, SearchAnswer};
 ghost use mathlib.Core.Path.{_≡_};
 ghost use mathlib.Core.Bool.{true, cond};
 ghost use Prim.Native.Nat.{ℕ, max};
@@ -26,7 +30,15 @@ fn climb(planner: Planner, out: &mut [u64]) -> u64
     let top = planner.top as u64;
     let mut t: u64 = 1;
     let found = loop {
-        demands(&planner.periods, &planner.counts, &planner.lengths, &planner.hops, &planner.routes, t, &mut out[..]);
+        demands(
+            &planner.periods,
+            &planner.counts,
+            &planner.lengths,
+            &planner.hops,
+            &planner.routes,
+            t,
+            &mut out[..],
+        );
         let span = window(guard, t);
         let mut next: u64 = 0;
         let mut q: usize = 0;
@@ -70,11 +82,22 @@ fn descend(planner: Planner, out: &mut [u64]) -> u64
             break t;
         }
         let below = t - 1;
-        demands(&planner.periods, &planner.counts, &planner.lengths, &planner.hops, &planner.routes, below, &mut out[..]);
+        demands(
+            &planner.periods,
+            &planner.counts,
+            &planner.lengths,
+            &planner.hops,
+            &planner.routes,
+            below,
+            &mut out[..],
+        );
         let mut most: u64 = 1;
         let mut q: usize = 0;
         'ports: while q < 64 {
-            most = larger(most, need(guard, planner.rates[q], planner.blockings[q], out[q]));
+            most = larger(
+                most,
+                need(guard, planner.rates[q], planner.blockings[q], out[q]),
+            );
             if below < most {
                 break 'ports;
             }
@@ -96,10 +119,26 @@ fn conclude(planner: Planner, found: u64, out: &mut [u64]) -> SearchAnswer
 {
     let top = planner.top as u64;
     if found <= top {
-        demands(&planner.periods, &planner.counts, &planner.lengths, &planner.hops, &planner.routes, found, &mut out[..]);
+        demands(
+            &planner.periods,
+            &planner.counts,
+            &planner.lengths,
+            &planner.hops,
+            &planner.routes,
+            found,
+            &mut out[..],
+        );
         return SearchAnswer::Duration(found);
     }
-    demands(&planner.periods, &planner.counts, &planner.lengths, &planner.hops, &planner.routes, top, &mut out[..]);
+    demands(
+        &planner.periods,
+        &planner.counts,
+        &planner.lengths,
+        &planner.hops,
+        &planner.routes,
+        top,
+        &mut out[..],
+    );
     let span = window(planner.guard, top);
     let set = failing_set(&planner.rates, &planner.blockings, span, &out[..]);
     let ports = failing_ports(set);
@@ -119,8 +158,8 @@ pub fn least(planner: Planner, scratch: &mut [u64]) -> SearchAnswer
     if scratch.len() < 64 {
         return SearchAnswer::ShortScratch;
     }
-    let found = climb(planner, &mut scratch[..64]);
-    conclude(planner, found, &mut scratch[..64])
+    let lowest = climb(planner, &mut scratch[..64]);
+    conclude(planner, lowest, &mut scratch[..64])
 }
 
 // The margin-safe duration; 23 where there is none.
@@ -133,6 +172,6 @@ pub fn margin_safe(planner: Planner, scratch: &mut [u64]) -> SearchAnswer
     if scratch.len() < 64 {
         return SearchAnswer::ShortScratch;
     }
-    let found = descend(planner, &mut scratch[..64]);
-    conclude(planner, found, &mut scratch[..64])
+    let safe = descend(planner, &mut scratch[..64]);
+    conclude(planner, safe, &mut scratch[..64])
 }

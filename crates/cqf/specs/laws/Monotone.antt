@@ -1,11 +1,10 @@
--- What never falls as a duration grows: the frames of a flow, a port's demand, its window and its capacity.
+-- What never falls as a duration grows: the frames of a flow and a port's demand.
 use mathlib.Core.Bool.{Bool, true, false, cond}
 use Prim.Native.Nat.{ℕ, _*_, _≤_, zero-le}
 use native.Mathlib.Nat.{mul-le-mul-left, mul-le-mul-right}
-use native.Mathlib.Omega.{arith}
 use Rattle.cqf.specs.Limits.{flowSlots}
-use Rattle.cqf.specs.Plan.{Plan, rateOf, periodOf, countOf, crosses}
-use Rattle.cqf.specs.Condition.{wireBits, frames, demand, window, capacity}
+use Rattle.cqf.specs.Plan.{Plan, periodOf, countOf, crosses}
+use Rattle.cqf.specs.Condition.{wireBits, frames, demand}
 use Rattle.cqf.specs.laws.Bounded.{sumTo-le}
 use Rattle.cqf.specs.laws.Ceil.{ceil-mono}
 
@@ -27,13 +26,3 @@ demand-mono p q {T} {U} l =
     term : (x : Bool) (f : ℕ) → cond x (frames p f T * wireBits p f q) 0 ≤ cond x (frames p f U * wireBits p f q) 0
     term true f = mul-le-mul-right (wireBits p f q) (frames-mono p f l)
     term false f = zero-le
-
--- nor a shorter window
-pub window-mono : (p : Plan) {T U : ℕ} → T ≤ U → window p T ≤ window p U
-unfolding window
-window-mono p l = omega arith
-
--- and it can send no less
-pub capacity-mono : (p : Plan) (q : ℕ) {T U : ℕ} → T ≤ U → capacity p q T ≤ capacity p q U
-unfolding capacity
-capacity-mono p q l = mul-le-mul-left (rateOf p q) (window-mono p l)

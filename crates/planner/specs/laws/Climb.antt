@@ -1,15 +1,13 @@
 -- The search for the least duration: what the loop over the ports keeps, and what it gives where it is left.
 use mathlib.Core.Path.{_≡_, sym, ap, ap₂, _∙_}
-use mathlib.Core.Bool.{Bool, true, false, cond, _&&_, and-eq-true-iff, false≢true}
+use mathlib.Core.Bool.{Bool, true, false}
 use mathlib.Core.List.{List}
 use Prim.Native.Nat.{ℕ, suc, _+_, _-_, _*_, _≤_, _<_}
 use native.Mathlib.Decide.{ℕ-discrete}
 use native.Mathlib.Omega.{arith}
 use lib.ListN.{getD}
-use lib.Dec.{ltb}
-use borrow.Author.Tests.{ltb-true, ltb-false, lt-ltb}
 use Rattle.cqf.specs.Limits.{portSlots}
-use Rattle.cqf.specs.Plan.{Plan, rateOf, blockingOf, wellFormed}
+use Rattle.cqf.specs.Plan.{Plan, rateOf, blockingOf}
 use Rattle.cqf.specs.Condition.{demand, fails, least}
 use Rattle.cqf.specs.laws.Condition.{demand-pos}
 use Rattle.cqf.specs.laws.Need.{need, fails-crossed}

@@ -1,17 +1,15 @@
 -- The search for the margin-safe duration: what the loop over the ports keeps, and what it gives where it is left.
-use mathlib.Core.Path.{_≡_, refl, ap, subst, _∙_}
-use mathlib.Core.Bool.{Bool, true, false, cond}
+use mathlib.Core.Path.{_≡_, ap, subst, _∙_}
+use mathlib.Core.Bool.{true}
 use mathlib.Core.List.{List}
 use Prim.Native.Nat.{ℕ, suc, max, _+_, _-_, _≤_, _<_}
 use native.Mathlib.Decide.{ℕ-discrete}
 use native.Mathlib.Omega.{arith}
 use lib.ListN.{getD}
-use lib.Dec.{ltb}
-use borrow.Author.Tests.{ltb-true, lt-ltb}
 use Rattle.cqf.specs.Limits.{portSlots}
 use Rattle.cqf.specs.Plan.{Plan, rateOf, blockingOf}
 use Rattle.cqf.specs.Condition.{demand, fails, marginSafe}
-use Rattle.cqf.specs.laws.Need.{need, needFor}
+use Rattle.cqf.specs.laws.Need.{need}
 use Rattle.cqf.specs.laws.Search.{Descended, need-fails, descent-stop, descent-next}
 use Rattle.planner.specs.Need.{needBy}
 use Rattle.planner.specs.laws.Ports.{need-by, need-by-some}
@@ -60,42 +58,42 @@ module _ {p : Plan} {out : List ℕ} {below most q : ℕ} (s : Fitting p out bel
 
   -- the port at q, with what it needs
   module _
-    (slot : q < portSlots)
-    (r : ℕ)
-    (e : r ≡ needBy (p .guard) (rateOf p q) (blockingOf p q) (getD out q 0))
+      (slot : q < portSlots)
+      (r : ℕ)
+      (e : r ≡ needBy (p .guard) (rateOf p q) (blockingOf p q) (getD out q 0))
     where
-    tested : r ≡ needBy (p .guard) (rateOf p q) (blockingOf p q) (demand p q below)
-    tested = e ∙ ap (needBy (p .guard) (rateOf p q) (blockingOf p q)) (filled-bits (s .filled) q slot)
+      tested : r ≡ needBy (p .guard) (rateOf p q) (blockingOf p q) (demand p q below)
+      tested = e ∙ ap (needBy (p .guard) (rateOf p q) (blockingOf p q)) (filled-bits (s .filled) q slot)
 
-    -- a port with a demand needs r, and one that needs some has a demand
-    busy : 0 < demand p q below → r ≡ need p q below
-    busy l = tested ∙ need-by p q (demand p q below) l
+      -- a port with a demand needs r, and one that needs some has a demand
+      busy : 0 < demand p q below → r ≡ need p q below
+      busy l = tested ∙ need-by p q (demand p q below) l
 
-    some : 0 < r → 0 < demand p q below
-    some l = need-by-some (p .guard) (rateOf p q) (blockingOf p q) (demand p q below) (rw tested at l)
+      some : 0 < r → 0 < demand p q below
+      some l = need-by-some (p .guard) (rateOf p q) (blockingOf p q) (demand p q below) (rw tested at l)
 
-    pub fitting-next : (next : ℕ) → next ≡ max most r → next ≤ below → Fitting p out below next (q + 1)
-    fitting-next next m l =
-        record {
-          filled = s .filled;
-          descended = s .descended;
-          from = omega (arith, s .from);
-          within = l;
-          slots = omega arith;
-          fits = λ k h d. go k (ℕ-discrete k q) h d;
-        }
-      where
-        go : (k : ℕ) → Dec (k ≡ q) → k < q + 1 → 0 < demand p k below → need p k below ≤ next
-        go k (yes same) h d =
-            let at-q : 0 < demand p q below = rw same at d in
-            rw same (omega (arith, busy at-q))
-        go k (no other) h d = omega (arith, s .fits k (omega arith) d)
+      pub fitting-next : (next : ℕ) → next ≡ max most r → next ≤ below → Fitting p out below next (q + 1)
+      fitting-next next m l =
+          record {
+            filled = s .filled;
+            descended = s .descended;
+            from = omega (arith, s .from);
+            within = l;
+            slots = omega arith;
+            fits = λ k h d. go k (ℕ-discrete k q) h d;
+          }
+        where
+          go : (k : ℕ) → Dec (k ≡ q) → k < q + 1 → 0 < demand p k below → need p k below ≤ next
+          go k (yes same) h d =
+              let at-q : 0 < demand p q below = rw same at d in
+              rw same (omega (arith, busy at-q))
+          go k (no other) h d = omega (arith, s .fits k (omega arith) d)
 
-    pub fitting-until : (next : ℕ) → next ≡ max most r → below < next → Left p below next
-    fitting-until next m l =
-        let more : below < r = omega (arith, s .within) in
-        let has = some (omega arith) in
-        first q slot (need-fails p (s .filled .formed) below q has (omega (arith, busy has))) l
+      pub fitting-until : (next : ℕ) → next ≡ max most r → below < next → Left p below next
+      fitting-until next m l =
+          let more : below < r = omega (arith, s .within) in
+          let has = some (omega arith) in
+          first q slot (need-fails p (s .filled .formed) below q has (omega (arith, busy has))) l
 
   pub left-stop : {last : ℕ} → Left p below last → below < last → marginSafe p ≡ suc below
   left-stop (none h f fits) l = absurd (omega arith)

@@ -46,11 +46,12 @@ div-result c = served c
 add-result-2 : tie.Need-add-result-2
 add-result-2 c =
     let a = c .before .before .args in
-    omega
-    (arith,
-    work-fits (a .blocking) (a .bits) (omega arith) (c .before .before .pre .0),
-    c .workload .ensures,
-    div-le-self (c .workload .result + (a .rate - 1)) (a .rate))
+    omega (
+      arith,
+      work-fits (a .blocking) (a .bits) (omega arith) (c .before .before .pre .0),
+      c .workload .ensures,
+      div-le-self (c .workload .result + (a .rate - 1)) (a .rate),
+    )
 
 -- src/need.rt:10:1
 returns-2 : tie.Need-returns-2

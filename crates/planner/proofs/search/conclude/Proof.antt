@@ -57,10 +57,11 @@ same-length-2 c = search needs
 returns-2 : tie.Need-returns-2
 returns-2 c =
     let f = at-top (c .before .before .before .before .before .before .before .before .before .before .before) in
-    let above = c .before .before .before .before .before .before .before .before .before .before .before .before .before .before .before .before .before .before .before .before .before .before .before .before .if1 .left in
-    ((λ number.
-    found-above number above f (c .before .before .before .before .before .before .before .before .window .ensures) (c .before .failing-set .ensures) (c .failing-ports .ensures .0) (c .failing-ports .ensures .1)),
-    demands-above above f)
+    let above = c .before .before .before .before .before .before .before .before .before .before .before .before .before .before .before .before .before .before .before .before .before .before .before .before .if1 .left in (
+      (λ number.
+          found-above number above f (c .before .before .before .before .before .before .before .before .window .ensures) (c .before .failing-set .ensures) (c .failing-ports .ensures .0) (c .failing-ports .ensures .1)),
+      demands-above above f,
+    )
 
 pub conclude-spec : {M : Type 1} → statement M
 conclude-spec =

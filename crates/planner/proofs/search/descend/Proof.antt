@@ -64,9 +64,10 @@ ports-holds : tie.Need-ports-holds Inv-ports μ-ports Inv-loop μ-loop
 ports-holds c =
     let d = c .before .before in
     let i = d .before .before .before .before .before .before .before .before .before .before .before .before .before in
-    let l = i .before .loop in
-    (fitting-start (filled _ (l .inv .0) (below-top _ (l .inv .2)) (d .demands .ensures)) (l .inv .2) (i .if1 .left),
-    one-below _ (l .inv .2) (i .if1 .left))
+    let l = i .before .loop in (
+      fitting-start (filled _ (l .inv .0) (below-top _ (l .inv .2)) (d .demands .ensures)) (l .inv .2) (i .if1 .left),
+      one-below _ (l .inv .2) (i .if1 .left),
+    )
 
 mul-need : tie.Need-mul-need Inv-ports μ-ports Inv-loop μ-loop
 mul-need c = omega arith
