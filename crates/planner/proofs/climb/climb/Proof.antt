@@ -1,4 +1,4 @@
--- `planner::search::climb` meets its contract. Round the outer loop no duration below t is admissible; in the loop over the
+-- `planner::climb::climb` meets its contract. Round the outer loop no duration below t is admissible; in the loop over the
 -- ports those below q do not fail at t.
 use mathlib.Core.Path.{_≡_, sym, refl, _∙_}
 use mathlib.Core.Bool.{true}
@@ -16,8 +16,8 @@ use Rattle.planner.specs.Answer.{planOf}
 use Rattle.planner.specs.laws.Sums.{slot-ready}
 use Rattle.planner.specs.laws.Scratch.{filled, filled-length, filled-short, filled-most, filled-served}
 use Rattle.planner.specs.laws.Climb.{Passed, Left, passed-start, passed-all, tested, passed-next, passed-until, left-none, left-over, left-next, left-more}
-use Rattle.planner.proofs.search.climb.Statement.{statement}
-use Rattle.planner.proofs.search.climb.Tie as tie
+use Rattle.planner.proofs.climb.climb.Statement.{statement}
+use Rattle.planner.proofs.climb.climb.Tie as tie
 
 abbrev Inv-ports : tie.InvT-ports
 Inv-ports out planner guard top t span next₀ q₀ next q =

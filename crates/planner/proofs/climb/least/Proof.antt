@@ -1,4 +1,4 @@
--- `planner::search::least` meets its contract: the cases of the outcome. The first 64 numbers of the scratch are lent on twice.
+-- `planner::climb::least` meets its contract: the cases of the outcome. The first 64 numbers of the scratch are lent on twice.
 use mathlib.Core.Path.{_≡_, sym, ap, _∙_}
 use mathlib.Core.Bool.{true}
 use mathlib.Core.List.{_++_}
@@ -10,8 +10,8 @@ use Rattle.cqf.specs.Limits.{portSlots}
 use Rattle.cqf.specs.Plan.{wellFormed}
 use Rattle.planner.specs.Answer.{planOf}
 use Rattle.planner.specs.laws.Searched.{ends-no-plan, ends-short, ends-found, least-ends}
-use Rattle.planner.proofs.search.least.Statement.{statement}
-use Rattle.planner.proofs.search.least.Tie as tie
+use Rattle.planner.proofs.climb.least.Statement.{statement}
+use Rattle.planner.proofs.climb.least.Tie as tie
 
 -- past the first test the plan is well formed
 formed-past : (c : tie.Else1) → wellFormed (planOf (c .before .before .before .args .planner)) ≡ true

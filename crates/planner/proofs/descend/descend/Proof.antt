@@ -1,4 +1,4 @@
--- `planner::search::descend` meets its contract. Round the outer loop every duration from t to top is admissible; in the loop
+-- `planner::descend::descend` meets its contract. Round the outer loop every duration from t to top is admissible; in the loop
 -- over the ports none below q needs more than most for its demand at t - 1.
 use mathlib.Core.Path.{_≡_, sym, subst, _∙_}
 use mathlib.Core.Bool.{true}
@@ -16,8 +16,8 @@ use Rattle.planner.specs.Answer.{planOf}
 use Rattle.planner.specs.laws.Sums.{slot-ready}
 use Rattle.planner.specs.laws.Scratch.{filled, filled-length, filled-most, filled-served}
 use Rattle.planner.specs.laws.Descent.{Fitting, Left, one-below, below-top, fitting-start, fitting-all, fitting-next, fitting-until, left-stop, left-down}
-use Rattle.planner.proofs.search.descend.Statement.{statement}
-use Rattle.planner.proofs.search.descend.Tie as tie
+use Rattle.planner.proofs.descend.descend.Statement.{statement}
+use Rattle.planner.proofs.descend.descend.Tie as tie
 
 abbrev Inv-ports : tie.InvT-ports
 Inv-ports out planner guard t below most₀ q₀ most q = Fitting (planOf planner) out below most q × (t ≡ suc below)

@@ -1,0 +1,72 @@
+// The search for the least duration, upwards, by what the first failing port needs.
+use super::demand::demands;
+use super::failing::{port_fails, window};
+use super::formed::formed;
+use super::need::need;
+use super::search::conclude;
+use super::{Planner, SearchAnswer};
+ghost use mathlib.Core.Path.{_≡_};
+ghost use mathlib.Core.Bool.{true};
+ghost use lib.ListN.{length};
+ghost use Rattle.cqf.specs.Limits.{portSlots};
+ghost use Rattle.cqf.specs.Plan.{wellFormed};
+ghost use Rattle.cqf.specs.Condition;
+ghost use Rattle.planner.specs.Answer.{planOf, searchOf};
+ghost use Rattle.planner.specs.Outcome.{leastAnswer, leastLeaves};
+
+// The least admissible duration, or one above top where there is none. No duration below t is admissible, and a port that fails
+// at t fails up to what it needs there.
+fn climb(planner: Planner, out: &mut [u64]) -> u64
+    requires { ⌜ (wellFormed (planOf planner) ≡ true) × (length (now out) ≡ portSlots) ⌝ }
+    ensures { λ r. ⌜ r ≡ Condition.least (planOf planner) ⌝ }
+{
+    let guard = planner.guard;
+    let top = planner.top as u64;
+    let mut t: u64 = 1;
+    let found = loop {
+        demands(
+            &planner.periods,
+            &planner.counts,
+            &planner.lengths,
+            &planner.hops,
+            &planner.routes,
+            t,
+            &mut out[..],
+        );
+        let span = window(guard, t);
+        let mut next: u64 = 0;
+        let mut q: usize = 0;
+        'ports: while q < 64 {
+            let rate = planner.rates[q];
+            let blocking = planner.blockings[q];
+            let bits = out[q];
+            if port_fails(rate, blocking, span, bits) {
+                next = need(guard, rate, blocking, bits);
+                break 'ports;
+            }
+            q += 1;
+        }
+        if next == 0 {
+            break t;
+        }
+        if top < next {
+            break top + 1;
+        }
+        t = next;
+    };
+    found
+}
+
+// The least admissible duration; 22 where there is none.
+pub fn least(planner: Planner, scratch: &mut [u64]) -> SearchAnswer
+    ensures { λ r. ⌜ (searchOf 22 r ≡ leastAnswer (planOf planner) (now (scratch .entry))) × (now (scratch .exit) ≡ leastLeaves (planOf planner) (now (scratch .entry))) ⌝ }
+{
+    if !formed(planner) {
+        return SearchAnswer::NoPlan;
+    }
+    if scratch.len() < 64 {
+        return SearchAnswer::ShortScratch;
+    }
+    let found = climb(planner, &mut scratch[..64]);
+    conclude(planner, found, &mut scratch[..64])
+}

@@ -1,0 +1,78 @@
+// The search for the margin-safe duration, downwards from top, by the most that a port needs.
+use super::demand::demands;
+use super::formed::formed;
+use super::need::need;
+use super::search::conclude;
+use super::{Planner, SearchAnswer};
+ghost use mathlib.Core.Path.{_≡_};
+ghost use mathlib.Core.Bool.{true};
+ghost use Prim.Native.Nat.{max};
+ghost use lib.ListN.{length};
+ghost use Rattle.cqf.specs.Limits.{portSlots};
+ghost use Rattle.cqf.specs.Plan.{wellFormed};
+ghost use Rattle.cqf.specs.Condition;
+ghost use Rattle.planner.specs.Answer.{planOf, searchOf};
+ghost use Rattle.planner.specs.Outcome.{marginSafeAnswer, marginSafeLeaves};
+
+// The larger of two numbers.
+fn larger(a: u64, b: u64) -> u64
+    ensures { λ r. ⌜ r ≡ max a b ⌝ }
+{
+    if a < b { b } else { a }
+}
+
+// The margin-safe duration, or one above top where there is none. Every duration from t to top is admissible, and where no port
+// fails at t - 1, none does from there down to the most that one needs there.
+fn descend(planner: Planner, out: &mut [u64]) -> u64
+    requires { ⌜ (wellFormed (planOf planner) ≡ true) × (length (now out) ≡ portSlots) ⌝ }
+    ensures { λ r. ⌜ r ≡ Condition.marginSafe (planOf planner) ⌝ }
+{
+    let guard = planner.guard;
+    let mut t = planner.top as u64 + 1;
+    let found = loop {
+        if t == 1 {
+            break t;
+        }
+        let below = t - 1;
+        demands(
+            &planner.periods,
+            &planner.counts,
+            &planner.lengths,
+            &planner.hops,
+            &planner.routes,
+            below,
+            &mut out[..],
+        );
+        let mut most: u64 = 1;
+        let mut q: usize = 0;
+        'ports: while q < 64 {
+            most = larger(
+                most,
+                need(guard, planner.rates[q], planner.blockings[q], out[q]),
+            );
+            if below < most {
+                break 'ports;
+            }
+            q += 1;
+        }
+        if below < most {
+            break t;
+        }
+        t = most;
+    };
+    found
+}
+
+// The margin-safe duration; 23 where there is none.
+pub fn margin_safe(planner: Planner, scratch: &mut [u64]) -> SearchAnswer
+    ensures { λ r. ⌜ (searchOf 23 r ≡ marginSafeAnswer (planOf planner) (now (scratch .entry))) × (now (scratch .exit) ≡ marginSafeLeaves (planOf planner) (now (scratch .entry))) ⌝ }
+{
+    if !formed(planner) {
+        return SearchAnswer::NoPlan;
+    }
+    if scratch.len() < 64 {
+        return SearchAnswer::ShortScratch;
+    }
+    let found = descend(planner, &mut scratch[..64]);
+    conclude(planner, found, &mut scratch[..64])
+}
