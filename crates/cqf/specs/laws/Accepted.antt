@@ -98,7 +98,6 @@ module _ (p : Plan) (formed : wellFormed p ≡ true) (T : ℕ) (long : 0 < T) wh
         where
           early : ¬ (own + length (routeOf p f) < c)
           early h = true≢false (sym (track-gone own (routeOf p f) c h) ∙ ap isGone (sym (place c (l .before) (l .starts))) ∙ l .there)
-
           late : ¬ (c < own + length (routeOf p f))
           late h =
               true≢false

@@ -149,7 +149,6 @@ module _ (p : Plan) (T : ℕ) (cycles : Cycles) where
           → after f k ≡ moved c before f k
       sent before true e f k = absurd (running≢stopped after (sym e))
       sent before false e f k = ap (λ (n : Network). placesOf n f k) (sym e)
-
       go
           : (n : Network)
           → run p T cycles c ≡ n

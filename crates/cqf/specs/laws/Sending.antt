@@ -52,7 +52,6 @@ no-overrun p T q bits sound l = go (ltb 0 bits) refl
     fits : (x : Bool) → x ≡ true → x && ltb (capacity p q T) (workload p q (demand p q T)) ≡ false → ltb (capacity p q T) (workload p q bits) ≡ false
     fits true h e = le-ltb _ _ (le-trans (workload-mono p q l) (ltb-false _ _ e))
     fits false h e = absurd (false≢true h)
-
     go : (x : Bool) → ltb 0 bits ≡ x → x && ltb (capacity p q T) (workload p q bits) ≡ false
     go true h = let some = ltb-true 0 bits h in fits (crossed p q) (demand-crossed p q T (omega arith)) (unfold fails in sound)
     go false h = refl
