@@ -2,3 +2,6 @@
 pub mod Stores
 pub mod Passes
 pub mod Walk
+pub mod Tables
+pub mod Slots
+pub mod Sound

@@ -120,11 +120,11 @@ module _ (tag : ℕ) (v : List ℕ) (at after : ℕ) {x : Field} {next : ℕ} wh
   flow-read k e =
       let a = unless-passes 4 at (hopsOk (hopsIn (length v)) && eqb (length v) (flowSize + 2 * hopsIn (length v))) _ e in
       let ok : Bool =
-          flowOk (number2 v 0) && periodOk (number4 v 2) && countOk (number2 v 6) && lengthOk (number2 v 8) && every portOk (routeIn v) in
+      flowOk (number2 v 0) && periodOk (number4 v 2) && countOk (number2 v 6) && lengthOk (number2 v 8) && every portOk (routeIn v) in
       let b = unless-passes 5 at ok _ (a .1) in
       let t =
-          and-five (flowOk (number2 v 0)) (periodOk (number4 v 2)) (countOk (number2 v 6)) (lengthOk (number2 v 8)) (every portOk (routeIn v))
-          (b .0) in
+      and-five (flowOk (number2 v 0)) (periodOk (number4 v 2)) (countOk (number2 v 6)) (lengthOk (number2 v 8)) (every portOk (routeIn v))
+      (b .0) in
       read-as tag v after (flow (number2 v 0) (number4 v 2) (number2 v 6) (number2 v 8) (hopsIn (length v)))
       (record {
         kind = k;
@@ -161,8 +161,8 @@ module _ (tag : ℕ) (v : List ℕ) (at after : ℕ) {x : Field} {next : ℕ} wh
           : (a : Bool)
           → eqb tag headerTag ≡ a
           → cond a (headerIn v at after)
-            (cond (eqb tag portTag) (portInValue v at after) (cond (eqb tag flowTag) (flowIn v at after) (refused 3 at)))
-            ≡ field x next
+          (cond (eqb tag portTag) (portInValue v at after) (cond (eqb tag flowTag) (flowIn v at after) (refused 3 at)))
+          ≡ field x next
           → Read tag v after x next
       go true k e = header-read (eqb-true _ _ k) e
       go false k e = middle (eqb tag portTag) refl e

@@ -35,7 +35,7 @@ unfolding row
 row-sets l i [] h = refl
 row-sets l i (a ∷ vs) h =
     let first : getD (sets (set l i a) (suc i) vs) i 0 ≡ a =
-        sets-outside (set l i a) (suc i) vs i (inl (omega arith)) ∙ getD-set-same l i a 0 (omega arith) in
+    sets-outside (set l i a) (suc i) vs i (inl (omega arith)) ∙ getD-set-same l i a 0 (omega arith) in
     let fits : suc i + length vs ≤ length (set l i a) = rw length-set (omega arith) in
     rw (first, row-sets (set l i a) (suc i) vs fits)
 

@@ -101,9 +101,9 @@ reads-from (suc n) s at d p m k enough e = go (reads-from n s) (ltb at (length s
         → (b : Bool)
         → ltb at (length s) ≡ b
         → elim b [
-            | true ↦ elim (stepAt s at d) [ stop number offset ↦ rejected number offset | more next d′ ↦ readFrom n s next d′ ]
-            | false ↦ closing s d
-          ] ≡ accepted p m k
+          | true ↦ elim (stepAt s at d) [ stop number offset ↦ rejected number offset | more next d′ ↦ readFrom n s next d′ ]
+          | false ↦ closing s d
+        ] ≡ accepted p m k
         → Ends s at d (accepted p m k)
     go again true q e = step again (ltb-true _ _ q) (stepAt s at d) refl e
     go again false q e = record { final = d; walk = Reads.done refl (ltb-false _ _ q); closes = e }
@@ -165,8 +165,8 @@ closing-accepted s e p m k h = eight (eqb (e .tables .top) 0) (eqb (e .flows) 0)
         → eqb (e .tables .top) 0 ≡ a
         → eqb (e .flows) 0 ≡ b
         → cond (a || b) (rejected 8 (length s))
-          (cond (ltb absent (length s)) (rejected 9 absent) (accepted (e .tables) (e .ports) (e .flows)))
-          ≡ accepted p m k
+        (cond (ltb absent (length s)) (rejected 9 absent) (accepted (e .tables) (e .ports) (e .flows)))
+        ≡ accepted p m k
         → Closes s e p m k
     eight true b p q h = let z : _≡_ {A = ℕ} 0 1 = cc in absurd (omega arith)
     eight false true p q h = let z : _≡_ {A = ℕ} 0 1 = cc in absurd (omega arith)
