@@ -1,0 +1,119 @@
+-- What a well-formed plan gives of each of its slots.
+use mathlib.Core.Path.{_≡_}
+use mathlib.Core.Logic.{_⊎_, inl, inr}
+use mathlib.Core.Bool.{Bool, true, _&&_, false≢true, and-eq-true-iff}
+use Prim.Native.Nat.{ℕ, _≤_, _<_}
+use native.Mathlib.Omega.{arith}
+use lib.Dec.{eqb}
+use borrow.Author.Tests.{eqb-true, ltb-true, leb-true, lt-ltb}
+use Rattle.cqf.specs.Bounded.{elem, distinct, every, row}
+use Rattle.cqf.specs.Limits.{portSlots, flowSlots, maxHops, periodOk, countOk, lengthOk, hopsOk}
+use Rattle.cqf.specs.Plan.{Plan, periodOf, countOf, lengthOf, hopsOf, routeOf, present, crosses, portIn, portSound, flowSound, wellFormed}
+use Rattle.cqf.specs.laws.Bounded.{or-cases, allTo-at}
+
+-- a slot without a flow
+pub record Empty (p : Plan) (f : ℕ) : Type 0 where
+  pub period : periodOf p f ≡ 0
+  pub count : countOf p f ≡ 0
+  pub bytes : lengthOf p f ≡ 0
+  pub hops : hopsOf p f ≡ 0
+
+-- a slot with a flow
+pub record Held (p : Plan) (f : ℕ) : Type 0 where
+  pub period-least : 1000 ≤ periodOf p f
+  pub period-most : periodOf p f ≤ 100000000
+  pub count-least : 1 ≤ countOf p f
+  pub count-most : countOf p f ≤ 64
+  pub bytes-least : 64 ≤ lengthOf p f
+  pub bytes-most : lengthOf p f ≤ 2000
+  pub hops-least : 1 ≤ hopsOf p f
+  pub hops-most : hopsOf p f ≤ maxHops
+  pub in-plan : every (portIn (p .rates)) (routeOf p f) ≡ true
+  pub once : distinct (routeOf p f) ≡ true
+
+-- its period is above 0
+pub held-period : (p : Plan) (f : ℕ) → Held p f → 0 < periodOf p f
+held-period p f flow = omega (arith, flow .period-least)
+
+-- the two tests of a slot, either of which makes it sound
+abbrev emptyTest : Plan → ℕ → Bool
+emptyTest p f = eqb (periodOf p f) 0 && eqb (countOf p f) 0 && eqb (lengthOf p f) 0 && eqb (hopsOf p f) 0
+
+abbrev heldTest : Plan → ℕ → Bool
+heldTest p f =
+    periodOk (periodOf p f)
+    && countOk (countOf p f)
+    && lengthOk (lengthOf p f)
+    && hopsOk (hopsOf p f)
+    && every (portIn (p .rates)) (routeOf p f)
+    && distinct (routeOf p f)
+
+-- what each test says
+empty : (p : Plan) (f : ℕ) → emptyTest p f ≡ true → Empty p f
+empty p f h =
+    let t = simp and-eq-true-iff at h in
+    record {
+      period = eqb-true _ _ (t .0 .0 .0);
+      count = eqb-true _ _ (t .0 .0 .1);
+      bytes = eqb-true _ _ (t .0 .1);
+      hops = eqb-true _ _ (t .1);
+    }
+
+held : (p : Plan) (f : ℕ) → heldTest p f ≡ true → Held p f
+held p f h =
+    let t = simp and-eq-true-iff at h in
+    record {
+      period-least = leb-true _ _ (t .0 .0 .0 .0 .0 .0);
+      period-most = leb-true _ _ (t .0 .0 .0 .0 .0 .1);
+      count-least = leb-true _ _ (t .0 .0 .0 .0 .1 .0);
+      count-most = leb-true _ _ (t .0 .0 .0 .0 .1 .1);
+      bytes-least = leb-true _ _ (t .0 .0 .0 .1 .0);
+      bytes-most = leb-true _ _ (t .0 .0 .0 .1 .1);
+      hops-least = leb-true _ _ (t .0 .0 .1 .0);
+      hops-most = leb-true _ _ (t .0 .0 .1 .1);
+      in-plan = t .0 .1;
+      once = t .1;
+    }
+
+module _ (p : Plan) (formed : wellFormed p ≡ true) where
+  -- each slot is sound
+  pub ports-sound : (q : ℕ) → q < portSlots → portSound p q ≡ true
+  unfolding wellFormed
+  ports-sound = let h = simp and-eq-true-iff at formed in allTo-at portSlots (portSound p) (h .0 .0 .1)
+
+  pub flows-sound : (f : ℕ) → f < flowSlots → flowSound p f ≡ true
+  unfolding wellFormed
+  flows-sound = let h = simp and-eq-true-iff at formed in allTo-at flowSlots (flowSound p) (h .0 .1)
+
+  -- each slot is empty or holds a flow in range
+  pub slot-cases : (f : ℕ) → f < flowSlots → Empty p f ⊎ Held p f
+  unfolding flowSound
+  slot-cases f l =
+      or-cases (emptyTest p f) (heldTest p f) (flows-sound f l) (λ h. inl (empty p f h)) (λ h. inr (held p f h))
+
+  -- a flow that is present is in its range
+  pub present-slot : (f : ℕ) → present p f ≡ true → f < flowSlots
+  present-slot f h = let t = simp and-eq-true-iff at h in ltb-true _ _ (t .0)
+
+  pub present-held : (f : ℕ) → present p f ≡ true → Held p f
+  present-held f h = go (slot-cases f (present-slot f h))
+    where
+      go : Empty p f ⊎ Held p f → Held p f
+      go (inl e) =
+          let t = simp and-eq-true-iff at h in
+          let l : 0 < periodOf p f = ltb-true _ _ (t .1) in
+          absurd (omega (arith, e .period))
+      go (inr e) = e
+
+  -- a flow that crosses a port is present
+  pub crosses-held : (f q : ℕ) → f < flowSlots → crosses p f q ≡ true → Held p f
+  unfolding row elem
+  crosses-held f q l h = go (slot-cases f l)
+    where
+      go : Empty p f ⊎ Held p f → Held p f
+      go (inl e) = absurd (false≢true (rw (e .hops) at h))
+      go (inr e) = e
+
+-- a slot that holds a flow is one of a flow that is present
+pub held-present : (p : Plan) (f : ℕ) → f < flowSlots → Held p f → present p f ≡ true
+held-present p f l e = rw (lt-ltb f flowSlots l, lt-ltb 0 (periodOf p f) (held-period p f e))
