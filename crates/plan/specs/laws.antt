@@ -1,0 +1,3 @@
+-- Laws of the definitions: numbers in bytes, heads, values, routes.
+pub mod Tests
+pub mod Whole
