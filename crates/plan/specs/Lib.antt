@@ -4,3 +4,4 @@ pub mod Field
 pub mod Answer
 pub mod Draft
 pub mod Reading
+pub mod laws
