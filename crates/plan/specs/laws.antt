@@ -1,4 +1,9 @@
--- Laws of the definitions: stores into a table, fields, the walk over them, and what an accepted plan is.
+-- Laws of the definitions: numbers in bytes, heads, values, routes; the walk over the fields and what an accepted plan is.
+pub mod Tests
+pub mod Whole
+pub mod Lists
+pub mod Route
+pub mod Tested
 pub mod Stores
 pub mod Passes
 pub mod Walk

@@ -3,4 +3,6 @@ pub mod Outcome
 pub mod Calls
 pub mod Answer
 pub mod Demand3
+pub mod PlanK
 pub mod laws
+pub mod Theorem

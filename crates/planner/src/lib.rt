@@ -3,6 +3,7 @@ use plan::Fault;
 
 // The held plan: port n in slot n - 1, flow n in slot n - 1, a flow's route at its slot times 16. An absent port has rate 0,
 // an absent flow period 0; top is 0 where no plan is held.
+#[repr(C)]
 pub struct Planner {
     pub guard: u32,
     pub top: u32,

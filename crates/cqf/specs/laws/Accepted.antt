@@ -1,28 +1,22 @@
 -- At an admissible duration the run of an emission that keeps every contract never stops, and each frame is on time.
 use mathlib.Core.Path.{_≡_, refl, sym, ap, _∙_}
-use mathlib.Core.Bool.{Bool, true, false, false≢true, true≢false}
+use mathlib.Core.Bool.{true, false, true≢false}
 use Prim.Native.Nat.{ℕ, zero, suc, _+_, _*_, _/_, _%_, _≤_, _<_}
 use native.Mathlib.Nat.{div-add-mod', mod-lt, add-mul, suc-mul}
 use native.Mathlib.Omega.{arith}
 use lib.ListN.{length, getD}
-use borrow.Author.Tests.{eqb-true}
-use Rattle.cqf.specs.Bounded.{countTo, anyTo}
 use Rattle.cqf.specs.Limits.{portSlots}
 use Rattle.cqf.specs.Plan.{Plan, routeOf, wellFormed}
-use Rattle.cqf.specs.Condition.{frames, fails, failing, admissible}
-use Rattle.cqf.specs.Emission.{Emission, Keeps, Cycles, cyclesOf}
+use Rattle.cqf.specs.Condition.{frames, admissible}
+use Rattle.cqf.specs.Emission.{Emission, Keeps, cyclesOf}
 use Rattle.cqf.specs.Run.{Places, source, isGone, running, run, overrun, overrunAt, queuedBits, Leaves}
 use Rattle.cqf.specs.LargeEnough.{OnTime}
-use Rattle.cqf.specs.laws.Bounded.{countTo-zero, anyTo-none}
-use Rattle.cqf.specs.laws.Formed.{Held, present-held}
+use Rattle.cqf.specs.laws.Bounded.{anyTo-none}
+use Rattle.cqf.specs.laws.Formed.{held-period, present-held}
 use Rattle.cqf.specs.laws.Arrivals.{at-most, cycle-of}
 use Rattle.cqf.specs.laws.Places.{track, moved, run-goes, run-track, track-there, track-gone}
-use Rattle.cqf.specs.laws.Sending.{emittedIn, bits-most, no-overrun}
-
--- no port fails at an admissible duration
-pub none-fails : (p : Plan) (T : ℕ) → admissible p T ≡ true → (q : ℕ) → q < portSlots → fails p T q ≡ false
-unfolding admissible failing
-none-fails p T good = countTo-zero portSlots (fails p T) (eqb-true _ _ good)
+use Rattle.cqf.specs.laws.Condition.{none-fails, no-overrun}
+use Rattle.cqf.specs.laws.Sending.{emittedIn, bits-most}
 
 -- the delay of a frame that leaves h cycles after its own lies within one cycle of h cycles
 delay
@@ -40,68 +34,71 @@ delay p T long t h end from to =
     let more = suc-mul h T in
     (omega arith, omega arith)
 
-module _ (p : Plan) (formed : wellFormed p ≡ true) (T : ℕ) (long : 0 < T) where
-  module _ (good : admissible p T ≡ true) (e : Emission) (keeps : Keeps p e) where
-    few : (f own : ℕ) → emittedIn (cyclesOf T e) f own ≤ frames p f T
-    few f own =
-        at-most p e keeps f T own
-        (λ h. let flow = present-held p formed f h in (flow .count-least, omega (arith, flow .period-least)))
-        long
+module _ (p : Plan) (formed : wellFormed p ≡ true) (T : ℕ) (long : 0 < T) (good : admissible p T ≡ true) (e : Emission) (keeps : Keeps p e) where
+  -- no flow emits more than its frames in a cycle
+  few : (f own : ℕ) → emittedIn (cyclesOf T e) f own ≤ frames p f T
+  few f own =
+      at-most p e keeps f T own
+      (λ h. let flow = present-held p formed f h in (flow .count-least, held-period p f flow))
+      long
 
-    -- no port leaves a frame unsent
-    none-unsent
-        : (c : ℕ) (places : Places)
-        → run p T (cyclesOf T e) c ≡ running places
-        → overrun p T (cyclesOf T e) places ≡ false
-    unfolding overrun
-    none-unsent c places goes =
-        anyTo-none
-        portSlots
-        (λ q. overrunAt p T (queuedBits p (cyclesOf T e) places q) q)
-        (λ q l. no-overrun p T q _ (none-fails p T good q l) (bits-most p T (cyclesOf T e) c places goes formed few q))
+  -- no port leaves a frame unsent
+  none-unsent
+      : (c : ℕ) (places : Places)
+      → run p T (cyclesOf T e) c ≡ running places
+      → overrun p T (cyclesOf T e) places ≡ false
+  unfolding overrun
+  none-unsent c places goes =
+      anyTo-none
+      portSlots
+      (λ q. overrunAt p T (queuedBits p (cyclesOf T e) places q) q)
+      (λ q l. no-overrun p T q _ (none-fails p T good q l) (bits-most p T (cyclesOf T e) c places goes formed few q))
 
-    -- the run goes on
-    pub goes-on : (c : ℕ) → (places : Places) × (run p T (cyclesOf T e) c ≡ running places)
-    unfolding run
-    goes-on zero = (λ f k. source, refl)
-    goes-on (suc c) =
+  -- the run goes on
+  pub goes-on : (c : ℕ) → (places : Places) × (run p T (cyclesOf T e) c ≡ running places)
+  unfolding run
+  goes-on zero = (λ f k. source, refl)
+  goes-on (suc c) =
+      let b = goes-on c in
+      (moved p T (cyclesOf T e) c (b .0), run-goes p T (cyclesOf T e) c (b .0) (b .1) (none-unsent c (b .0) (b .1)))
+
+  module _ (f k : ℕ) where
+    -- the cycle of its instant
+    abbrev own : ℕ
+    own = getD (e f) k 0 / T
+
+    -- where the frame is when cycle c starts
+    place : (c : ℕ) (places : Places) → run p T (cyclesOf T e) c ≡ running places → places f k ≡ track own (routeOf p f) c
+    place c places goes =
+        run-track p T (cyclesOf T e) c places goes f k ∙ ap (λ (r : ℕ). track r (routeOf p f) c) (cycle-of T (e f) k)
+
+    -- the frame leaves its last port as many cycles after its own as its route has ports
+    leaves : Leaves p T (cyclesOf T e) f k (own + length (routeOf p f))
+    leaves =
+        let c = own + length (routeOf p f) in
         let b = goes-on c in
-        (moved p T (cyclesOf T e) c (b .0), run-goes p T (cyclesOf T e) c (b .0) (b .1) (none-unsent c (b .0) (b .1)))
+        let a = goes-on (suc c) in
+        record {
+          before = b .0;
+          after = a .0;
+          starts = b .1;
+          ends = a .1;
+          there = rw (place c (b .0) (b .1)) (track-there own (routeOf p f) c (omega arith));
+          left = rw (place (suc c) (a .0) (a .1)) (track-gone own (routeOf p f) (suc c) (omega arith));
+        }
 
-    module _ (f k : ℕ) where
-      abbrev own : ℕ
-      own = getD (e f) k 0 / T
+    -- and in no other cycle
+    once : (c : ℕ) → Leaves p T (cyclesOf T e) f k c → c ≡ own + length (routeOf p f)
+    once c l = omega (arith, early, late)
+      where
+        early : ¬ (own + length (routeOf p f) < c)
+        early h = true≢false (sym (track-gone own (routeOf p f) c h) ∙ ap isGone (sym (place c (l .before) (l .starts))) ∙ l .there)
 
-      -- where the frame is when cycle c starts
-      place : (c : ℕ) (places : Places) → run p T (cyclesOf T e) c ≡ running places → places f k ≡ track own (routeOf p f) c
-      place c places goes =
-          run-track p T (cyclesOf T e) c places goes f k ∙ ap (λ (r : ℕ). track r (routeOf p f) c) (cycle-of T (e f) k)
+        late : ¬ (c < own + length (routeOf p f))
+        late h =
+            true≢false
+            (sym (l .left) ∙ ap isGone (place (suc c) (l .after) (l .ends)) ∙ track-there own (routeOf p f) (suc c) h)
 
-      -- the frame leaves its last port as many cycles after its own as its route has ports
-      leaves : Leaves p T (cyclesOf T e) f k (own + length (routeOf p f))
-      leaves =
-          let c = own + length (routeOf p f) in
-          let b = goes-on c in
-          let a = goes-on (suc c) in
-          record {
-            before = b .0;
-            after = a .0;
-            starts = b .1;
-            ends = a .1;
-            there = rw (place c (b .0) (b .1)) (track-there own (routeOf p f) c (omega arith));
-            left = rw (place (suc c) (a .0) (a .1)) (track-gone own (routeOf p f) (suc c) (omega arith));
-          }
-
-      -- and in no other cycle
-      once : (c : ℕ) → Leaves p T (cyclesOf T e) f k c → c ≡ own + length (routeOf p f)
-      once c l = omega (arith, early, late)
-        where
-          early : ¬ (own + length (routeOf p f) < c)
-          early h = true≢false (sym (track-gone own (routeOf p f) c h) ∙ ap isGone (sym (place c (l .before) (l .starts))) ∙ l .there)
-          late : ¬ (c < own + length (routeOf p f))
-          late h =
-              true≢false
-              (sym (l .left) ∙ ap isGone (place (suc c) (l .after) (l .ends)) ∙ track-there own (routeOf p f) (suc c) h)
-
-      pub on-time : OnTime p T (cyclesOf T e) f k (getD (e f) k 0) (length (routeOf p f))
-      on-time = record { leaves = leaves; once = once; delay = delay p T long (getD (e f) k 0) (length (routeOf p f)) }
+    -- so every frame is on time
+    pub on-time : OnTime p T (cyclesOf T e) f k (getD (e f) k 0) (length (routeOf p f))
+    on-time = record { leaves = leaves; once = once; delay = delay p T long (getD (e f) k 0) (length (routeOf p f)) }

@@ -1,33 +1,16 @@
 -- Laws of sums, counts, tests and searches over the numbers below a bound.
-use mathlib.Core.Path.{_≡_, refl, sym, ap, _∙_}
-use mathlib.Core.Bool.{Bool, true, false, cond, not, _&&_, _||_, false≢true, or-true}
-use Prim.Native.Nat.{ℕ, zero, suc, _+_, _≤_, _<_, zero-le}
-use native.Mathlib.Nat.{not-suc-le-zero, le-of-suc-le-suc, eq-or-lt-of-le}
+use mathlib.Core.Path.{_≡_, refl}
+use mathlib.Core.Bool.{Bool, true, false, cond, _||_, false≢true, or-true, and-eq-true-iff}
+use Prim.Native.Nat.{ℕ, zero, suc, _≤_, _<_, zero-le}
+use native.Mathlib.Nat.{not-suc-le-zero}
 use native.Mathlib.Decide.{decLt, ℕ-discrete}
 use native.Mathlib.Omega.{arith}
 use Rattle.cqf.specs.Bounded.{sumTo, countTo, anyTo, allTo, lowest}
-
--- a conjunction that holds, by its parts
-pub and-left : (a b : Bool) → a && b ≡ true → a ≡ true
-and-left true b e = refl
-and-left false b e = e
-
-pub and-right : (a b : Bool) → a && b ≡ true → b ≡ true
-and-right true b e = e
-and-right false b e = let z : b ≡ true = cc in z
-
-pub and-both : (a b : Bool) → a ≡ true → b ≡ true → a && b ≡ true
-and-both a b e d = rw (e, d)
 
 -- a disjunction that holds, by the part that does
 pub or-cases : {C : Type 0} (a b : Bool) → a || b ≡ true → (a ≡ true → C) → (b ≡ true → C) → C
 or-cases true b e left right = left refl
 or-cases false b e left right = right e
-
--- a test that does not pass fails
-pub not-true-false : (a : Bool) → (a ≡ true → ⊥) → a ≡ false
-not-true-false true h = absurd (h refl)
-not-true-false false h = refl
 
 -- a property of the numbers below n + 1: of those below n, and of n
 below : (P : ℕ → Type 0) (n : ℕ) → ((i : ℕ) → i < n → P i) → P n → (i : ℕ) → i < suc n → P i
@@ -147,8 +130,8 @@ allTo-at (suc n) b e i l =
     below
     (λ i. b i ≡ true)
     n
-    (allTo-at n b (and-left (allTo n b) (b n) e))
-    (and-right (allTo n b) (b n) e)
+    (allTo-at n b (and-eq-true-iff (allTo n b) (b n) .0 e .0))
+    (and-eq-true-iff (allTo n b) (b n) .0 e .1)
     i
     l
 

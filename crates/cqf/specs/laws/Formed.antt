@@ -1,18 +1,15 @@
 -- What a well-formed plan gives of each of its slots.
-use mathlib.Core.Path.{_≡_, refl, sym, ap, _∙_}
+use mathlib.Core.Path.{_≡_}
 use mathlib.Core.Logic.{_⊎_, inl, inr}
-use mathlib.Core.Bool.{Bool, true, false, _&&_, _||_, false≢true, true≢false, and-eq-true-iff}
-use mathlib.Core.List.{List, [], _∷_}
-use Prim.Native.Nat.{ℕ, zero, suc, _*_, _≤_, _<_}
+use mathlib.Core.Bool.{Bool, true, _&&_, false≢true, and-eq-true-iff}
+use Prim.Native.Nat.{ℕ, _≤_, _<_}
 use native.Mathlib.Omega.{arith}
-use lib.ListN.{length}
-use lib.Dec.{ltb, eqb}
+use lib.Dec.{eqb}
 use borrow.Author.Tests.{eqb-true, ltb-true, leb-true, lt-ltb}
 use Rattle.cqf.specs.Bounded.{elem, distinct, every, row}
 use Rattle.cqf.specs.Limits.{portSlots, flowSlots, maxHops, periodOk, countOk, lengthOk, hopsOk}
-use Rattle.cqf.specs.Plan.{Plan, rateOf, blockingOf, periodOf, countOf, lengthOf, hopsOf, routeOf, present, crosses, portIn, portSound, flowSound, wellFormed}
+use Rattle.cqf.specs.Plan.{Plan, periodOf, countOf, lengthOf, hopsOf, routeOf, present, crosses, portIn, portSound, flowSound, wellFormed}
 use Rattle.cqf.specs.laws.Bounded.{or-cases, allTo-at}
-use Rattle.cqf.specs.laws.Lists.{row-length}
 
 -- a slot without a flow
 pub record Empty (p : Plan) (f : ℕ) : Type 0 where
@@ -34,6 +31,10 @@ pub record Held (p : Plan) (f : ℕ) : Type 0 where
   pub in-plan : every (portIn (p .rates)) (routeOf p f) ≡ true
   pub once : distinct (routeOf p f) ≡ true
 
+-- its period is above 0
+pub held-period : (p : Plan) (f : ℕ) → Held p f → 0 < periodOf p f
+held-period p f flow = omega (arith, flow .period-least)
+
 -- the two tests of a slot, either of which makes it sound
 abbrev emptyTest : Plan → ℕ → Bool
 emptyTest p f = eqb (periodOf p f) 0 && eqb (countOf p f) 0 && eqb (lengthOf p f) 0 && eqb (hopsOf p f) 0
@@ -47,6 +48,7 @@ heldTest p f =
     && every (portIn (p .rates)) (routeOf p f)
     && distinct (routeOf p f)
 
+-- what each test says
 empty : (p : Plan) (f : ℕ) → emptyTest p f ≡ true → Empty p f
 empty p f h =
     let t = simp and-eq-true-iff at h in
@@ -74,6 +76,7 @@ held p f h =
     }
 
 module _ (p : Plan) (formed : wellFormed p ≡ true) where
+  -- each slot is sound
   pub ports-sound : (q : ℕ) → q < portSlots → portSound p q ≡ true
   unfolding wellFormed
   ports-sound = let h = simp and-eq-true-iff at formed in allTo-at portSlots (portSound p) (h .0 .0 .1)
@@ -113,4 +116,4 @@ module _ (p : Plan) (formed : wellFormed p ≡ true) where
 
 -- a slot that holds a flow is one of a flow that is present
 pub held-present : (p : Plan) (f : ℕ) → f < flowSlots → Held p f → present p f ≡ true
-held-present p f l e = rw (lt-ltb f flowSlots l, lt-ltb 0 (periodOf p f) (omega (arith, e .period-least)))
+held-present p f l e = rw (lt-ltb f flowSlots l, lt-ltb 0 (periodOf p f) (held-period p f e))

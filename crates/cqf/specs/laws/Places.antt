@@ -12,7 +12,7 @@ use lib.Dec.{eqb}
 use borrow.Author.Tests.{ne-eqb, eq-eqb, eqb-true}
 use Rattle.cqf.specs.Plan.{Plan, routeOf}
 use Rattle.cqf.specs.Emission.{Cycles}
-use Rattle.cqf.specs.Run.{Place, source, queued, gone, Places, handed, advance, isQueuedAt, isGone, Network, running, stopped, overrun, next, run}
+use Rattle.cqf.specs.Run.{Place, source, Places, handed, advance, isQueuedAt, isGone, Network, running, stopped, overrun, next, run}
 
 -- the places of a network, those of a start where it has stopped
 abbrev placesOf : Network → Places
@@ -28,7 +28,7 @@ unfoldable pub track : ℕ → List ℕ → ℕ → Place
 track own route zero = source
 track own route (suc c) = advance (eqb own c) route (track own route c)
 
--- a frame keeps its place up to its own cycle
+-- a frame is at its source up to its own cycle
 pub track-before : (own : ℕ) (route : List ℕ) (c : ℕ) → c ≤ own → track own route c ≡ source
 unfolding track
 track-before own route zero l = refl
@@ -36,7 +36,9 @@ track-before own route (suc c) l =
     rw (track-before own route c (omega arith), ne-eqb own c (λ e. omega arith))
 
 -- handed on once more
-handed-next : (emitted : Bool) (route rest : List ℕ) (i : ℕ) → advance emitted route (handed (drop i rest)) ≡ handed (drop (suc i) rest)
+handed-next
+    : (emitted : Bool) (route rest : List ℕ) (i : ℕ)
+    → advance emitted route (handed (drop i rest)) ≡ handed (drop (suc i) rest)
 handed-next emitted route [] zero = refl
 handed-next emitted route [] (suc i) = refl
 handed-next emitted route (x ∷ xs) zero = refl
@@ -60,8 +62,11 @@ since own c = go (decLe c own)
     go (yes l) = inl l
     go (no n) = inr (c - suc own, omega arith)
 
--- handed on i times it is at port i of its route, and gone from the last on
-handed-queued : (n : ℕ) (route : List ℕ) (i : ℕ) → isQueuedAt n (handed (drop i route)) ≡ true → (i < length route) × (getD route i 0 ≡ n)
+-- handed on i times a frame is at port i of its route, and not gone while there is one
+handed-queued
+    : (n : ℕ) (route : List ℕ) (i : ℕ)
+    → isQueuedAt n (handed (drop i route)) ≡ true
+    → (i < length route) × (getD route i 0 ≡ n)
 handed-queued n [] zero h = absurd (false≢true h)
 handed-queued n [] (suc i) h = absurd (false≢true h)
 handed-queued n (x ∷ xs) zero h = (omega arith, sym (eqb-true n x h))
@@ -84,7 +89,9 @@ pub track-queued
     → (i : ℕ) × (i < length route) × (getD route i 0 ≡ n) × (c ≡ suc (own + i))
 track-queued n own route c h = go (since own c)
   where
-    go : (c ≤ own) ⊎ ((i : ℕ) × (c ≡ suc (own + i))) → (i : ℕ) × (i < length route) × (getD route i 0 ≡ n) × (c ≡ suc (own + i))
+    go
+        : (c ≤ own) ⊎ ((i : ℕ) × (c ≡ suc (own + i)))
+        → (i : ℕ) × (i < length route) × (getD route i 0 ≡ n) × (c ≡ suc (own + i))
     go (inl l) = absurd (false≢true (rw (track-before own route c l) at h))
     go (inr (i, e)) =
         let r = handed-queued n route i (rw (e, track-after own route i) at h) in
@@ -149,6 +156,7 @@ module _ (p : Plan) (T : ℕ) (cycles : Cycles) where
           → after f k ≡ moved c before f k
       sent before true e f k = absurd (running≢stopped after (sym e))
       sent before false e f k = ap (λ (n : Network). placesOf n f k) (sym e)
+
       go
           : (n : Network)
           → run p T cycles c ≡ n

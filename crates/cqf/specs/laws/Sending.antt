@@ -1,24 +1,24 @@
 -- The bits that a port must send in a cycle, against its demand. What a run asks of the emission here is only how many frames
 -- of each flow have one cycle for their own.
-use mathlib.Core.Path.{_≡_, refl, sym, ap, _∙_}
-use mathlib.Core.Bool.{Bool, true, false, cond, _&&_, false≢true}
-use mathlib.Core.List.{List, []}
-use Prim.Native.Nat.{ℕ, zero, suc, _+_, _-_, _*_, _≤_, _<_, zero-le}
-use native.Mathlib.Nat.{mul-le-mul-right, zero-mul, not-suc-le-zero, le-of-eq, le-trans}
+use mathlib.Core.Path.{_≡_, refl, sym, _∙_}
+use mathlib.Core.Bool.{Bool, true, false, cond}
+use mathlib.Mathlib.Data.Bool.Basic.{eq-false-of-not-eq-true}
+use Prim.Native.Nat.{ℕ, suc, _+_, _-_, _*_, _≤_, _<_, zero-le}
+use native.Mathlib.Nat.{mul-le-mul-right, zero-mul, le-of-eq, le-trans}
 use native.Mathlib.Omega.{arith}
 use lib.ListN.{length, getD}
-use lib.Dec.{eqb, ltb}
-use borrow.Author.Tests.{eq-eqb, eqb-true, ltb-true, ltb-false, lt-ltb, le-ltb}
-use Rattle.cqf.specs.Bounded.{sumTo, countTo, anyTo, elem, distinct}
+use lib.Dec.{eqb}
+use borrow.Author.Tests.{eq-eqb, eqb-true}
+use Rattle.cqf.specs.Bounded.{countTo, distinct}
 use Rattle.cqf.specs.Limits.{flowSlots}
 use Rattle.cqf.specs.Plan.{Plan, routeOf, crosses, wellFormed}
-use Rattle.cqf.specs.Condition.{wireBits, frames, demand, capacity, workload, crossed, fails}
+use Rattle.cqf.specs.Condition.{wireBits, frames, demand}
 use Rattle.cqf.specs.Emission.{Cycles}
-use Rattle.cqf.specs.Run.{Places, isQueuedAt, running, run, queuedBits, overrunAt}
-use Rattle.cqf.specs.laws.Bounded.{not-true-false, sumTo-le, sumTo-pos, countTo-le, countTo-none, anyTo-some}
+use Rattle.cqf.specs.Run.{Places, isQueuedAt, running, run, queuedBits}
+use Rattle.cqf.specs.laws.Bounded.{sumTo-le, countTo-le, countTo-none}
 use Rattle.cqf.specs.laws.Lists.{elem-index, elem-none, distinct-index}
-use Rattle.cqf.specs.laws.Formed.{Held, crosses-held}
-use Rattle.cqf.specs.laws.Places.{track, run-track, track-queued, queued-track}
+use Rattle.cqf.specs.laws.Formed.{crosses-held}
+use Rattle.cqf.specs.laws.Places.{run-track, track-queued, queued-track}
 
 -- how many frames of flow f are emitted in cycle c
 abbrev pub emittedIn : Cycles → ℕ → ℕ → ℕ
@@ -28,36 +28,9 @@ emittedIn cycles f c = countTo (length (cycles f)) (λ k. eqb (getD (cycles f) k
 abbrev pub queuedOf : Cycles → Places → ℕ → ℕ → ℕ
 queuedOf cycles places f q = countTo (length (cycles f)) (λ k. isQueuedAt (suc q) (places f k))
 
--- more bits are more work
-pub workload-mono : (p : Plan) (q : ℕ) {a b : ℕ} → a ≤ b → workload p q a ≤ workload p q b
-unfolding workload
-workload-mono p q l = omega arith
-
--- a port with a demand is crossed
-pub demand-crossed : (p : Plan) (q T : ℕ) → 0 < demand p q T → crossed p q ≡ true
-unfolding demand crossed
-demand-crossed p q T l =
-    let s = sumTo-pos flowSlots (λ f. cond (crosses p f q) (frames p f T * wireBits p f q) 0) l in
-    anyTo-some flowSlots (λ f. crosses p f q) (s .0) (s .1) (some (crosses p (s .0) q) _ (s .2))
-  where
-    some : (x : Bool) (n : ℕ) → 0 < cond x n 0 → x ≡ true
-    some true n h = refl
-    some false n h = absurd (not-suc-le-zero h)
-
--- a port that does not fail leaves nothing unsent of bits up to its demand
-pub no-overrun : (p : Plan) (T q bits : ℕ) → fails p T q ≡ false → bits ≤ demand p q T → overrunAt p T bits q ≡ false
-unfolding overrunAt
-no-overrun p T q bits sound l = go (ltb 0 bits) refl
-  where
-    fits : (x : Bool) → x ≡ true → x && ltb (capacity p q T) (workload p q (demand p q T)) ≡ false → ltb (capacity p q T) (workload p q bits) ≡ false
-    fits true h e = le-ltb _ _ (le-trans (workload-mono p q l) (ltb-false _ _ e))
-    fits false h e = absurd (false≢true h)
-    go : (x : Bool) → ltb 0 bits ≡ x → x && ltb (capacity p q T) (workload p q bits) ≡ false
-    go true h = let some = ltb-true 0 bits h in fits (crossed p q) (demand-crossed p q T (omega arith)) (unfold fails in sound)
-    go false h = refl
-
 module _ (p : Plan) (T : ℕ) (cycles : Cycles) (c : ℕ) (places : Places) (goes : run p T cycles c ≡ running places) where
-  -- where port q stands at i on the route, what flow f has queued there was emitted i + 1 cycles before, and all of it is
+  -- where the port in slot q stands at i on the route, flow f has queued there what it emitted i + 1 cycles before: no more,
+  -- since it crosses the port once, and no less
   pub queued-emitted
       : (f q i : ℕ)
       → distinct (routeOf p f) ≡ true
@@ -66,7 +39,11 @@ module _ (p : Plan) (T : ℕ) (cycles : Cycles) (c : ℕ) (places : Places) (goe
       → queuedOf cycles places f q ≤ emittedIn cycles f (c - suc i)
   queued-emitted f q i once l at = countTo-le (length (cycles f)) _ _ own
     where
-      own : (k : ℕ) → k < length (cycles f) → isQueuedAt (suc q) (places f k) ≡ true → eqb (getD (cycles f) k 0) (c - suc i) ≡ true
+      own
+          : (k : ℕ)
+          → k < length (cycles f)
+          → isQueuedAt (suc q) (places f k) ≡ true
+          → eqb (getD (cycles f) k 0) (c - suc i) ≡ true
       own k _ h =
           let t = track-queued (suc q) (getD (cycles f) k 0) (routeOf p f) c (rw (run-track p T cycles c places goes f k) at h) in
           let same : i ≡ t .0 = distinct-index (routeOf p f) once i (t .0) l (t .1) (at ∙ sym (t .2)) in
@@ -87,7 +64,7 @@ module _ (p : Plan) (T : ℕ) (cycles : Cycles) (c : ℕ) (places : Places) (goe
 
   -- a flow has nothing queued at a port that it does not cross
   pub queued-none : (f q : ℕ) → crosses p f q ≡ false → queuedOf cycles places f q ≡ 0
-  queued-none f q h = countTo-none (length (cycles f)) _ (λ k _. not-true-false _ (no k))
+  queued-none f q h = countTo-none (length (cycles f)) _ (λ k _. eq-false-of-not-eq-true (no k))
     where
       no : (k : ℕ) → isQueuedAt (suc q) (places f k) ≡ true → ⊥
       no k j =

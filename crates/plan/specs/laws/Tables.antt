@@ -1,18 +1,17 @@
 -- The tables keep their sizes, and a stored field stands in its own slot and changes no other.
-use mathlib.Core.Path.{_≡_, refl, sym, ap, _∙_}
+use mathlib.Core.Path.{_≡_, sym, _∙_}
 use mathlib.Core.Logic.{_≢_, _⊎_, inl, inr}
-use mathlib.Core.List.{List, [], _∷_}
-use Prim.Native.Nat.{ℕ, zero, suc, _+_, _-_, _*_, _≤_, _<_}
+use mathlib.Core.List.{List}
+use Prim.Native.Nat.{ℕ, _+_, _-_, _*_, _≤_, _<_}
 use native.Mathlib.Omega.{arith}
 use native.Mathlib.Decide.{decLt}
 use lib.ListN.{length, getD, set, length-set, length-replicate}
 use lib.Seq.{sets, length-sets, getD-set-same, getD-set-other}
-use Rattle.cqf.specs.Bounded.{row}
 use Rattle.cqf.specs.Limits.{portSlots, flowSlots, maxHops}
-use Rattle.cqf.specs.Plan.{Plan, noPlan, rateOf, blockingOf, periodOf, countOf, lengthOf, hopsOf, routeOf}
-use Rattle.plan.specs.Bytes.{numbers2}
-use Rattle.plan.specs.Field.{Field, header, port, flow, flowSize, hopsIn, routeIn}
+use Rattle.cqf.specs.Plan.{Plan, noPlan, periodOf, countOf, lengthOf, hopsOf, routeOf}
+use Rattle.plan.specs.Field.{Field, header, port, flow, hopsIn, routeIn}
 use Rattle.plan.specs.Draft.{store}
+use Rattle.plan.specs.laws.Route.{route-length}
 use Rattle.plan.specs.laws.Stores.{Outside, sets-outside, row-sets, row-same}
 
 -- the tables are of the sizes of document 01
@@ -70,17 +69,6 @@ sized-store p (flow n t c l k) v h =
       hops = length-set (p .hops) (n - 1) k ∙ h .hops;
       routes = length-sets (p .routes) ((n - 1) * maxHops) (routeIn v) ∙ h .routes;
     }
-
--- as many numbers as asked for
-numbers2-length : (v : List ℕ) (at h : ℕ) → length (numbers2 v at h) ≡ h
-unfolding numbers2
-numbers2-length v at zero = refl
-numbers2-length v at (suc h) = ap suc (numbers2-length v (at + 2) h)
-
--- a route has the hops of its value
-pub route-length : (v : List ℕ) → length (routeIn v) ≡ hopsIn (length v)
-unfolding routeIn
-route-length v = numbers2-length v flowSize (hopsIn (length v))
 
 -- the slot of the stored flow
 module _ (p : Plan) (sized : Sized p) (n t c l h : ℕ) (v : List ℕ) (fits : n - 1 < flowSlots) where

@@ -1,0 +1,97 @@
+-- Laws of the condition: demand, workload, and the ports that fail.
+use mathlib.Core.Path.{_≡_, refl}
+use mathlib.Core.Bool.{Bool, true, false, cond, _&&_, false≢true, and-eq-true-iff}
+use Prim.Native.Nat.{ℕ, _*_, _≤_, _<_}
+use native.Mathlib.Nat.{mul-pos, not-suc-le-zero, le-trans}
+use native.Mathlib.Omega.{arith}
+use lib.Dec.{eqb, ltb}
+use borrow.Author.Tests.{eqb-true, eqb-false, ltb-true, ltb-false, lt-ltb, le-ltb}
+use Rattle.cqf.specs.Bounded.{countTo}
+use Rattle.cqf.specs.Limits.{portSlots, flowSlots}
+use Rattle.cqf.specs.Plan.{Plan, crosses, wellFormed}
+use Rattle.cqf.specs.Condition.{bitsOf, wireBits, frames, demand, capacity, workload, crossed, fails, failing, admissible}
+use Rattle.cqf.specs.Run.{overrunAt}
+use Rattle.cqf.specs.laws.Bounded.{countTo-zero, countTo-pos, sumTo-term, sumTo-pos, anyTo-true, anyTo-some}
+use Rattle.cqf.specs.laws.Formed.{Held, held-period, crosses-held}
+use Rattle.cqf.specs.laws.Ceil.{ceil-positive}
+
+-- more bits are more work
+pub workload-mono : (p : Plan) (q : ℕ) {a b : ℕ} → a ≤ b → workload p q a ≤ workload p q b
+unfolding workload
+workload-mono p q l = omega arith
+
+-- a frame has bits on the wire, a flow has frames, and so a crossed port has a demand
+pub wireBits-pos : (p : Plan) (f q : ℕ) → 0 < wireBits p f q
+unfolding wireBits bitsOf
+wireBits-pos p f q = omega arith
+
+pub frames-pos : (p : Plan) (f : ℕ) {T : ℕ} → Held p f → 0 < T → 0 < frames p f T
+unfolding frames
+frames-pos p f flow long =
+    mul-pos (flow .count-least) (ceil-positive long (held-period p f flow))
+
+pub demand-pos : (p : Plan) (q T : ℕ) → wellFormed p ≡ true → 0 < T → crossed p q ≡ true → 0 < demand p q T
+unfolding demand crossed
+demand-pos p q T formed long h =
+    let s = anyTo-true flowSlots (λ f. crosses p f q) h in
+    let term = sumTo-term flowSlots (λ f. cond (crosses p f q) (frames p f T * wireBits p f q) 0) (s .0) (s .1) in
+    le-trans
+    (mul-pos (frames-pos p (s .0) (crosses-held p formed (s .0) q (s .1) (s .2)) long) (wireBits-pos p (s .0) q))
+    (rw (s .2) at term)
+
+-- a port with a demand is crossed
+pub demand-crossed : (p : Plan) (q T : ℕ) → 0 < demand p q T → crossed p q ≡ true
+unfolding demand crossed
+demand-crossed p q T l =
+    let s = sumTo-pos flowSlots (λ f. cond (crosses p f q) (frames p f T * wireBits p f q) 0) l in
+    anyTo-some flowSlots (λ f. crosses p f q) (s .0) (s .1) (some (crosses p (s .0) q) _ (s .2))
+  where
+    some : (x : Bool) (n : ℕ) → 0 < cond x n 0 → x ≡ true
+    some true n h = refl
+    some false n h = absurd (not-suc-le-zero h)
+
+-- no port fails at an admissible duration
+pub none-fails : (p : Plan) (T : ℕ) → admissible p T ≡ true → (q : ℕ) → q < portSlots → fails p T q ≡ false
+unfolding admissible failing
+none-fails p T good = countTo-zero portSlots (fails p T) (eqb-true _ _ good)
+
+-- a number that is not 0 is above it
+above-zero : (n : ℕ) → eqb n 0 ≡ false → 0 < n
+above-zero n h = let e : ¬ (n ≡ 0) = eqb-false n 0 h in omega arith
+
+-- some port fails at a duration that is not admissible
+pub some-fails : (p : Plan) (T : ℕ) → admissible p T ≡ false → (q : ℕ) × (q < portSlots) × (fails p T q ≡ true)
+unfolding admissible failing
+some-fails p T bad = countTo-pos portSlots (fails p T) (above-zero (countTo portSlots (fails p T)) bad)
+
+-- a port that does not fail leaves nothing unsent of bits up to its demand
+pub no-overrun : (p : Plan) (T q bits : ℕ) → fails p T q ≡ false → bits ≤ demand p q T → overrunAt p T bits q ≡ false
+unfolding overrunAt
+no-overrun p T q bits sound l = go (ltb 0 bits) refl
+  where
+    fits
+        : (x : Bool)
+        → x ≡ true
+        → x && ltb (capacity p q T) (workload p q (demand p q T)) ≡ false
+        → ltb (capacity p q T) (workload p q bits) ≡ false
+    fits true h e = le-ltb _ _ (le-trans (workload-mono p q l) (ltb-false _ _ e))
+    fits false h e = absurd (false≢true h)
+
+    go : (x : Bool) → ltb 0 bits ≡ x → x && ltb (capacity p q T) (workload p q bits) ≡ false
+    go true h = let some = ltb-true 0 bits h in fits (crossed p q) (demand-crossed p q T (omega arith)) (unfold fails in sound)
+    go false h = refl
+
+-- a port that fails leaves a frame unsent of bits from its demand up
+pub overrun-at
+    : (p : Plan) (q T : ℕ)
+    → wellFormed p ≡ true
+    → 0 < T
+    → (bits : ℕ)
+    → fails p T q ≡ true
+    → demand p q T ≤ bits
+    → overrunAt p T bits q ≡ true
+unfolding overrunAt fails
+overrun-at p q T formed long bits failed l =
+    let h = and-eq-true-iff (crossed p q) (ltb (capacity p q T) (workload p q (demand p q T))) .0 failed in
+    and-eq-true-iff (ltb 0 bits) (ltb (capacity p q T) (workload p q bits)) .1
+    (lt-ltb _ _ (le-trans (demand-pos p q T formed long (h .0)) l), lt-ltb _ _ (le-trans (ltb-true _ _ (h .1)) (workload-mono p q l)))

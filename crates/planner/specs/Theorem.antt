@@ -1,0 +1,59 @@
+-- Demand 3: after every row of calls, the answer of the plain question to a duration of the held plan means what it says of
+-- every emission and its whole run.
+use mathlib.Core.Path.{_≡_, refl, sym, _∙_, subst}
+use mathlib.Core.Logic.{_↔_}
+use mathlib.Core.List.{List, [], _∷_}
+use mathlib.Core.Bool.{Bool, true, false, cond, true≢false}
+use Prim.Native.Nat.{ℕ, _≤_, _<_}
+use native.Mathlib.Omega.{arith}
+use borrow.Author.Tests.{le-leb}
+use Rattle.cqf.specs.Bounded.{within}
+use Rattle.cqf.specs.Plan.{Plan, wellFormed}
+use Rattle.cqf.specs.Condition.{admissible, failing, lowestFailing}
+use Rattle.cqf.specs.LargeEnough.{Counterexample, LargeEnough}
+use Rattle.cqf.specs.Theorem.{large-enough}
+use Rattle.plan.specs.laws.Sound.{accepted-formed}
+use Rattle.planner.specs.Outcome.{Answer, result, refusal, failingAt, checkAnswer}
+use Rattle.planner.specs.Demand3.{Refuses, Means, Demand3}
+use Rattle.planner.specs.laws.Rows.{after-held}
+
+-- the plain question of a well-formed plan, at a duration from 1 to its top
+abbrev plainAnswer : Plan → ℕ → Answer (Unit {0})
+plainAnswer p T = cond (admissible p T) (result tt) (failingAt 21 p T)
+
+check-plain : (p : Plan) (T : ℕ) → wellFormed p ≡ true → 1 ≤ T → T ≤ p .top → checkAnswer p T ≡ plainAnswer p T
+unfolding checkAnswer
+check-plain p T formed low high = rw (formed, le-leb 1 T low, le-leb T (p .top) high)
+
+-- its answer means what the theorem says
+plain-means : (p : Plan) (T : ℕ) → LargeEnough p T → Means p T (plainAnswer p T)
+plain-means p T h = go (admissible p T) refl
+  where
+    go : (b : Bool) → admissible p T ≡ b → Means p T (cond b (result tt) (failingAt 21 p T))
+    go true e =
+        record {
+          refused = (
+            λ r. let z : _≡_ {A = ℕ} 0 1 = cc (r .is) in absurd (omega arith),
+            λ c. absurd (true≢false (sym e ∙ h .refused .1 c))
+          );
+          accepted = (λ r c. true≢false (sym e ∙ h .refused .1 c), λ none. refl);
+          on-time = λ r. h .accepted e;
+        }
+    go false e =
+        record {
+          refused = (
+            λ r. h .refused .0 e,
+            λ c. record { lowest = lowestFailing p T; count = failing p T; is = refl }
+          );
+          accepted = (
+            λ r. let z : _≡_ {A = ℕ} 0 1 = cc in absurd (omega arith),
+            λ none. absurd (none (h .refused .0 e))
+          );
+          on-time = λ r. let z : _≡_ {A = ℕ} 0 1 = cc in absurd (omega arith);
+        }
+
+pub demand3 : (tables : Plan) (T : ℕ) → Demand3 tables T (checkAnswer tables T)
+demand3 tables T calls bytes p ports flows left held reads low high =
+    let formed : wellFormed p ≡ true = accepted-formed bytes p ports flows reads in
+    let same : tables ≡ p = left ∙ after-held calls bytes held p ports flows reads in
+    rw (same, check-plain p T formed low high) (plain-means p T (large-enough p formed T low))
