@@ -21,9 +21,15 @@ use Rattle.planner.specs.laws.Rows.{after-held}
 abbrev plainAnswer : Plan → ℕ → Answer (Unit {0})
 plainAnswer p T = cond (admissible p T) (result tt) (failingAt 21 p T)
 
+-- two tests that hold are passed
+both-pass : {A : Type 0} (a b : Bool) (x y z : A) → a ≡ true → b ≡ true → cond a (cond b x y) z ≡ x
+both-pass a b x y z e d = rw (e, d)
+
 check-plain : (p : Plan) (T : ℕ) → wellFormed p ≡ true → 1 ≤ T → T ≤ p .top → checkAnswer p T ≡ plainAnswer p T
 unfolding checkAnswer
-check-plain p T formed low high = rw (formed, le-leb 1 T low, le-leb T (p .top) high)
+check-plain p T formed low high =
+    let ranged : within 1 (p .top) T ≡ true = rw (le-leb 1 T low, le-leb T (p .top) high) in
+    both-pass (wellFormed p) (within 1 (p .top) T) (plainAnswer p T) (refusal 10 (0 ∷ [])) (refusal 20 (0 ∷ [])) formed ranged
 
 -- its answer means what the theorem says
 plain-means : (p : Plan) (T : ℕ) → LargeEnough p T → Means p T (plainAnswer p T)

@@ -9,9 +9,9 @@ use lib.ListN.{length}
 use borrow.Author.Tests.{eqb-true}
 use Rattle.cqf.specs.Bounded.{every}
 use Rattle.cqf.specs.Limits.{guardOk, topOk, portOk, rateOk, lengthOk, blockingOk, flowOk, periodOk, countOk, hopsOk}
-use Rattle.cqf.specs.laws.Bounded.{and-left, and-right}
 use Rattle.plan.specs.Bytes.{number2, number4, headSize, tagAt, sizeAt, wholeAt, valueAt}
 use Rattle.plan.specs.Field.{Field, header, port, flow, FieldRead, field, refused, unless, headerTag, portTag, flowTag, headerSize, portSize, flowSize, hopsIn, routeIn, headerIn, portInValue, flowIn, fieldIn, fieldAt}
+use Rattle.plan.specs.laws.Tests.{and-left, and-right}
 
 -- the numbers of a header, a port and a flow are those of the value, in range
 pub record HeaderPasses (tag : ℕ) (v : List ℕ) (g t : ℕ) : Type 0 where

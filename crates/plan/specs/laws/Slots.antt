@@ -9,7 +9,8 @@ use borrow.Author.Tests.{leb-true, eqb-true}
 use Rattle.cqf.specs.Bounded.{every, distinct}
 use Rattle.cqf.specs.Limits.{maxHops, rateOk, blockingOk, lengthOk, periodOk, countOk, hopsOk}
 use Rattle.cqf.specs.Plan.{Plan, rateOf, blockingOf, periodOf, countOf, lengthOf, hopsOf, routeOf, portIn, portSound}
-use Rattle.cqf.specs.laws.Bounded.{and-right, or-cases}
+use Rattle.cqf.specs.laws.Bounded.{or-cases}
+use Rattle.plan.specs.laws.Tests.{and-right}
 
 -- whether slot f is empty, or holds a flow in range over distinct ports with these rates
 abbrev pub emptyAt : Plan → ℕ → Bool

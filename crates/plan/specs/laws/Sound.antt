@@ -14,11 +14,12 @@ use borrow.Author.Tests.{leb-true, lt-ltb, eq-eqb, not-false}
 use Rattle.cqf.specs.Bounded.{every, distinct, anyTo}
 use Rattle.cqf.specs.Limits.{portSlots, flowSlots, maxHops, guardOk, topOk}
 use Rattle.cqf.specs.Plan.{Plan, noPlan, periodOf, routeOf, present, portIn, portSound, flowSound, wellFormed}
-use Rattle.cqf.specs.laws.Bounded.{and-left, and-right, or-cases, allTo-every, anyTo-some}
+use Rattle.cqf.specs.laws.Bounded.{or-cases, allTo-every, anyTo-some}
 use Rattle.plan.specs.Bytes.{tagAt, valueAt}
 use Rattle.plan.specs.Field.{Field, header, port, flow, flowTag, routeIn, repeats}
 use Rattle.plan.specs.Draft.{Draft, blank, loops, store, added}
 use Rattle.plan.specs.Reading.{accepted, namesAbsent, readPlan}
+use Rattle.plan.specs.laws.Tests.{and-left, and-right}
 use Rattle.plan.specs.laws.Passes.{HeaderPasses, PortPasses, FlowPasses, Passes, field-whole, field-passes}
 use Rattle.plan.specs.laws.Slots.{soundIn, sound-hops, port-kept, flow-kept, port-filled, flow-filled}
 use Rattle.plan.specs.laws.Tables
