@@ -10,3 +10,6 @@ pub mod Walk
 pub mod Tables
 pub mod Slots
 pub mod Sound
+pub mod Commute
+pub mod Stored
+pub mod Order
