@@ -3,6 +3,7 @@ pub mod Outcome
 pub mod Calls
 pub mod Answer
 pub mod Demand3
+pub mod SameAnswers
 pub mod PlanK
 pub mod laws
 pub mod Theorem

@@ -1,8 +1,9 @@
--- Demand 3: after every row of calls, the answer of the plain question to a duration of the held plan means what it says of
--- every emission and its whole run.
-use mathlib.Core.Path.{_≡_, refl, sym, _∙_, subst}
+-- The theorems over rows of calls. Demand 3: the answer of the plain question to a duration of the held plan means what it says
+-- of every emission and its whole run. And the order of a plan's fields changes no answer.
+use mathlib.Core.Path.{_≡_, refl, sym, ap, _∙_}
 use mathlib.Core.Logic.{_↔_}
 use mathlib.Core.List.{List, [], _∷_}
+use mathlib.Core.Option.{some}
 use mathlib.Core.Bool.{Bool, true, false, cond, true≢false}
 use Prim.Native.Nat.{ℕ, _≤_, _<_}
 use native.Mathlib.Omega.{arith}
@@ -12,10 +13,14 @@ use Rattle.cqf.specs.Plan.{Plan, wellFormed}
 use Rattle.cqf.specs.Condition.{admissible, failing, lowestFailing}
 use Rattle.cqf.specs.LargeEnough.{Counterexample, LargeEnough}
 use Rattle.cqf.specs.Theorem.{large-enough}
+use Rattle.plan.specs.FieldOrder.{SameFields}
+use Rattle.plan.specs.laws.Order.{field-order}
 use Rattle.plan.specs.laws.Sound.{accepted-formed}
-use Rattle.planner.specs.Outcome.{Answer, result, refusal, failingAt, checkAnswer}
+use Rattle.planner.specs.Outcome.{Answer, result, refusal, failingAt, checkAnswer, slackAnswer, leastAnswer, leastLeaves, marginSafeAnswer, marginSafeLeaves}
 use Rattle.planner.specs.Demand3.{Refuses, Means, Demand3}
-use Rattle.planner.specs.laws.Rows.{after-held}
+use Rattle.planner.specs.SameAnswers.{SameAnswers}
+use Rattle.planner.specs.Calls.{Call, after, heldBytes}
+use Rattle.planner.specs.laws.Rows.{after-held, after-loaded}
 
 -- the plain question of a well-formed plan, at a duration from 1 to its top
 abbrev plainAnswer : Plan → ℕ → Answer (Unit {0})
@@ -63,3 +68,23 @@ demand3 tables T calls bytes p ports flows left held reads low high =
     let formed : wellFormed p ≡ true = accepted-formed bytes p ports flows reads in
     let same : tables ≡ p = left ∙ after-held calls bytes held p ports flows reads in
     rw (same, check-plain p T formed low high) (plain-means p T (large-enough p formed T low))
+
+-- two rows of calls whose last accepted plans have the same fields, in any order, leave planners that answer alike
+pub order-free
+    : (calls others : List Call) (s t : List ℕ)
+    → heldBytes calls ≡ some s
+    → heldBytes others ≡ some t
+    → SameFields s t
+    → SameAnswers (after calls) (after others)
+order-free calls others s t held kept fields =
+    let a = after-loaded calls s held in
+    let b = after-loaded others t kept in
+    let same = field-order s t fields (after calls) (after others) (a .ports) (a .flows) (b .ports) (b .flows) (a .reads) (b .reads) .0 in
+    record {
+      check = λ T. ap (λ (p : Plan). checkAnswer p T) same;
+      slack = λ n T. ap (λ (p : Plan). slackAnswer p n T) same;
+      least = λ scratch. ap (λ (p : Plan). leastAnswer p scratch) same;
+      least-leaves = λ scratch. ap (λ (p : Plan). leastLeaves p scratch) same;
+      margin-safe = λ scratch. ap (λ (p : Plan). marginSafeAnswer p scratch) same;
+      margin-safe-leaves = λ scratch. ap (λ (p : Plan). marginSafeLeaves p scratch) same;
+    }

@@ -3,6 +3,7 @@ use mathlib.Core.Path.{_≡_, refl, sym, _∙_}
 use mathlib.Core.List.{List, [], _∷_}
 use mathlib.Core.Option.{Option, none, some}
 use Prim.Native.Nat.{ℕ}
+use native.Mathlib.Omega.{arith}
 use Rattle.cqf.specs.Plan.{Plan, noPlan}
 use Rattle.plan.specs.Reading.{Reading, accepted, rejected, readPlan}
 use Rattle.planner.specs.Outcome.{loadLeaves, readingLeaves}
@@ -47,6 +48,19 @@ calls-hold : (calls : List Call) → Holds (heldBytes calls) (after calls)
 unfolding heldBytes after
 calls-hold calls = row-holds none noPlan calls (record { nothing = λ e. refl; last = λ s e. cc })
 
+-- the plan that is held is the one of an accepted load
+pub record Loaded (s : List ℕ) (p : Plan) : Type 0 where
+  pub ports : ℕ
+  pub flows : ℕ
+  pub reads : readPlan s ≡ accepted p ports flows
+
+pub after-loaded : (calls : List Call) (s : List ℕ) → heldBytes calls ≡ some s → Loaded s (after calls)
+after-loaded calls s e = go (readPlan s) refl (calls-hold calls .last s e)
+  where
+    go : (r : Reading) → readPlan s ≡ r → readTables r ≡ some (after calls) → Loaded s (after calls)
+    go (accepted p m n) e h = let same : p ≡ after calls = cc in record { ports = m; flows = n; reads = rw same at e }
+    go (rejected m n) e h = let z : _≡_ {A = ℕ} 0 1 = cc in absurd (omega arith)
+
 -- after a row of calls with an accepted load, the planner holds the plan in the last one's bytes
 pub after-held
     : (calls : List Call) (s : List ℕ)
@@ -54,10 +68,7 @@ pub after-held
     → (p : Plan) (ports flows : ℕ)
     → readPlan s ≡ accepted p ports flows
     → after calls ≡ p
-after-held calls s e p m n r =
-    let h = calls-hold calls .last s e in
-    let g : readTables (accepted p m n) ≡ some (after calls) = rw r at h in
-    cc
+after-held calls s e p m n r = let h = after-loaded calls s e .reads in cc
 
 -- after one without, it holds nothing
 pub after-none : (calls : List Call) → heldBytes calls ≡ none → after calls ≡ noPlan
