@@ -7,8 +7,10 @@ pub mod Tested
 pub mod Stores
 pub mod Passes
 pub mod Walk
+pub mod Named
 pub mod Tables
 pub mod Slots
+pub mod Drafts
 pub mod Sound
 pub mod Commute
 pub mod Stored

@@ -1,23 +1,22 @@
 -- The theorems over rows of calls. Demand 3: the answer of the plain question to a duration of the held plan means what it says
 -- of every emission and its whole run. And the order of a plan's fields changes no answer.
 use mathlib.Core.Path.{_≡_, refl, sym, ap, _∙_}
-use mathlib.Core.Logic.{_↔_}
 use mathlib.Core.List.{List, [], _∷_}
 use mathlib.Core.Option.{some}
 use mathlib.Core.Bool.{Bool, true, false, cond, true≢false}
-use Prim.Native.Nat.{ℕ, _≤_, _<_}
+use Prim.Native.Nat.{ℕ, _≤_}
 use native.Mathlib.Omega.{arith}
 use borrow.Author.Tests.{le-leb}
 use Rattle.cqf.specs.Bounded.{within}
 use Rattle.cqf.specs.Plan.{Plan, wellFormed}
 use Rattle.cqf.specs.Condition.{admissible, failing, lowestFailing}
-use Rattle.cqf.specs.LargeEnough.{Counterexample, LargeEnough}
+use Rattle.cqf.specs.LargeEnough.{LargeEnough}
 use Rattle.cqf.specs.Theorem.{large-enough}
 use Rattle.plan.specs.FieldOrder.{SameFields}
 use Rattle.plan.specs.laws.Order.{field-order}
 use Rattle.plan.specs.laws.Sound.{accepted-formed}
 use Rattle.planner.specs.Outcome.{Answer, result, refusal, failingAt, checkAnswer, slackAnswer, leastAnswer, leastLeaves, marginSafeAnswer, marginSafeLeaves}
-use Rattle.planner.specs.Demand3.{Refuses, Means, Demand3}
+use Rattle.planner.specs.Demand3.{Means, Demand3}
 use Rattle.planner.specs.SameAnswers.{SameAnswers}
 use Rattle.planner.specs.Calls.{Call, after, heldBytes}
 use Rattle.planner.specs.laws.Rows.{after-held, after-loaded}
@@ -45,7 +44,7 @@ plain-means p T h = go (admissible p T) refl
         record {
           refused = (
             λ r. let z : _≡_ {A = ℕ} 0 1 = cc (r .is) in absurd (omega arith),
-            λ c. absurd (true≢false (sym e ∙ h .refused .1 c))
+            λ c. absurd (true≢false (sym e ∙ h .refused .1 c)),
           );
           accepted = (λ r c. true≢false (sym e ∙ h .refused .1 c), λ none. refl);
           on-time = λ r. h .accepted e;
@@ -54,11 +53,11 @@ plain-means p T h = go (admissible p T) refl
         record {
           refused = (
             λ r. h .refused .0 e,
-            λ c. record { lowest = lowestFailing p T; count = failing p T; is = refl }
+            λ c. record { lowest = lowestFailing p T; count = failing p T; is = refl },
           );
           accepted = (
             λ r. let z : _≡_ {A = ℕ} 0 1 = cc in absurd (omega arith),
-            λ none. absurd (none (h .refused .0 e))
+            λ none. absurd (none (h .refused .0 e)),
           );
           on-time = λ r. let z : _≡_ {A = ℕ} 0 1 = cc in absurd (omega arith);
         }

@@ -2,21 +2,21 @@
 use mathlib.Core.Path.{_≡_, refl, sym, _∙_}
 use mathlib.Core.Logic.{_≢_, _⊎_, inl, inr}
 use mathlib.Core.List.{List}
-use mathlib.Core.Bool.{true, false, true≢false}
+use mathlib.Core.Bool.{false, true≢false}
 use Prim.Native.Nat.{ℕ, _+_, _-_, _*_, _≤_, _<_}
 use native.Mathlib.Omega.{arith}
 use native.Mathlib.Decide.{decLt}
-use lib.Dec.{leb, ltb}
-use lib.ListN.{length, getD, set}
-use lib.Seq.{sets, set-comm, getD-set-same, getD-set-other}
-use borrow.Author.Tests.{leb-true, lt-ltb}
+use lib.Dec.{ltb}
+use lib.ListN.{length}
+use lib.Seq.{set-comm, getD-set-same, getD-set-other}
+use borrow.Author.Tests.{lt-ltb}
 use Rattle.cqf.specs.Limits.{portSlots, flowSlots, maxHops}
 use Rattle.cqf.specs.Plan.{Plan}
 use Rattle.plan.specs.Field.{Field, header, port, flow, routeIn}
 use Rattle.plan.specs.Draft.{Draft, taken, store, added, portsIn, flowsIn}
-use Rattle.plan.specs.laws.Tests.{and-left, and-right}
-use Rattle.plan.specs.laws.Passes.{HeaderPasses, PortPasses, FlowPasses, Passes}
+use Rattle.plan.specs.laws.Passes.{FlowPasses, Passes}
 use Rattle.plan.specs.laws.Route.{route-length}
+use Rattle.plan.specs.laws.Slots.{within-least, within-most, slot-fits}
 use Rattle.plan.specs.laws.Stores.{sets-comm}
 use Rattle.plan.specs.laws.Tables.{Sized}
 
@@ -69,36 +69,32 @@ pub fresh-apart
     → taken (store p x v) y ≡ false
     → Apart x y
 unfolding taken store
-fresh-apart p tag tag′ v w (header g t) (header g′ t′) s k m e = above t (leb-true 1 t (and-left (leb 1 t) _ (k .top-ok))) e
+fresh-apart p tag tag′ v w (header g t) (header g′ t′) s k m e = above t (within-least _ _ t (k .top-ok)) e
 fresh-apart p tag tag′ v w (header g t) (port n r b) s k m e = tt
 fresh-apart p tag tag′ v w (header g t) (flow n o c l h) s k m e = tt
 fresh-apart p tag tag′ v w (port n r b) (header g t) s k m e = tt
 fresh-apart p tag tag′ v w (port n r b) (port n′ r′ b′) s k m e = apart
   where
-    fits : n - 1 < portSlots
-    fits = omega (arith, leb-true n portSlots (and-right (leb 1 n) _ (k .number-ok)), leb-true 1 n (and-left (leb 1 n) _ (k .number-ok)))
-
     apart : n - 1 ≢ n′ - 1
     apart same =
-        above r (leb-true 1 r (and-left (leb 1 r) _ (k .rate-ok)))
+        let fits = slot-fits portSlots n (k .number-ok) in
+        above r (within-least _ _ r (k .rate-ok))
         (rw (← same, getD-set-same (p .rates) (n - 1) r 0 (rw (s .rates) fits)) at e)
 fresh-apart p tag tag′ v w (port n r b) (flow n′ o c l h) s k m e = tt
 fresh-apart p tag tag′ v w (flow n o c l h) (header g t) s k m e = tt
 fresh-apart p tag tag′ v w (flow n o c l h) (port n′ r b) s k m e = tt
 fresh-apart p tag tag′ v w (flow n o c l h) (flow n′ o′ c′ l′ h′) s k m e = apart
   where
-    fits : n - 1 < flowSlots
-    fits = omega (arith, leb-true n flowSlots (and-right (leb 1 n) _ (k .number-ok)), leb-true 1 n (and-left (leb 1 n) _ (k .number-ok)))
-
     apart : n - 1 ≢ n′ - 1
     apart same =
-        let long : 1000 ≤ o = leb-true 1000 o (and-left (leb 1000 o) _ (k .period-ok)) in
-        above o (omega arith) (rw (← same, getD-set-same (p .periods) (n - 1) o 0 (rw (s .periods) fits)) at e)
+        let fits = slot-fits flowSlots n (k .number-ok) in
+        above o (omega (arith, within-least _ _ o (k .period-ok)))
+        (rw (← same, getD-set-same (p .periods) (n - 1) o 0 (rw (s .periods) fits)) at e)
 
 -- the route of a flow that passes fits its slot
 short-route : (tag n o c l h : ℕ) (v : List ℕ) → FlowPasses tag v n o c l h → length (routeIn v) ≤ maxHops
 short-route tag n o c l h v k =
-    omega (arith, route-length v, k .hops, leb-true h maxHops (and-right (leb 1 h) _ (k .hops-ok)))
+    omega (arith, route-length v, k .hops, within-most _ _ h (k .hops-ok))
 
 -- routes of two slots do not meet
 routes-apart
@@ -132,9 +128,9 @@ store-comm p tag tag′ v w (flow n o c l h) (header g t) k m a = refl
 store-comm p tag tag′ v w (flow n o c l h) (port n′ r b) k m a = refl
 store-comm p tag tag′ v w (flow n o c l h) (flow n′ o′ c′ l′ h′) k m a =
     let apart =
-        routes-apart (n - 1) (n′ - 1) (routeIn v) (routeIn w) a
-        (short-route tag n o c l h v k)
-        (short-route tag′ n′ o′ c′ l′ h′ w m) in
+    routes-apart (n - 1) (n′ - 1) (routeIn v) (routeIn w) a
+    (short-route tag n o c l h v k)
+    (short-route tag′ n′ o′ c′ l′ h′ w m) in
     rw (
       set-comm (p .periods) (n - 1) (n′ - 1) o o′ a,
       set-comm (p .counts) (n - 1) (n′ - 1) c c′ a,

@@ -1,19 +1,17 @@
 -- Two accepted plans with the same fields in different order leave the same tables and the same numbers of fields.
 use mathlib.Core.Path.{_≡_, refl, sym, ap, _∙_}
 use mathlib.Core.List.{List, [], _∷_, _++_, flatten, append-assoc, append-nil, List·Permᴰ, List·Permᴰ·nil, List·Permᴰ·cons, List·Permᴰ·swap, List·Permᴰ·trans}
-use mathlib.Core.Bool.{true, false}
 use Prim.Native.Nat.{ℕ, _+_, _≤_, _<_}
-use native.Mathlib.Nat.{add-assoc}
 use native.Mathlib.Omega.{arith}
 use lib.ListN.{length, getD, take, drop, length-append, length-drop, List·getD-append}
 use lib.Seq.{getD-append-add, drop-append-add, drop-append-le, take-append-le}
-use Rattle.cqf.specs.Plan.{Plan, noPlan}
-use Rattle.plan.specs.Bytes.{number2, headSize, tagAt, sizeAt, valueAt}
+use Rattle.cqf.specs.Plan.{Plan}
+use Rattle.plan.specs.Bytes.{headSize, tagAt, sizeAt, valueAt}
 use Rattle.plan.specs.Draft.{Draft, blank, added}
 use Rattle.plan.specs.Reading.{accepted, readPlan}
-use Rattle.plan.specs.FieldOrder.{IsField, AllFields, none, more, SameFields}
-use Rattle.plan.specs.laws.Passes.{Passes, Read, field-passes}
-use Rattle.plan.specs.laws.Walk.{Reads, done, one, Ends, accepted-reads, closing-accepted}
+use Rattle.plan.specs.FieldOrder.{IsField, AllFields, more, SameFields}
+use Rattle.plan.specs.laws.Passes.{field-passes}
+use Rattle.plan.specs.laws.Walk.{Reads, done, one, accepted-reads, closing-accepted}
 use Rattle.plan.specs.laws.Tables.{Sized, sized-none}
 use Rattle.plan.specs.laws.Stored.{Stored, nothing, next, stored-once, stored-permuted}
 
@@ -38,7 +36,7 @@ module _ (front b rest : List ℕ) (is : IsField b) where
       let fits : sizeAt b 0 ≤ length (drop headSize b) = omega (arith, length-drop headSize b, is .whole) in
       ap (λ (n : ℕ). take n (drop (length front + headSize) (front ++ (b ++ rest)))) size-inside
       ∙ ap (take (sizeAt b 0))
-        (drop-append-add front (b ++ rest) headSize ∙ drop-append-le headSize b rest (is .headed))
+      (drop-append-add front (b ++ rest) headSize ∙ drop-append-le headSize b rest (is .headed))
       ∙ take-append-le (sizeAt b 0) (drop headSize b) rest fits
 
 -- a walk over whole fields stores them one after the other
@@ -100,9 +98,8 @@ field-order s t same p q m n k l left right =
     let first = accepted-stored (same .first) s (a .final) (same .bytes-first) (same .fields) (a .walk) in
     let fields = all-permuted (same .permuted) (same .fields) in
     let second = accepted-stored (same .second) t (b .final) (same .bytes-second) fields (b .walk) in
-    let final : a .final ≡ b .final = stored-once (stored-permuted blank (a .final) (same .permuted) sized-blank first) second in
-    (
+    let final : a .final ≡ b .final = stored-once (stored-permuted blank (a .final) (same .permuted) sized-blank first) second in (
       sym (c .plan) ∙ ap (λ (e : Draft). e .tables) final ∙ d .plan,
       sym (c .ports-read) ∙ ap (λ (e : Draft). e .ports) final ∙ d .ports-read,
-      sym (c .flows-read) ∙ ap (λ (e : Draft). e .flows) final ∙ d .flows-read
+      sym (c .flows-read) ∙ ap (λ (e : Draft). e .flows) final ∙ d .flows-read,
     )

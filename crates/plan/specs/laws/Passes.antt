@@ -1,5 +1,5 @@
 -- What the tests 2 to 5 leave of a field: where it stands, its numbers and their ranges.
-use mathlib.Core.Path.{_≡_, refl, sym, subst}
+use mathlib.Core.Path.{_≡_, refl, subst}
 use mathlib.Core.List.{List}
 use mathlib.Core.Bool.{Bool, true, false, cond, _&&_}
 use Prim.Native.Nat.{ℕ, _+_, _*_}
@@ -168,9 +168,9 @@ module _ (tag : ℕ) (v : List ℕ) (at after : ℕ) {x : Field} {next : ℕ} wh
       go false k e = middle (eqb tag portTag) refl e
 
 -- a field of the plan is whole, and passes
-pub field-whole : (s : List ℕ) (at : ℕ) (x : Field) (next : ℕ) → fieldAt s at ≡ field x next → wholeAt s at ≡ true
+pub field-is-whole : (s : List ℕ) (at : ℕ) (x : Field) (next : ℕ) → fieldAt s at ≡ field x next → wholeAt s at ≡ true
 unfolding fieldAt
-field-whole s at x next e = unless-passes 2 at (wholeAt s at) _ e .0
+field-is-whole s at x next e = unless-passes 2 at (wholeAt s at) _ e .0
 
 pub field-passes
     : (s : List ℕ) (at : ℕ) (x : Field) (next : ℕ)

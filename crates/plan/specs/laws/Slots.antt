@@ -2,15 +2,26 @@
 use mathlib.Core.Path.{_≡_}
 use mathlib.Core.List.{List}
 use mathlib.Core.Bool.{Bool, true, _&&_, _||_, and-eq-true-iff, or-true}
-use Prim.Native.Nat.{ℕ, _≤_}
+use Prim.Native.Nat.{ℕ, _-_, _≤_, _<_}
 use native.Mathlib.Omega.{arith}
-use lib.Dec.{eqb}
+use lib.Dec.{leb, eqb}
 use borrow.Author.Tests.{leb-true, eqb-true}
-use Rattle.cqf.specs.Bounded.{every, distinct}
+use Rattle.cqf.specs.Bounded.{within, every, distinct}
 use Rattle.cqf.specs.Limits.{maxHops, rateOk, blockingOk, lengthOk, periodOk, countOk, hopsOk}
 use Rattle.cqf.specs.Plan.{Plan, rateOf, blockingOf, periodOf, countOf, lengthOf, hopsOf, routeOf, portIn, portSound}
 use Rattle.cqf.specs.laws.Bounded.{or-cases}
-use Rattle.plan.specs.laws.Tests.{and-right}
+use Rattle.plan.specs.laws.Tests.{and-left, and-right}
+
+-- a number in its range is no smaller than the least and no larger than the most
+pub within-least : (least most n : ℕ) → within least most n ≡ true → least ≤ n
+within-least least most n e = leb-true least n (and-left (leb least n) (leb n most) e)
+
+pub within-most : (least most n : ℕ) → within least most n ≡ true → n ≤ most
+within-most least most n e = leb-true n most (and-right (leb least n) (leb n most) e)
+
+-- a number from 1 has a slot
+pub slot-fits : (slots n : ℕ) → within 1 slots n ≡ true → n - 1 < slots
+slot-fits slots n e = omega (arith, within-least 1 slots n e, within-most 1 slots n e)
 
 -- whether slot f is empty, or holds a flow in range over distinct ports with these rates
 abbrev pub emptyAt : Plan → ℕ → Bool

@@ -1,15 +1,14 @@
 -- A row of whole fields, stored one after the other: what it leaves does not hang on their order.
-use mathlib.Core.Path.{_≡_, refl, sym, ap, _∙_, subst}
+use mathlib.Core.Path.{_≡_, sym, _∙_, subst}
 use mathlib.Core.List.{List, [], _∷_, List·Permᴰ, List·Permᴰ·nil, List·Permᴰ·cons, List·Permᴰ·swap, List·Permᴰ·trans}
-use mathlib.Core.Bool.{Bool, true, false}
+use mathlib.Core.Bool.{false}
 use Prim.Native.Nat.{ℕ}
-use Rattle.cqf.specs.Plan.{Plan}
 use Rattle.plan.specs.Bytes.{tagAt, valueAt}
 use Rattle.plan.specs.Field.{Field}
 use Rattle.plan.specs.Draft.{Draft, taken, store, added}
 use Rattle.plan.specs.laws.Passes.{Passes, passes-once}
 use Rattle.plan.specs.laws.Tables.{Sized, sized-store}
-use Rattle.plan.specs.laws.Commute.{Apart, apart-sym, taken-apart, fresh-apart, added-comm}
+use Rattle.plan.specs.laws.Commute.{apart-sym, taken-apart, fresh-apart, added-comm}
 
 -- these fields, stored into draft d, leave draft e
 pub data Stored : List (List ℕ) → Draft → Draft → Type 0 where

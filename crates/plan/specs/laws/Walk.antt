@@ -1,7 +1,7 @@
 -- The walk over the fields of a plan from the front, as a row of fields that each pass the tests 2 to 7.
-use mathlib.Core.Path.{_≡_, refl, sym, ap, _∙_}
+use mathlib.Core.Path.{_≡_, refl}
 use mathlib.Core.List.{List}
-use mathlib.Core.Bool.{Bool, true, false, cond, not, _&&_, _||_}
+use mathlib.Core.Bool.{Bool, true, false, cond, _||_}
 use Prim.Native.Nat.{ℕ, zero, suc, _+_, _≤_, _<_}
 use native.Mathlib.Omega.{arith}
 use lib.Dec.{ltb, eqb}
@@ -9,10 +9,10 @@ use lib.ListN.{length}
 use borrow.Author.Tests.{ltb-true, ltb-false}
 use Rattle.cqf.specs.Bounded.{within}
 use Rattle.cqf.specs.Plan.{Plan}
-use Rattle.plan.specs.Bytes.{headSize, sizeAt, wholeAt, valueAt}
+use Rattle.plan.specs.Bytes.{headSize, sizeAt, valueAt}
 use Rattle.plan.specs.Field.{Field, FieldRead, field, refused, fieldAt}
 use Rattle.plan.specs.Draft.{Draft, blank, taken, loops, added}
-use Rattle.plan.specs.Reading.{Reading, accepted, rejected, Step, stop, more, fieldStep, stepAt, absentFrom, namesAbsent, closing, readFrom, readPlan, maxBytes}
+use Rattle.plan.specs.Reading.{Reading, accepted, rejected, Step, stop, more, fieldStep, stepAt, absentFrom, closing, readFrom, readPlan, maxBytes}
 use Rattle.plan.specs.laws.Passes.{field-passes}
 
 -- from offset at and draft d the fields of s are read to their end, which leaves draft e
@@ -171,40 +171,3 @@ closing-accepted s e p m k h = eight (eqb (e .tables .top) 0) (eqb (e .flows) 0)
     eight true b p q h = let z : _≡_ {A = ℕ} 0 1 = cc in absurd (omega arith)
     eight false true p q h = let z : _≡_ {A = ℕ} 0 1 = cc in absurd (omega arith)
     eight false false p q h = nine p q (ltb absent (length s)) refl h
-
--- from this offset on, each flow's route is in the plan with these rates
-pub record Named (rates s : List ℕ) (at : ℕ) : Type 0 where
-  pub bound : ℕ
-  pub enough : length s ≤ at + bound
-  pub none-absent : length s ≤ absentFrom bound s at rates
-
--- of the field at the front, and of those after it
-pub record FrontNamed (rates s : List ℕ) (at : ℕ) : Type 0 where
-  pub front : namesAbsent s at rates ≡ false
-  pub rest : Named rates s (at + headSize + sizeAt s at)
-
-pub named-front
-    : (rates s : List ℕ) (at : ℕ)
-    → at < length s
-    → wholeAt s at ≡ true
-    → Named rates s at
-    → FrontNamed rates s at
-unfolding absentFrom
-named-front rates s at less w h = go (h .bound) (h .enough) (h .none-absent)
-  where
-    next : ℕ
-    next = at + headSize + sizeAt s at
-
-    step
-        : (n : ℕ)
-        → length s ≤ at + suc n
-        → (b : Bool)
-        → namesAbsent s at rates ≡ b
-        → length s ≤ elim b [ true ↦ at | false ↦ absentFrom n s next rates ]
-        → FrontNamed rates s at
-    step n enough true q l = absurd (omega arith)
-    step n enough false q l = record { front = q; rest = record { bound = n; enough = omega arith; none-absent = l } }
-
-    go : (n : ℕ) → length s ≤ at + n → length s ≤ absentFrom n s at rates → FrontNamed rates s at
-    go zero enough l = absurd (omega arith)
-    go (suc n) enough l = step n enough (namesAbsent s at rates) refl (rw (w, absentFrom) at l)
