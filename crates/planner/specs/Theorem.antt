@@ -25,7 +25,7 @@ use Rattle.planner.specs.laws.Rows.{after-held, after-loaded}
 abbrev plainAnswer : Plan → ℕ → Answer (Unit {0})
 plainAnswer p T = cond (admissible p T) (result tt) (failingAt 21 p T)
 
--- two tests that hold are passed
+-- two tests that hold are passed: 20, then 10
 both-pass : {A : Type 0} (a b : Bool) (x y z : A) → a ≡ true → b ≡ true → cond a (cond b x y) z ≡ x
 both-pass a b x y z e d = rw (e, d)
 
@@ -62,6 +62,7 @@ plain-means p T h = go (admissible p T) refl
           on-time = λ r. let z : _≡_ {A = ℕ} 0 1 = cc in absurd (omega arith);
         }
 
+-- demand 3, of the plain question's own answer
 pub demand3 : (tables : Plan) (T : ℕ) → Demand3 tables T (checkAnswer tables T)
 demand3 tables T calls bytes p ports flows left held reads low high =
     let formed : wellFormed p ≡ true = accepted-formed bytes p ports flows reads in

@@ -83,6 +83,7 @@ sized-blank : Sized (blank .tables)
 unfolding blank
 sized-blank = sized-none
 
+-- the same tables, and the same numbers of port and flow fields
 pub field-order
     : (s t : List ℕ)
     → SameFields s t
