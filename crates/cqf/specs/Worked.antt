@@ -1,12 +1,11 @@
 -- Plan K of document 01 as tables, its numbers worked out, and an emission on each side of the theorem.
 use mathlib.Core.Path.{_≡_, refl}
-use mathlib.Core.List.{List, [], _∷_, map}
+use mathlib.Core.List.{[], _∷_, map}
 use mathlib.Core.Bool.{Bool, true, false, true≢false}
 use Prim.Native.Nat.{ℕ, zero, suc, _+_, _≤_, _<_}
 use native.Mathlib.Omega.{arith}
 use lib.ListN.{set, length, getD}
 use lib.Dec.{lit≤}
-use lib.IntN.{ℤ, pos, negsuc}
 use Rattle.cqf.specs.Bounded.{sumTo, countTo, anyTo, allTo, elem, distinct, every, row}
 use Rattle.cqf.specs.Limits.{maxHops}
 use Rattle.cqf.specs.Plan.{Plan, noPlan, present, periodOf, countOf, wellFormed, portSound, flowSound}

@@ -1,6 +1,6 @@
 -- The tables of a planner, and document 01's number and values for each case of the answers.
 use Prim.Native.Nat.{ℕ}
-use mathlib.Core.List.{List, [], _∷_}
+use mathlib.Core.List.{[], _∷_}
 use lib.IntN.{ℤ}
 use Rattle.cqf.specs.Plan.{Plan}
 use Rattle.plan.specs.Answer.{faultNumber}

@@ -1,7 +1,6 @@
 -- Plan K of document 01 from its 52 bytes, and the rows marked P: one statement over one list.
 use mathlib.Core.Path.{_≡_, refl}
 use mathlib.Core.List.{List, [], _∷_, map}
-use mathlib.Core.Bool.{Bool, true}
 use Prim.Native.Nat.{ℕ}
 use lib.IntN.{ℤ, pos, negsuc}
 use Rattle.cqf.specs.Bounded.{sumTo, countTo, anyTo, allTo, lowest, elem, distinct, every, row}
@@ -12,7 +11,7 @@ use Rattle.plan.specs.Bytes.{number2, number4, sizeAt, wholeAt, valueAt, number
 use Rattle.plan.specs.Field.{routeIn, headerIn, portInValue, flowIn, fieldIn, fieldAt, repeats}
 use Rattle.plan.specs.Draft.{blank, taken, loops, store, added}
 use Rattle.plan.specs.Reading.{stepAt, namesAbsent, absentFrom, closing, readFrom, readPlan, accepted}
-use Rattle.planner.specs.Outcome.{Answer, result, refusal, Fields, loadAnswer, loadLeaves, checkAnswer, slackAnswer}
+use Rattle.planner.specs.Outcome.{Answer, result, refusal, loadAnswer, loadLeaves, checkAnswer, slackAnswer}
 use Rattle.planner.specs.Calls.{load, afterFrom, after}
 
 pub bytesK : List ℕ
