@@ -21,15 +21,14 @@ abbrev μ-loop : tie.MeasureT-loop
 
 -- what is left to look at when a turn has read port i
 step : (c : tie.After-route-port Inv-loop μ-loop) →
-    elem (c .before .before .before .before .before .args .port)
-    (drop (c .before .before .before .before .before .args .from) (routeIn (now (c .before .before .before .before .before .args .value))))
-    ≡ (eqb (c .before .before .before .before .before .args .port) (c .route-port .result)
-    || elem (c .before .before .before .before .before .args .port)
-    (drop (c .before .before .loop .i + 1) (routeIn (now (c .before .before .before .before .before .args .value)))))
+    let a = c .before .before .before .before .before .args in
+    let r = routeIn (now (a .value)) in
+    elem (a .port) (drop (a .from) r)
+    ≡ (eqb (a .port) (c .route-port .result) || elem (a .port) (drop (c .before .before .loop .i + 1) r))
 step c =
     let a = c .before .before .before .before .before .args in
-    rw (c .route-port .ensures)
-    (c .before .before .loop .inv ∙ names-step (now (a .value)) (a .port) (c .before .before .loop .i) (omega arith))
+    let at = c .before .before .loop in
+    rw (c .route-port .ensures) (at .inv ∙ names-step (now (a .value)) (a .port) (at .i) (omega arith))
 
 hops-in-requires : tie.Need-hops-in-requires Inv-loop μ-loop
 hops-in-requires c κs = tt
