@@ -9,6 +9,12 @@ pub mod split; // split.rt: a field's head, and its value as a part of the plan
 pub mod route; // route.rt: a flow's route
 pub mod read; // read.rt: a whole field, tests 2 to 5
 
+pub use read::read_field;
+pub use route::repeats_port;
+pub use route::route_port;
+pub use split::field_value;
+pub use split::split_head;
+
 // What a plan can be refused for: document 01's refusals 1 to 9.
 pub enum Fault {
     Size,

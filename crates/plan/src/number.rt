@@ -22,12 +22,16 @@ pub(crate) fn be16(s: &[u8], i: usize) -> u16
     requires { ⌜ i + 1 < length (now s) ⌝ }
     ensures { λ r. ⌜ r ≡ number2 (now (s .entry)) i ⌝ }
 {
-    wide(s[i]) * 256 + wide(s[i + 1])
+    let high = wide(s[i]);
+    let low = wide(s[i + 1]);
+    high * 256 + low
 }
 
 pub(crate) fn be32(s: &[u8], i: usize) -> u32
     requires { ⌜ i + 3 < length (now s) ⌝ }
     ensures { λ r. ⌜ r ≡ number4 (now (s .entry)) i ⌝ }
 {
-    wider(be16(s, i)) * 65536 + wider(be16(s, i + 2))
+    let high = wider(be16(s, i));
+    let low = wider(be16(s, i + 2));
+    high * 65536 + low
 }

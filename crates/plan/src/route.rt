@@ -52,12 +52,12 @@ fn names_from(value: &[u8], from: usize, port: u16) -> bool
     ensures { λ r. ⌜ r ≡ elem port (drop from (routeIn (now (value .entry)))) ⌝ }
 {
     let hops = hops_in(value.len());
-    let mut i = from;
-    while i < hops {
-        if port == route_port(value, i) {
+    let mut k = from;
+    while k < hops {
+        if port == route_port(value, k) {
             return true;
         }
-        i += 1;
+        k += 1;
     }
     false
 }

@@ -41,15 +41,18 @@ module _ (v : List ℕ) where
   route-past i h = List·getD-eq-default (routeIn v) 0 (omega (arith, route-length))
 
   -- the tests on the route from port i on, by port i and the ports after it
-  pub every-step : (b : ℕ → Bool) (i : ℕ) → i < hopsIn (length v) → every b (drop i (routeIn v)) ≡ (b (routePort v i) && every b (drop (i + 1) (routeIn v)))
+  pub every-step : (b : ℕ → Bool) (i : ℕ) → i < hopsIn (length v)
+      → every b (drop i (routeIn v)) ≡ (b (routePort v i) && every b (drop (i + 1) (routeIn v)))
   unfolding routePort
   every-step b i h = every-drop (routeIn v) i b (omega (arith, route-length))
 
-  pub names-step : (n i : ℕ) → i < hopsIn (length v) → elem n (drop i (routeIn v)) ≡ (eqb n (routePort v i) || elem n (drop (i + 1) (routeIn v)))
+  pub names-step : (n i : ℕ) → i < hopsIn (length v)
+      → elem n (drop i (routeIn v)) ≡ (eqb n (routePort v i) || elem n (drop (i + 1) (routeIn v)))
   unfolding routePort
   names-step n i h = elem-drop (routeIn v) i n (omega (arith, route-length))
 
-  pub distinct-step : (i : ℕ) → i < hopsIn (length v) → distinct (drop i (routeIn v)) ≡ (not (elem (routePort v i) (drop (i + 1) (routeIn v))) && distinct (drop (i + 1) (routeIn v)))
+  pub distinct-step : (i : ℕ) → i < hopsIn (length v)
+      → distinct (drop i (routeIn v)) ≡ (not (elem (routePort v i) (drop (i + 1) (routeIn v))) && distinct (drop (i + 1) (routeIn v)))
   unfolding routePort
   distinct-step i h = distinct-drop (routeIn v) i (omega (arith, route-length))
 

@@ -9,7 +9,8 @@ use lib.ListN.{length}
 use Rattle.cqf.specs.Bounded.{every}
 use Rattle.cqf.specs.Limits.{guardOk, topOk, portOk, rateOk, lengthOk, blockingOk, flowOk, periodOk, countOk, hopsOk}
 use Rattle.plan.specs.Bytes.{number2, number4, headSize, tagAt, sizeAt, wholeAt, valueAt}
-use Rattle.plan.specs.Field.{header, port, flow, field, refused, headerSize, portSize, flowSize, hopsIn, routeIn, headerIn, portInValue, flowIn, fieldIn, fieldAt, headerTag, portTag, flowTag}
+use Rattle.plan.specs.Field.{header, port, flow, field, refused, headerTag, portTag, flowTag, headerSize, portSize, flowSize}
+use Rattle.plan.specs.Field.{hopsIn, routeIn, headerIn, portInValue, flowIn, fieldIn, fieldAt}
 
 -- test 2
 module _ (s : List ℕ) (at : ℕ) where
@@ -35,7 +36,8 @@ module _ (v : List ℕ) (at next : ℕ) where
   unfolding fieldIn
   tag-flow tag e = rw e
 
-  pub tag-unknown : (tag : ℕ) → (tag ≡ headerTag → ⊥) → (tag ≡ portTag → ⊥) → (tag ≡ flowTag → ⊥) → fieldIn tag v at next ≡ refused 3 at
+  pub tag-unknown : (tag : ℕ) → (tag ≡ headerTag → ⊥) → (tag ≡ portTag → ⊥) → (tag ≡ flowTag → ⊥)
+      → fieldIn tag v at next ≡ refused 3 at
   unfolding fieldIn
   tag-unknown tag h p f = rw (ne-eqb _ _ h, ne-eqb _ _ p, ne-eqb _ _ f)
 
@@ -44,7 +46,8 @@ module _ (v : List ℕ) (at next : ℕ) where
   unfolding headerIn
   header-length e = rw e
 
-  pub header-range : eqb (length v) headerSize ≡ true → (guardOk (number4 v 0) && topOk (number4 v 4)) ≡ false → headerIn v at next ≡ refused 5 at
+  pub header-range : eqb (length v) headerSize ≡ true → (guardOk (number4 v 0) && topOk (number4 v 4)) ≡ false
+      → headerIn v at next ≡ refused 5 at
   unfolding headerIn
   header-range e f = rw (e, f)
 
@@ -69,7 +72,8 @@ module _ (v : List ℕ) (at next : ℕ) where
   port-read e f = rw (e, f)
 
   -- and of a flow, whose length says how many ports its route has
-  pub flow-length : (hopsOk (hopsIn (length v)) && eqb (length v) (flowSize + 2 * hopsIn (length v))) ≡ false → flowIn v at next ≡ refused 4 at
+  pub flow-length : (hopsOk (hopsIn (length v)) && eqb (length v) (flowSize + 2 * hopsIn (length v))) ≡ false
+      → flowIn v at next ≡ refused 4 at
   unfolding flowIn
   flow-length e = rw e
 

@@ -11,9 +11,6 @@ be16-requires c κs = search needs
 wider-requires : tie.Need-wider-requires
 wider-requires c κs = search needs
 
-mul-result : tie.Need-mul-result
-mul-result c = search needs
-
 add-be16 : tie.Need-add-be16
 add-be16 c = search needs
 
@@ -22,6 +19,9 @@ be16-requires-2 c κs = search needs
 
 wider-requires-2 : tie.Need-wider-requires-2
 wider-requires-2 c κs = search needs
+
+mul-result : tie.Need-mul-result
+mul-result c = search needs
 
 add-result : tie.Need-add-result
 add-result c = search needs
@@ -36,9 +36,9 @@ be32-spec =
     (tie.spec
     be16-requires
     wider-requires
-    mul-result
     add-be16
     be16-requires-2
     wider-requires-2
+    mul-result
     add-result
     returns)

@@ -8,19 +8,32 @@ use borrow.Author.Tests.{eq-eqb, ne-eqb, leb-true, not-true, not-false}
 use lib.Dec.{eqb, leb}
 use lib.ListN.{length}
 use denote.Ref.{now}
-use Rattle.cqf.specs.Limits.{hopsOk}
+use Rattle.cqf.specs.Limits.{maxHops, flowOk, periodOk, countOk, lengthOk, hopsOk}
+use Rattle.plan.specs.Bytes.{number2, number4}
 use Rattle.plan.specs.Field.{flowSize, hopsIn}
 use Rattle.plan.specs.laws.Tests.{and-right}
 use Rattle.plan.specs.laws.Tested.{flow-length, flow-range, flow-read}
 use Rattle.plan.proofs.read.flow_of.Statement.{statement}
 use Rattle.plan.proofs.read.flow_of.Tie as tie
 
--- a length that is neither too short nor odd
+-- how many ports the route has, where that is in range
+many : (c : tie.Else1) → hopsOk (c .before .before .hops-in .result) ≡ true
+many c = sym (c .before .hops-ok .ensures) ∙ not-false _ (c .if1 .left)
+
+-- the length is that of such a route
 sized : (c : tie.Else2) →
-    (hopsOk (hopsIn (length (now (c .before .before .before .before .before .args .value)))) && eqb (length (now (c .before .before .before .before .before .args .value))) (flowSize + 2 * hopsIn (length (now (c .before .before .before .before .before .args .value))))) ≡ true
-sized c =
-    let many : hopsOk (c .before .before .before .hops-in .result) ≡ true = sym (c .before .before .hops-ok .ensures) ∙ not-false _ (c .before .if1 .left) in
-    rw (← c .before .before .before .hops-in .ensures, many) (eq-eqb _ _ (c .if2 .left))
+    let n = length (now (c .before .before .before .before .before .args .value)) in
+    (hopsOk (hopsIn n) && eqb n (flowSize + 2 * hopsIn n)) ≡ true
+sized c = rw (← c .before .before .before .hops-in .ensures, many (c .before)) (eq-eqb _ _ (c .if2 .left))
+
+-- the numbers that were tested are those in the value
+tested : (c : tie.After-flow-in-range) →
+    let v = now (c .before .before .before .before .before .before .before .before .before .before .args .value) in
+    c .flow-in-range .result ≡ (flowOk (number2 v 0) && periodOk (number4 v 2) && countOk (number2 v 6) && lengthOk (number2 v 8))
+tested c =
+    let b = c .before in
+    rw (b .before .before .before .be16 .ensures, b .before .before .be32 .ensures, b .before .be162 .ensures, b .be163 .ensures)
+    at (c .flow-in-range .ensures)
 
 hops-in-requires : tie.Need-hops-in-requires
 hops-in-requires c κs = search needs
@@ -30,9 +43,8 @@ hops-ok-requires c κs = search needs
 
 returns : tie.Need-returns
 returns c =
-    sym
-    (flow-length _ _ _
-    (rw (← c .before .before .hops-in .ensures, sym (c .before .hops-ok .ensures) ∙ not-true (c .before .hops-ok .result) (c .if1 .taken))))
+    let few = sym (c .before .hops-ok .ensures) ∙ not-true _ (c .if1 .taken) in
+    sym (flow-length _ _ _ (rw (← c .before .before .hops-in .ensures, few)))
 
 mul-if2 : tie.Need-mul-if2
 mul-if2 c = search needs
@@ -42,7 +54,8 @@ add-if2 c = search needs
 
 returns-2 : tie.Need-returns-2
 returns-2 c =
-    sym (flow-length _ _ _ (rw (← c .before .before .before .hops-in .ensures, ne-eqb _ _ (c .if2 .taken)) (and-false (hopsOk (c .before .before .before .hops-in .result)))))
+    let b = c .before .before .before in
+    sym (flow-length _ _ _ (rw (← b .hops-in .ensures, ne-eqb _ _ (c .if2 .taken)) (and-false (hopsOk (b .hops-in .result)))))
 
 be16-requires : tie.Need-be16-requires
 be16-requires c κs = search needs
@@ -58,15 +71,16 @@ be16-requires-3 c κs = search needs
 
 cast-t17 : tie.Need-cast-t17
 cast-t17 c =
-    let many : hopsOk (c .before .before .before .before .before .before .before .hops-in .result) ≡ true = sym (c .before .before .before .before .before .before .hops-ok .ensures) ∙ not-false _ (c .before .before .before .before .before .if1 .left) in
-    omega (arith, leb-true (c .before .before .before .before .before .before .before .hops-in .result) 16 (and-right (leb 1 (c .before .before .before .before .before .before .before .hops-in .result)) _ many))
+    let b = c .before .before .before .before .before in
+    let n = b .before .before .hops-in .result in
+    omega (arith, leb-true n maxHops (and-right (leb 1 n) _ (many b)))
 
 flow-in-range-requires : tie.Need-flow-in-range-requires
 flow-in-range-requires c κs = search needs
 
 returns-3 : tie.Need-returns-3
 returns-3 c =
-    let f = rw (c .before .before .before .before .before .be16 .ensures, c .before .before .before .before .be32 .ensures, c .before .before .before .be162 .ensures, c .before .before .be163 .ensures) at (sym (c .before .flow-in-range .ensures) ∙ not-true _ (c .if3 .taken)) in
+    let f = sym (tested (c .before)) ∙ not-true _ (c .if3 .taken) in
     sym (flow-range _ _ _ (sized (c .before .before .before .before .before .before)) (rw f))
 
 route-in-range-requires : tie.Need-route-in-range-requires
@@ -74,16 +88,25 @@ route-in-range-requires c κs = search needs
 
 returns-4 : tie.Need-returns-4
 returns-4 c =
-    let f = rw (c .before .before .before .before .before .before .before .be16 .ensures, c .before .before .before .before .before .before .be32 .ensures, c .before .before .before .before .before .be162 .ensures, c .before .before .before .before .be163 .ensures) at (sym (c .before .before .before .flow-in-range .ensures) ∙ not-false _ (c .before .before .if3 .left)) in
+    let b = c .before .before in
+    let f = sym (tested (b .before)) ∙ not-false _ (b .if3 .left) in
     let g = sym (c .before .route-in-range .ensures) ∙ not-true _ (c .if4 .taken) in
-    sym (flow-range _ _ _ (sized (c .before .before .before .before .before .before .before .before)) (rw (f, g)))
+    sym (flow-range _ _ _ (sized (b .before .before .before .before .before .before)) (rw (f, g)))
 
 returns-5 : tie.Need-returns-5
 returns-5 c =
-    let f = rw (c .before .before .before .before .before .before .before .be16 .ensures, c .before .before .before .before .before .before .be32 .ensures, c .before .before .before .before .before .be162 .ensures, c .before .before .before .before .be163 .ensures) at (sym (c .before .before .before .flow-in-range .ensures) ∙ not-false _ (c .before .before .if3 .left)) in
+    let b = c .before .before in
+    let f = sym (tested (b .before)) ∙ not-false _ (b .if3 .left) in
     let g = sym (c .before .route-in-range .ensures) ∙ not-false _ (c .if4 .left) in
-    rw (c .before .before .before .before .before .before .before .be16 .ensures, c .before .before .before .before .before .before .be32 .ensures, c .before .before .before .before .before .be162 .ensures, c .before .before .before .before .be163 .ensures, c .before .before .before .before .before .before .before .before .before .before .before .hops-in .ensures)
-    (sym (flow-read _ _ _ (sized (c .before .before .before .before .before .before .before .before)) (rw (f, g))))
+    let e = b .before .before .before .before .before .before in
+    rw (
+      b .before .before .before .before .before .be16 .ensures,
+      b .before .before .before .before .be32 .ensures,
+      b .before .before .before .be162 .ensures,
+      b .before .before .be163 .ensures,
+      e .before .before .before .hops-in .ensures,
+    )
+    (sym (flow-read _ _ _ (sized e) (rw (f, g))))
 
 pub flow-of-spec : {M : Type 1} → statement M
 flow-of-spec =

@@ -19,11 +19,12 @@ abbrev μ-loop : tie.MeasureT-loop
 
 -- what is left to test when a turn has looked for port i in the ports after it
 step : (c : tie.After-names-from Inv-loop μ-loop) →
-    distinct (routeIn (now (c .before .before .before .before .before .before .args .value)))
-    ≡ (not (c .names-from .result) && distinct (drop (c .before .before .before .loop .i + 1) (routeIn (now (c .before .before .before .before .before .before .args .value)))))
+    let r = routeIn (now (c .before .before .before .before .before .before .args .value)) in
+    distinct r ≡ (not (c .names-from .result) && distinct (drop (c .before .before .before .loop .i + 1) r))
 step c =
-    rw (c .names-from .ensures, c .before .route-port .ensures)
-    (c .before .before .before .loop .inv ∙ distinct-step (now (c .before .before .before .before .before .before .args .value)) (c .before .before .before .loop .i) (omega arith))
+    let v = now (c .before .before .before .before .before .before .args .value) in
+    let at = c .before .before .before .loop in
+    rw (c .names-from .ensures, c .before .route-port .ensures) (at .inv ∙ distinct-step v (at .i) (omega arith))
 
 hops-in-requires : tie.Need-hops-in-requires Inv-loop μ-loop
 hops-in-requires c κs = tt
@@ -55,7 +56,9 @@ loop-again c = step (c .before) ∙ rw (c .if1 .left)
 
 returns-2 : tie.Need-returns-2 Inv-loop μ-loop
 unfolding repeats
-returns-2 c = sym (ap not (c .before .loop .inv ∙ distinct-past (now (c .before .before .before .before .args .value)) (c .before .loop .i) (omega arith)))
+returns-2 c =
+    let v = now (c .before .before .before .before .args .value) in
+    sym (ap not (c .before .loop .inv ∙ distinct-past v (c .before .loop .i) (omega arith)))
 
 pub repeats-port-spec : {M : Type 1} → statement M
 repeats-port-spec =

@@ -21,14 +21,12 @@ abbrev μ-loop : tie.MeasureT-loop
 
 -- what is left to test when a turn has tested port i
 step : (c : tie.After-port-ok Inv-loop μ-loop) →
-    every portOk (routeIn (now (c .before .before .before .before .before .before .args .value)))
-    ≡ (c .port-ok .result
-    && every portOk
-    (drop (c .before .before .before .loop .i + 1) (routeIn (now (c .before .before .before .before .before .before .args .value)))))
+    let r = routeIn (now (c .before .before .before .before .before .before .args .value)) in
+    every portOk r ≡ (c .port-ok .result && every portOk (drop (c .before .before .before .loop .i + 1) r))
 step c =
-    let a = c .before .before .before .before .before .before .args in
-    rw (c .port-ok .ensures, c .before .route-port .ensures)
-    (c .before .before .before .loop .inv ∙ every-step (now (a .value)) portOk (c .before .before .before .loop .i) (omega arith))
+    let v = now (c .before .before .before .before .before .before .args .value) in
+    let at = c .before .before .before .loop in
+    rw (c .port-ok .ensures, c .before .route-port .ensures) (at .inv ∙ every-step v portOk (at .i) (omega arith))
 
 hops-in-requires : tie.Need-hops-in-requires Inv-loop μ-loop
 hops-in-requires c κs = tt
@@ -55,7 +53,9 @@ loop-again : tie.Need-loop-again Inv-loop μ-loop
 loop-again c = step (c .before) ∙ rw (not-false (c .before .port-ok .result) (c .if1 .left))
 
 returns-2 : tie.Need-returns-2 Inv-loop μ-loop
-returns-2 c = sym (c .before .loop .inv ∙ every-past (now (c .before .before .before .before .args .value)) portOk (c .before .loop .i) (omega arith))
+returns-2 c =
+    let v = now (c .before .before .before .before .args .value) in
+    sym (c .before .loop .inv ∙ every-past v portOk (c .before .loop .i) (omega arith))
 
 pub route-in-range-spec : {M : Type 1} → statement M
 route-in-range-spec =
