@@ -4,3 +4,5 @@ pub mod Field
 pub mod Answer
 pub mod Draft
 pub mod Reading
+pub mod Ranges
+pub mod laws

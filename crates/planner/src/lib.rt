@@ -1,5 +1,10 @@
 // The cycle planner: the held plan, the load, and the questions.
 use plan::Fault;
+ghost use mathlib.Core.Path.{_≡_};
+ghost use Rattle.cqf.specs.Plan.{noPlan};
+ghost use Rattle.planner.specs.Answer.{planOf};
+
+mod store; // store.rt: a field stored into the tables
 
 // The held plan: port n in slot n - 1, flow n in slot n - 1, a flow's route at its slot times 16. An absent port has rate 0,
 // an absent flow period 0; top is 0 where no plan is held.
@@ -45,4 +50,21 @@ pub enum SearchAnswer {
     NoPlan,
     ShortScratch,
     Failing { port: u32, count: u32 },
+}
+
+// The planner that holds no plan.
+pub fn empty() -> Planner
+    ensures { λ r. ⌜ planOf r ≡ noPlan ⌝ }
+{
+    Planner {
+        guard: 0,
+        top: 0,
+        rates: [0; 64],
+        blockings: [0; 64],
+        periods: [0; 256],
+        counts: [0; 256],
+        lengths: [0; 256],
+        hops: [0; 256],
+        routes: [0; 4096],
+    }
 }

@@ -1,0 +1,5 @@
+-- Laws of the definitions: numbers in bytes, heads, values, routes.
+pub mod Tests
+pub mod Whole
+pub mod Lists
+pub mod Within
