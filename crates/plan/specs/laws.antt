@@ -2,4 +2,6 @@
 pub mod Tests
 pub mod Whole
 pub mod Lists
+pub mod Route
 pub mod Within
+pub mod Every

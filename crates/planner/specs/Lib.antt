@@ -3,3 +3,4 @@ pub mod Outcome
 pub mod Calls
 pub mod Answer
 pub mod Demand3
+pub mod laws

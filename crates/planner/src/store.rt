@@ -2,13 +2,18 @@
 
 use crate::Planner;
 use plan::{Field, Flow, Header, Port};
+use plan::route::route_port;
+ghost use Prim.Native.Nat.{_+_, _≤_};
 ghost use mathlib.Core.Path.{_≡_};
 ghost use mathlib.Core.List.{[]};
-ghost use Rattle.plan.specs.Field.{header, port};
+ghost use lib.Seq.{sets};
+ghost use Rattle.plan.specs.Field.{header, port, flow, routeIn};
 ghost use Rattle.plan.specs.Draft.{taken, store};
-ghost use Rattle.plan.specs.Ranges.{HeaderOk, PortOk, NumbersOk};
+ghost use Rattle.plan.specs.Ranges.{PortOk, FlowOk, NumbersOk, RouteOk, RouteFits};
 ghost use Rattle.plan.specs.Answer.{fieldOf};
 ghost use Rattle.planner.specs.Answer.{planOf};
+
+const MAX_HOPS: usize = 16;
 
 // Test 6: whether the field's slot is taken.
 pub(crate) fn is_taken(planner: Planner, field: Field) -> bool
@@ -51,4 +56,48 @@ fn with_port(planner: Planner, x: Port) -> Planner
     next.rates[slot] = x.rate;
     next.blockings[slot] = x.blocking;
     next
+}
+
+// The route in a flow's value, copied to position base of the routes and on.
+fn with_route(routes: [u8; 4096], base: usize, value: &[u8], hops: usize) -> [u8; 4096]
+    requires { ⌜ (base + hops ≤ 4096) × RouteOk hops (now value) ⌝ }
+    ensures { λ r. ⌜ r ≡ sets routes base (routeIn (now (value .entry))) ⌝ }
+{
+    let mut next = routes;
+    let mut i = 0;
+    while i < hops {
+        let port = route_port(value, i);
+        next[base + i] = port as u8;
+        i += 1;
+    }
+    next
+}
+
+fn with_flow(planner: Planner, x: Flow, value: &[u8]) -> Planner
+    requires { ⌜ FlowOk (x .number) (x .period) (x .count) (x .length) (x .hops) × RouteOk (x .hops) (now value) ⌝ }
+    ensures { λ r. ⌜ planOf r ≡ store (planOf planner) (flow (x .number) (x .period) (x .count) (x .length) (x .hops)) (now (value .entry)) ⌝ }
+{
+    let slot = (x.number - 1) as usize;
+    let hops = x.hops as usize;
+    let routes = planner.routes;
+    let copied = with_route(routes, slot * MAX_HOPS, value, hops);
+    let mut next = planner;
+    next.periods[slot] = x.period;
+    next.counts[slot] = x.count;
+    next.lengths[slot] = x.length;
+    next.hops[slot] = x.hops;
+    next.routes = copied;
+    next
+}
+
+// The field, with its value, stored into its slot.
+pub(crate) fn with_field(planner: Planner, field: Field, value: &[u8]) -> Planner
+    requires { ⌜ NumbersOk (fieldOf field) × RouteFits (fieldOf field) (now value) ⌝ }
+    ensures { λ r. ⌜ planOf r ≡ store (planOf planner) (fieldOf field) (now (value .entry)) ⌝ }
+{
+    match field {
+        Field::Header(x) => with_header(planner, x),
+        Field::Port(x) => with_port(planner, x),
+        Field::Flow(x) => with_flow(planner, x, value),
+    }
 }
