@@ -5,3 +5,4 @@ pub mod Lists
 pub mod Route
 pub mod Within
 pub mod Every
+pub mod Found
