@@ -3,6 +3,7 @@ pub mod Tests
 pub mod Whole
 pub mod Lists
 pub mod Route
+pub mod Tested
 pub mod Within
 pub mod Every
 pub mod Found

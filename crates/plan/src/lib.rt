@@ -7,6 +7,7 @@ mod number; // number.rt: numbers of several bytes, high byte first
 pub mod limits; // limits.rt: the ranges of a plan's numbers
 pub mod split; // split.rt: a field's head, and its value as a part of the plan
 pub mod route; // route.rt: a flow's route
+pub mod read; // read.rt: a whole field, tests 2 to 5
 
 // What a plan can be refused for: document 01's refusals 1 to 9.
 pub enum Fault {

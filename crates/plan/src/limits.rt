@@ -5,15 +5,25 @@ ghost use Rattle.cqf.specs.Bounded.{within};
 ghost use Rattle.cqf.specs.Limits.{guardOk, topOk, portOk, rateOk, lengthOk, blockingOk, flowOk, periodOk, countOk, hopsOk};
 
 const MAX_GUARD: u32 = 1_000_000;
+
 const MAX_TOP: u32 = 100_000_000;
+
 const MAX_PORT: u16 = 64;
+
 const MAX_RATE: u32 = 100_000;
+
 const MIN_LENGTH: u16 = 64;
+
 const MAX_LENGTH: u16 = 2_000;
+
 const MAX_FLOW: u16 = 256;
+
 const MIN_PERIOD: u32 = 1_000;
+
 const MAX_PERIOD: u32 = 100_000_000;
+
 const MAX_COUNT: u16 = 64;
+
 const MAX_HOPS: usize = 16;
 
 fn between(lo: u64, hi: u64, n: u64) -> bool

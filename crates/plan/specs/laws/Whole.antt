@@ -51,6 +51,9 @@ module _ (s : List ℕ) (at : ℕ) where
   pub read-size : (tag size : ℕ) → head tag size ≡ headAt s at → size ≡ sizeAt s at
   read-size tag size e = let z : head tag size ≡ head (tagAt s at) (sizeAt s at) = e ∙ head-whole (read-whole tag size e) in cc
 
+  pub read-fits : (tag size : ℕ) → head tag size ≡ headAt s at → at + headSize + size ≤ length s
+  read-fits tag size e = omega (arith, read-size tag size e, whole-fits (read-whole tag size e))
+
   -- a cut one is not
   pub read-cut : cut ≡ headAt s at → wholeAt s at ≡ false
   read-cut e = go (wholeAt s at) refl

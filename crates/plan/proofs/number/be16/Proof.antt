@@ -1,41 +1,31 @@
+-- `be16` meets its contract: the two bytes are those of `number2`.
+use native.Mathlib.Omega.{arith}
 use borrow.Author.Needs.{needs}
 use Rattle.plan.specs.Bytes.{number2}
-use native.Mathlib.Omega.{arith}
 use Rattle.plan.proofs.number.be16.Statement.{statement}
 use Rattle.plan.proofs.number.be16.Tie as tie
-use Rattle.plan.proofs.number.be16.Reads as reads
-use Rattle.plan.proofs.number.be16.Lts as lts
-use Rattle.plan.proofs.number.wide.Reads as wide-reads
 
--- src/number.rt:25:10
 shared-slice-read-wide : tie.Need-shared-slice-read-wide
 shared-slice-read-wide c = search needs
 
--- src/number.rt:25:5
 wide-requires : tie.Need-wide-requires
 wide-requires c κs = search needs
 
--- src/number.rt:25:5
 mul-result : tie.Need-mul-result
 mul-result c = search needs
 
--- src/number.rt:25:31
 add-wide : tie.Need-add-wide
 add-wide c = search needs
 
--- src/number.rt:25:29
 shared-slice-read-wide-2 : tie.Need-shared-slice-read-wide-2
 shared-slice-read-wide-2 c = search needs
 
--- src/number.rt:25:24
 wide-requires-2 : tie.Need-wide-requires-2
 wide-requires-2 c κs = search needs
 
--- src/number.rt:25:5
 add-result : tie.Need-add-result
 add-result c = search needs
 
--- src/number.rt:21:1
 returns : tie.Need-returns
 unfolding number2
 returns c = omega arith

@@ -1,35 +1,26 @@
-use borrow.Author.Needs.{needs}
-use Rattle.plan.specs.laws.Route.{route-at, route-past}
+-- `route_port` meets its contract: port i is the number at byte 10 + 2 i.
 use mathlib.Core.Path.{sym, _∙_}
 use native.Mathlib.Omega.{arith}
+use borrow.Author.Needs.{needs}
+use Rattle.plan.specs.laws.Route.{route-at, route-past}
 use Rattle.plan.proofs.route.route_port.Statement.{statement}
 use Rattle.plan.proofs.route.route_port.Tie as tie
-use Rattle.plan.proofs.route.route_port.Reads as reads
-use Rattle.plan.proofs.route.route_port.Lts as lts
-use Rattle.plan.proofs.number.be16.Reads as be16-reads
-use Rattle.plan.proofs.route.hops_in.Reads as hops-in-reads
 
--- src/route.rt:28:9
 hops-in-requires : tie.Need-hops-in-requires
 hops-in-requires c κs = search needs
 
--- src/route.rt:30:9
 returns : tie.Need-returns
 returns c = sym (route-past _ _ (omega arith))
 
--- src/route.rt:32:29
 mul-be16 : tie.Need-mul-be16
 mul-be16 c = search needs
 
--- src/route.rt:32:17
 add-be16 : tie.Need-add-be16
 add-be16 c = search needs
 
--- src/route.rt:32:5
 be16-requires : tie.Need-be16-requires
 be16-requires c κs = search needs
 
--- src/route.rt:25:1
 returns-2 : tie.Need-returns-2
 returns-2 c = c .be16 .ensures ∙ sym (route-at _ _ (omega arith))
 

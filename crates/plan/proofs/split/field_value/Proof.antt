@@ -1,3 +1,4 @@
+-- `field_value` meets its contract: a whole field ends within the plan, so its value is a part of it.
 use Prim.Native.Nat.{_+_, _≤_}
 use mathlib.Core.Path.{_≡_, sym, ap, _∙_}
 use native.Mathlib.Nat.{add-sub-cancel-left}
@@ -8,12 +9,9 @@ use denote.Ref.{now}
 use Rattle.plan.specs.Bytes.{valueAt}
 use Rattle.plan.specs.Field.{head, headAt}
 use Rattle.plan.specs.Answer.{headOf}
-use Rattle.plan.specs.laws.Whole.{whole-fits, read-whole, read-size, read-cut, part-whole, part-cut}
+use Rattle.plan.specs.laws.Whole.{read-fits, read-whole, read-size, read-cut, part-whole, part-cut}
 use Rattle.plan.proofs.split.field_value.Statement.{statement}
 use Rattle.plan.proofs.split.field_value.Tie as tie
-use Rattle.plan.proofs.split.field_value.Reads as reads
-use Rattle.plan.proofs.split.field_value.Lts as lts
-use Rattle.plan.proofs.split.split_head.Reads as split-head-reads
 
 -- the head that the splitter found is the one in the plan's bytes
 read-head : (c : tie.After-known-told) →
@@ -25,52 +23,35 @@ read-head c = sym (ap headOf (c .before .size .given .1)) ∙ c .before .before 
 ends : (c : tie.After-known-told) →
     c .before .before .before .before .before .args .at + 3 + c .before .size .given .0 .1 .0
     ≤ length (now (c .before .before .before .before .before .args .plan))
-ends c =
-    let a = c .before .before .before .before .before .args in
-    let v = c .before .size .given .0 in
-    omega (
-      arith,
-      read-size (now (a .plan)) (a .at) (v .0) (v .1 .0) (read-head c),
-      whole-fits (now (a .plan)) (a .at) (read-whole (now (a .plan)) (a .at) (v .0) (v .1 .0) (read-head c))
-    )
+ends c = read-fits _ _ (c .before .size .given .0 .0) (c .before .size .given .0 .1 .0) (read-head c)
 
--- src/split.rt:38:11
 split-head-requires : tie.Need-split-head-requires
 split-head-requires c κs = search needs
 
--- src/split.rt:39:31
 enum-known-size : tie.Need-enum-known-size
 enum-known-size c = search needs
 
--- src/split.rt:40:25
 add-start : tie.Need-add-start
 add-start c = omega (arith, ends c)
 
--- src/split.rt:41:23
 add-end : tie.Need-add-end
 add-end c = omega (arith, ends c)
 
--- src/split.rt:42:13
 sub-result : tie.Need-sub-result
 sub-result c = search needs
 
--- src/split.rt:42:13
 part-result-start : tie.Need-part-result-start
 part-result-start c = search needs
 
--- src/split.rt:42:13
 part-result-end : tie.Need-part-result-end
 part-result-end c = omega (arith, ends c)
 
--- src/split.rt:44:22
 enum-told : tie.Need-enum-told
 enum-told c = search needs
 
--- src/split.rt:44:22
 slice-aggregate-result : tie.Need-slice-aggregate-result
 slice-aggregate-result c = search needs
 
--- src/split.rt:35:1
 returns : tie.Need-returns
 unfolding valueAt
 returns c =
@@ -80,7 +61,6 @@ returns c =
     rw (add-sub-cancel-left, read-size (now (a .plan)) (a .at) (v .0) (v .1 .0) h)
     (sym (part-whole (now (a .plan)) (a .at) (read-whole (now (a .plan)) (a .at) (v .0) (v .1 .0) h)))
 
--- src/split.rt:35:1
 returns-2 : tie.Need-returns-2
 returns-2 c =
     let a = c .before .before .before .before .before .args in

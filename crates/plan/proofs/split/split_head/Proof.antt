@@ -1,50 +1,39 @@
+-- `split_head` meets its contract: at each return the tests that led there say whether the field ends within the plan.
+use mathlib.Core.Path.{sym, ap, _∙_}
+use native.Mathlib.Omega.{arith}
 use borrow.Author.Needs.{needs}
+use denote.Ref.{now}
 use Rattle.plan.specs.Bytes.{tagAt, sizeAt}
 use Rattle.plan.specs.Field.{head}
-use mathlib.Core.Path.{sym, ap, _∙_}
-use denote.Ref.{now}
 use Rattle.plan.specs.laws.Whole.{whole, not-whole, head-whole, head-cut}
-use native.Mathlib.Omega.{arith}
 use Rattle.plan.proofs.split.split_head.Statement.{statement}
 use Rattle.plan.proofs.split.split_head.Tie as tie
-use Rattle.plan.proofs.split.split_head.Reads as reads
-use Rattle.plan.proofs.split.split_head.Lts as lts
-use Rattle.plan.proofs.number.be16.Reads as be16-reads
 
--- src/split.rt:18:9
 returns : tie.Need-returns
 returns c = sym (head-cut _ _ (not-whole _ _ (omega arith)))
 
--- src/split.rt:20:16
 sub-left : tie.Need-sub-left
 sub-left c = search needs
 
--- src/split.rt:22:9
 returns-2 : tie.Need-returns-2
 returns-2 c = sym (head-cut _ _ (not-whole _ _ (omega arith)))
 
--- src/split.rt:24:27
 add-be16 : tie.Need-add-be16
 add-be16 c = search needs
 
--- src/split.rt:24:16
 be16-requires : tie.Need-be16-requires
 be16-requires c κs = search needs
 
--- src/split.rt:24:16
 cast-size : tie.Need-cast-size
 cast-size c = search needs
 
--- src/split.rt:26:9
 returns-3 : tie.Need-returns-3
 unfolding sizeAt
 returns-3 c = sym (head-cut _ _ (not-whole _ _ (omega arith)))
 
--- src/split.rt:29:14
 shared-slice-read-t9 : tie.Need-shared-slice-read-t9
 shared-slice-read-t9 c = search needs
 
--- src/split.rt:14:1
 returns-4 : tie.Need-returns-4
 unfolding sizeAt
 returns-4 c =
