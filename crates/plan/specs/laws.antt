@@ -7,3 +7,5 @@ pub mod Tested
 pub mod Within
 pub mod Every
 pub mod Found
+pub mod Steps
+pub mod Absent
