@@ -9,3 +9,4 @@ pub mod Every
 pub mod Found
 pub mod Steps
 pub mod Absent
+pub mod Closing

@@ -2,14 +2,27 @@
 use Prim.Native.Nat.{ℕ, zero, suc, _+_, _≤_, _<_}
 use mathlib.Core.Path.{_≡_, refl, sym, _∙_}
 use mathlib.Core.List.{List}
-use mathlib.Core.Bool.{Bool, true, false}
+use mathlib.Core.Bool.{Bool, true, false, not}
 use native.Mathlib.Omega.{arith}
+use borrow.Author.Tests.{eq-eqb, ne-eqb}
 use lib.ListN.{length}
-use Rattle.plan.specs.Bytes.{headSize, sizeAt, wholeAt}
+use Rattle.cqf.specs.Bounded.{every}
+use Rattle.cqf.specs.Plan.{portIn}
+use Rattle.plan.specs.Bytes.{headSize, tagAt, sizeAt, wholeAt, valueAt}
+use Rattle.plan.specs.Field.{flowTag, routeIn}
 use Rattle.plan.specs.Reading.{namesAbsent, absentFrom}
 use Rattle.plan.specs.laws.Whole.{whole-fits}
 
 module _ (s : List ℕ) (at : ℕ) (rates : List ℕ) where
+  -- only a flow names ports
+  pub absent-other : (tagAt s at ≡ flowTag → ⊥) → namesAbsent s at rates ≡ false
+  unfolding namesAbsent
+  absent-other h = rw (ne-eqb (tagAt s at) flowTag h)
+
+  pub absent-flow : tagAt s at ≡ flowTag → namesAbsent s at rates ≡ not (every (portIn rates) (routeIn (valueAt s at)))
+  unfolding namesAbsent
+  absent-flow h = rw (eq-eqb (tagAt s at) flowTag h)
+
   -- where no whole field stands the search ends
   pub absent-cut : (n : ℕ) → wholeAt s at ≡ false → absentFrom n s at rates ≡ length s
   unfolding absentFrom

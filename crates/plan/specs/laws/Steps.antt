@@ -13,6 +13,26 @@ use Rattle.plan.specs.Draft.{Draft, taken, loops, added, portsIn, flowsI
 use Rattle.plan.specs.Reading.{Reading, rejected, Step, stop, more, fieldStep, stepAt, closing, readFrom}
 use Rattle.plan.specs.laws.Found.{found-forward, found-within}
 
+-- a field that tests 2 to 5 refuse
+pub step-refused : (s : List ℕ) (at : ℕ) (d : Draft) (n o : ℕ) → fieldAt s at ≡ refused n o → stepAt s at d ≡ stop n o
+unfolding stepAt
+step-refused s at d n o f = ap (fieldStep s at d) f
+
+-- the tests 6 and 7 of any other, and what it adds
+module _ (s : List ℕ) (at : ℕ) (d : Draft) (x : Field) (m : ℕ) (f : fieldAt s at ≡ field x m) where
+  passed : stepAt s at d ≡ fieldStep s at d (field x m)
+  unfolding stepAt
+  passed = ap (fieldStep s at d) f
+
+  pub step-taken : taken (d .tables) x ≡ true → stepAt s at d ≡ stop 6 at
+  step-taken e = passed ∙ rw e
+
+  pub step-loops : taken (d .tables) x ≡ false → loops x (valueAt s at) ≡ true → stepAt s at d ≡ stop 7 at
+  step-loops e g = passed ∙ rw (e, g)
+
+  pub step-added : taken (d .tables) x ≡ false → loops x (valueAt s at) ≡ false → stepAt s at d ≡ more m (added d x (valueAt s at))
+  step-added e g = passed ∙ rw (e, g)
+
 -- a step that goes on reaches a later offset within the plan, and has counted one field more at the most
 pub record Onward (s : List ℕ) (at : ℕ) (d : Draft) (next : ℕ) (d′ : Draft) : Type 0 where
   pub forward : at + headSize ≤ next
@@ -20,12 +40,13 @@ pub record Onward (s : List ℕ) (at : ℕ) (d : Draft) (next : ℕ) (d′ : Dra
   pub ports : d′ .ports ≤ d .ports + 1
   pub flows : d′ .flows ≤ d .flows + 1
 
-portsIn-one : (x : Field) → portsIn x ≤ 1
+-- a field adds one of a kind at the most
+pub portsIn-one : (x : Field) → portsIn x ≤ 1
 portsIn-one (header g t) = omega arith
 portsIn-one (port n r b) = omega arith
 portsIn-one (flow n p c l h) = omega arith
 
-flowsIn-one : (x : Field) → flowsIn x ≤ 1
+pub flowsIn-one : (x : Field) → flowsIn x ≤ 1
 flowsIn-one (header g t) = omega arith
 flowsIn-one (port n r b) = omega arith
 flowsIn-one (flow n p c l h) = omega arith

@@ -1,3 +1,4 @@
+use Rattle.plan.specs.Draft.{loops}
 use borrow.Author.Needs.{needs}
 use Rattle.planner.proofs.reading.is_looping.Statement.{statement}
 use Rattle.planner.proofs.reading.is_looping.Tie as tie
@@ -23,15 +24,18 @@ repeats-port-requires c κs = search needs
 
 -- src/reading.rt:39:1
 returns : tie.Need-returns
-returns c = ?
+unfolding loops
+returns c = rw (c .enum-told .given .1)
 
 -- src/reading.rt:39:1
 returns-2 : tie.Need-returns-2
-returns-2 c = ?
+unfolding loops
+returns-2 c = rw (c .enum-told2 .given .1)
 
 -- src/reading.rt:39:1
 returns-3 : tie.Need-returns-3
-returns-3 c = ?
+unfolding loops
+returns-3 c = rw (c .before .enum-told3 .given .1) (c .repeats-port .ensures)
 
 pub is-looping-spec : {M : Type 1} → statement M
 is-looping-spec =

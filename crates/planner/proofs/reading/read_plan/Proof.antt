@@ -1,0 +1,88 @@
+use Prim.Native.Nat.{ℕ, _+_, _-_, _≤_}
+use mathlib.Core.Path.{_≡_, refl, sym, ap, _∙_}
+use mathlib.Core.List.{List}
+use borrow.Author.Needs.{needs}
+use native.Mathlib.Omega.{arith}
+use lib.ListN.{length}
+use denote.Ref.{now}
+use Rattle.plan.specs.Draft.{Draft, blank}
+use Rattle.plan.specs.Reading.{readFrom}
+use Rattle.plan.specs.laws.Steps.{onward, read-end, read-stop, read-more}
+use Rattle.planner.specs.Loading.{draftOf, stepOf, progressOf}
+use Rattle.planner.proofs.reading.read_plan.Statement.{statement}
+use Rattle.planner.proofs.reading.read_plan.Tie as tie
+use Rattle.planner.proofs.reading.read_plan.Reads as reads
+use Rattle.planner.proofs.reading.read_plan.Lts as lts
+use Rattle.planner.proofs.empty.Reads as empty-reads
+use Rattle.planner.proofs.reading.close.Reads as close-reads
+use Rattle.planner.proofs.reading.step.Reads as step-reads
+
+-- the fields before this offset are read, into this draft
+record Reached (s : List ℕ) (d : Draft) (at : ℕ) : Type 0 where
+  inside : at ≤ length s
+  ports : d .ports ≤ at
+  flows : d .flows ≤ at
+  rest : readFrom (length s) s 0 blank ≡ readFrom (length s) s at d
+
+abbrev Inv-loop : tie.InvT-loop
+Inv-loop plan draft₀ at₀ draft at = Reached plan (draftOf draft) at
+
+abbrev μ-loop : tie.MeasureT-loop
+μ-loop plan draft₀ at₀ draft at = length plan - at
+
+-- src/reading.rt:181:18
+empty-requires : tie.Need-empty-requires Inv-loop μ-loop
+empty-requires c κs = ?
+
+-- src/reading.rt:186:5
+loop-holds : tie.Need-loop-holds Inv-loop μ-loop
+loop-holds c = ?
+
+-- src/reading.rt:187:13
+step-requires : tie.Need-step-requires Inv-loop μ-loop
+step-requires c κs = ?
+
+-- src/reading.rt:191:30
+enum-known-progress : tie.Need-enum-known-progress Inv-loop μ-loop
+enum-known-progress c = ?
+
+-- src/reading.rt:186:5
+loop-less : tie.Need-loop-less Inv-loop μ-loop
+loop-less c = ?
+
+-- src/reading.rt:186:5
+loop-again : tie.Need-loop-again Inv-loop μ-loop
+loop-again c = ?
+
+-- src/reading.rt:195:30
+enum-known-progress-2 : tie.Need-enum-known-progress-2 Inv-loop μ-loop
+enum-known-progress-2 c = ?
+
+-- src/reading.rt:197:17
+returns : tie.Need-returns Inv-loop μ-loop
+returns c = ?
+
+-- src/reading.rt:204:5
+close-requires : tie.Need-close-requires Inv-loop μ-loop
+close-requires c κs = ?
+
+-- src/reading.rt:176:1
+returns-2 : tie.Need-returns-2 Inv-loop μ-loop
+returns-2 c = ?
+
+pub read-plan-spec : {M : Type 1} → statement M
+read-plan-spec =
+    tie.close
+    (tie.spec
+    Inv-loop
+    μ-loop
+    empty-requires
+    loop-holds
+    step-requires
+    enum-known-progress
+    loop-less
+    loop-again
+    enum-known-progress-2
+    returns
+    close-requires
+    returns-2)
