@@ -10,3 +10,4 @@ pub mod Found
 pub mod Steps
 pub mod Absent
 pub mod Closing
+pub mod Sized
