@@ -1,5 +1,4 @@
 -- The load's working values, as the definitions of the reading have them.
-use Prim.Native.Nat.{ℕ}
 use Rattle.cqf.specs.Plan.{Plan}
 use Rattle.plan.specs.Answer.{faultNumber}
 use Rattle.plan.specs.Draft as plan

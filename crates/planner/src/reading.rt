@@ -81,12 +81,12 @@ fn with_added(draft: Draft, field: Field, value: &[u8]) -> Draft
 }
 
 // A field that passed the tests 2 to 5: the tests 6 and 7, and the field stored.
-fn enter(plan: &[u8], at: usize, draft: Draft, field: Field, next: usize) -> Stepped
-    requires { ⌜ (draft .ports ≤ maxBytes) × (draft .flows ≤ maxBytes) × (fieldAt (now plan) at ≡ Rattle.plan.specs.Field.field (fieldOf field) next) ⌝ }
+fn enter(plan: &[u8], at: usize, draft: Draft, x: Field, next: usize) -> Stepped
+    requires { ⌜ (draft .ports ≤ maxBytes) × (draft .flows ≤ maxBytes) × (fieldAt (now plan) at ≡ field (fieldOf x) next) ⌝ }
     ensures { λ r. ⌜ stepOf r ≡ stepAt (now (plan .entry)) at (draftOf draft) ⌝ }
 {
     let planner = draft.planner;
-    let taken = is_taken(planner, field);
+    let taken = is_taken(planner, x);
     if taken {
         return Stepped {
             draft,
@@ -97,7 +97,7 @@ fn enter(plan: &[u8], at: usize, draft: Draft, field: Field, next: usize) -> Ste
         };
     }
     let value = field_value(plan, at);
-    let looping = is_looping(field, value);
+    let looping = is_looping(x, value);
     if looping {
         return Stepped {
             draft,
@@ -108,7 +108,7 @@ fn enter(plan: &[u8], at: usize, draft: Draft, field: Field, next: usize) -> Ste
         };
     }
     Stepped {
-        draft: with_added(draft, field, value),
+        draft: with_added(draft, x, value),
         progress: Progress::More { next },
     }
 }

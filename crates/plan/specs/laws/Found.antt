@@ -1,6 +1,6 @@
 -- Laws of a field that was read: it is whole, its numbers are in range, its route fits it, and the next offset is the one after it.
-use Prim.Native.Nat.{ℕ, _+_, _*_, _≤_, _<_}
-use mathlib.Core.Path.{_≡_, refl, sym, _∙_}
+use Prim.Native.Nat.{ℕ, _+_, _*_, _≤_}
+use mathlib.Core.Path.{_≡_, refl}
 use mathlib.Core.List.{List}
 use mathlib.Core.Bool.{Bool, true, false, cond, _&&_}
 use native.Mathlib.Omega.{arith}
@@ -10,7 +10,7 @@ use Rattle.cqf.specs.Bounded.{every}
 use Rattle.cqf.specs.Limits.{guardOk, topOk, portOk, rateOk, lengthOk, blockingOk, flowOk, periodOk, countOk, hopsOk}
 use Rattle.plan.specs.Bytes.{number2, number4, headSize, tagAt, sizeAt, wholeAt, valueAt}
 use Rattle.plan.specs.Field.{Field, header, port, flow, FieldRead, field, refused, unless, headerTag, portTag, flowTag, headerSize, portSize, flowSize, hopsIn, routeIn, headerIn, portInValue, flowIn, fieldIn, fieldAt}
-use Rattle.plan.specs.Ranges.{HeaderOk, PortOk, FlowOk, NumbersOk, RouteOk, RouteFits}
+use Rattle.plan.specs.Ranges.{NumbersOk, RouteFits}
 use Rattle.plan.specs.laws.Tests.{and-left, and-right}
 use Rattle.plan.specs.laws.Route.{route-length}
 use Rattle.plan.specs.laws.Whole.{whole-fits}

@@ -10,7 +10,7 @@ use lib.ListN.{length}
 use Rattle.plan.specs.Bytes.{headSize, valueAt}
 use Rattle.plan.specs.Field.{Field, header, port, flow, FieldRead, field, refused, fieldAt}
 use Rattle.plan.specs.Draft.{Draft, taken, loops, added, portsIn, flowsIn}
-use Rattle.plan.specs.Reading.{Reading, rejected, Step, stop, more, fieldStep, stepAt, closing, readFrom}
+use Rattle.plan.specs.Reading.{rejected, Step, stop, more, fieldStep, stepAt, closing, readFrom}
 use Rattle.plan.specs.laws.Found.{found-forward, found-within}
 
 -- a field that tests 2 to 5 refuse

@@ -1,3 +1,4 @@
+-- `load` meets its contract: test 1, then the plan that is read, or the one held before.
 use denote.Ref.{now}
 use Rattle.plan.specs.Reading.{readPlan}
 use Rattle.planner.specs.Answer.{planOf}
@@ -8,9 +9,6 @@ use Rattle.planner.specs.laws.Load.{refused-leaves, refused-answer, acce
 use borrow.Author.Needs.{needs}
 use Rattle.planner.proofs.load.Statement.{statement}
 use Rattle.planner.proofs.load.Tie as tie
-use Rattle.planner.proofs.load.Reads as reads
-use Rattle.planner.proofs.load.Lts as lts
-use Rattle.planner.proofs.reading.read_plan.Reads as read-plan-reads
 
 -- a plan of allowed length is read as its fields are
 whole-read : (c : tie.After-read-plan) →
@@ -18,31 +16,25 @@ whole-read : (c : tie.After-read-plan) →
     ≡ answerOf (planOf (c .read-plan .result .planner)) (c .read-plan .result .answer)
 whole-read c = read-sized _ (c .before .before .if1 .left) (c .before .if2 .left) ∙ sym (c .read-plan .ensures)
 
--- src/lib.rt:85:9
 returns : tie.Need-returns
 returns c =
     let e = read-empty _ (c .if1 .taken) in
     record { leaves = sym (refused-leaves _ _ 1 0 e); answers = sym (refused-answer _ 1 0 e) }
 
--- src/lib.rt:94:9
 returns-2 : tie.Need-returns-2
 returns-2 c =
     let e = read-long _ (c .if2 .taken) in
     record { leaves = sym (refused-leaves _ _ 1 0 e); answers = sym (refused-answer _ 1 0 e) }
 
--- src/lib.rt:102:9
 read-plan-requires : tie.Need-read-plan-requires
 read-plan-requires c κs = search needs
 
--- src/lib.rt:105:52
 enum-told : tie.Need-enum-told
 enum-told c = search needs
 
--- src/lib.rt:106:56
 enum-told-2 : tie.Need-enum-told-2
 enum-told-2 c = search needs
 
--- src/lib.rt:80:1
 returns-3 : tie.Need-returns-3
 returns-3 c =
     let a = c .before .before .before .before .before .before .args in
@@ -52,7 +44,6 @@ returns-3 c =
       answers = rw (c .enum-told .given .1) (sym (accepted-answer (now (a .plan)) _ _ _ e))
     }
 
--- src/lib.rt:80:1
 returns-4 : tie.Need-returns-4
 returns-4 c =
     let a = c .before .before .before .before .before .before .args in

@@ -1,3 +1,4 @@
+-- `first_absent` meets its contract. The invariant: the search from this offset on gives what the search from the start gives.
 use mathlib.Core.List.{List}
 use mathlib.Core.Bool.{true}
 use Prim.Native.Nat.{ℕ, _+_, _-_, _≤_}
@@ -14,10 +15,6 @@ use Rattle.plan.specs.laws.Whole.{read-whole, read-tag, read-size, read-fits, r
 use Rattle.plan.specs.laws.Absent.{absent-cut, absent-named, absent-passed}
 use Rattle.planner.proofs.absent.first_absent.Statement.{statement}
 use Rattle.planner.proofs.absent.first_absent.Tie as tie
-use Rattle.planner.proofs.absent.first_absent.Reads as reads
-use Rattle.planner.proofs.absent.first_absent.Lts as lts
-use Rattle.plan.proofs.split.split_head.Reads as split-head-reads
-use Rattle.planner.proofs.absent.names_absent.Reads as names-absent-reads
 
 abbrev Inv-loop : tie.InvT-loop
 Inv-loop plan rates at₀ at = (at ≤ length plan) × (absentFrom (length plan) plan 0 rates ≡ absentFrom (length plan) plan at rates)
@@ -51,23 +48,18 @@ module _ (c : tie.After-known-told Inv-loop μ-loop) where
   ends : offset + headSize + size ≤ length bytes
   ends = read-fits bytes offset tag size head-read
 
--- src/absent.rt:63:5
 loop-holds : tie.Need-loop-holds Inv-loop μ-loop
 loop-holds c = (omega arith, refl)
 
--- src/absent.rt:64:15
 split-head-requires : tie.Need-split-head-requires Inv-loop μ-loop
 split-head-requires c κs = tt
 
--- src/absent.rt:65:27
 enum-known-tag : tie.Need-enum-known-tag Inv-loop μ-loop
 enum-known-tag c = search needs
 
--- src/absent.rt:66:21
 names-absent-requires : tie.Need-names-absent-requires Inv-loop μ-loop
 names-absent-requires c κs = (is-whole c, read-tag (bytes c) (offset c) (tag c) (size c) (head-read c))
 
--- src/absent.rt:68:21
 returns : tie.Need-returns Inv-loop μ-loop
 returns c =
     let a = c .before .before .before .before .before .before .before .before .args in
@@ -75,19 +67,15 @@ returns c =
     sym (c .before .before .before .before .before .before .loop .inv .1
     ∙ absent-named (bytes w) (offset w) (a .rates) (is-whole w) (sym (c .before .names-absent .ensures) ∙ c .if1 .taken))
 
--- src/absent.rt:70:22
 add-at : tie.Need-add-at Inv-loop μ-loop
 add-at c = omega (arith, ends (c .before .before))
 
--- src/absent.rt:70:22
 add-at-2 : tie.Need-add-at-2 Inv-loop μ-loop
 add-at-2 c = omega (arith, ends (c .before .before))
 
--- src/absent.rt:63:5
 loop-less : tie.Need-loop-less Inv-loop μ-loop
 loop-less c = omega (arith, ends (c .before .before))
 
--- src/absent.rt:63:5
 loop-again : tie.Need-loop-again Inv-loop μ-loop
 loop-again c =
     let a = c .before .before .before .before .before .before .before .before .args in
@@ -99,11 +87,9 @@ loop-again c =
       (absent-passed (bytes w) (offset w) (a .rates) (is-whole w) (sym (c .before .names-absent .ensures) ∙ c .if1 .left))
     )
 
--- src/absent.rt:72:26
 enum-told : tie.Need-enum-told Inv-loop μ-loop
 enum-told c = search needs
 
--- src/absent.rt:72:26
 returns-2 : tie.Need-returns-2 Inv-loop μ-loop
 returns-2 c =
     let a = c .before .before .before .before .before .args in

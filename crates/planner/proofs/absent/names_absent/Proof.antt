@@ -1,28 +1,21 @@
-use mathlib.Core.Path.{_≡_, sym, _∙_}
+-- `names_absent` meets its contract: only a flow names ports, and its value is the part that the splitter gives.
+use mathlib.Core.Path.{sym, _∙_}
 use denote.Ref.{now}
 use Rattle.plan.specs.laws.Whole.{part-whole}
 use Rattle.plan.specs.laws.Absent.{absent-other, absent-flow}
 use borrow.Author.Needs.{needs}
 use Rattle.planner.proofs.absent.names_absent.Statement.{statement}
 use Rattle.planner.proofs.absent.names_absent.Tie as tie
-use Rattle.planner.proofs.absent.names_absent.Reads as reads
-use Rattle.planner.proofs.absent.names_absent.Lts as lts
-use Rattle.plan.proofs.split.field_value.Reads as field-value-reads
-use Rattle.planner.proofs.absent.route_absent.Reads as route-absent-reads
 
--- src/absent.rt:53:9
 returns : tie.Need-returns
 returns c = sym (absent-other _ _ _ (λ e. c .if1 .taken (c .before .before .pre .1 ∙ e)))
 
--- src/absent.rt:55:18
 field-value-requires : tie.Need-field-value-requires
 field-value-requires c κs = search needs
 
--- src/absent.rt:55:5
 route-absent-requires : tie.Need-route-absent-requires
 route-absent-requires c κs = search needs
 
--- src/absent.rt:48:1
 returns-2 : tie.Need-returns-2
 returns-2 c =
     let a = c .before .before .before .before .args in

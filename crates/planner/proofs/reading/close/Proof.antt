@@ -1,27 +1,21 @@
-use mathlib.Core.Path.{_≡_, sym, _∙_}
+-- `close` meets its contract: test 8, then test 9.
+use mathlib.Core.Path.{sym}
 use denote.Ref.{now}
 use Rattle.plan.specs.laws.Closing.{close-headless, close-flowless, close-absent, close-accepted}
 use Rattle.planner.specs.Loading.{draftOf}
 use borrow.Author.Needs.{needs}
 use Rattle.planner.proofs.reading.close.Statement.{statement}
 use Rattle.planner.proofs.reading.close.Tie as tie
-use Rattle.planner.proofs.reading.close.Reads as reads
-use Rattle.planner.proofs.reading.close.Lts as lts
-use Rattle.planner.proofs.absent.first_absent.Reads as first-absent-reads
 
--- src/reading.rt:138:9
 returns : tie.Need-returns
 returns c = sym (close-headless _ (draftOf (c .before .before .before .args .draft)) (c .if1 .taken))
 
--- src/reading.rt:147:9
 returns-2 : tie.Need-returns-2
 returns-2 c = sym (close-flowless _ (draftOf (c .before .before .before .before .args .draft)) (c .if2 .taken))
 
--- src/reading.rt:156:9
 first-absent-requires : tie.Need-first-absent-requires
 first-absent-requires c κs = search needs
 
--- src/reading.rt:158:9
 returns-3 : tie.Need-returns-3
 returns-3 c =
     let a = c .before .before .before .before .before .before .before .args in
@@ -29,7 +23,6 @@ returns-3 c =
     (sym (close-absent (now (a .plan)) (draftOf (a .draft)) (c .before .before .before .before .if1 .left) (c .before .before .before .if2 .left)
     (rw (c .before .first-absent .ensures) at (c .if3 .taken))))
 
--- src/reading.rt:131:1
 returns-4 : tie.Need-returns-4
 returns-4 c =
     let a = c .before .before .before .before .before .before .before .args in

@@ -1,5 +1,6 @@
-use mathlib.Core.Path.{_≡_, refl, sym, _∙_}
-use mathlib.Core.Bool.{true, false}
+-- `enter` meets its contract: the tests 6 and 7 of a field that was read, and the field stored.
+use mathlib.Core.Path.{_≡_, sym, _∙_}
+use mathlib.Core.Bool.{false}
 use denote.Ref.{now}
 use Rattle.plan.specs.Bytes.{valueAt}
 use Rattle.plan.specs.Draft.{taken, loops}
@@ -12,16 +13,10 @@ use Rattle.planner.specs.Loading.{draftOf}
 use borrow.Author.Needs.{needs}
 use Rattle.planner.proofs.reading.enter.Statement.{statement}
 use Rattle.planner.proofs.reading.enter.Tie as tie
-use Rattle.planner.proofs.reading.enter.Reads as reads
-use Rattle.planner.proofs.reading.enter.Lts as lts
-use Rattle.plan.proofs.split.field_value.Reads as field-value-reads
-use Rattle.planner.proofs.reading.is_looping.Reads as is-looping-reads
-use Rattle.planner.proofs.reading.with_added.Reads as with-added-reads
-use Rattle.planner.proofs.store.is_taken.Reads as is-taken-reads
 
 -- the slot was free
 free : (c : tie.Else1) →
-    taken (planOf (c .before .before .before .before .args .draft .planner)) (fieldOf (c .before .before .before .before .args .field)) ≡ false
+    taken (planOf (c .before .before .before .before .args .draft .planner)) (fieldOf (c .before .before .before .before .args .x)) ≡ false
 free c = sym (c .before .is-taken .ensures) ∙ c .if1 .left
 
 -- the part that the splitter gave is the value of the field that was read
@@ -29,53 +24,46 @@ value-read : (c : tie.After-field-value) →
     now (c .field-value .result) ≡ valueAt (now (c .before .before .before .before .before .args .plan)) (c .before .before .before .before .before .args .at)
 value-read c =
     let a = c .before .before .before .before .before in
-    c .field-value .ensures ∙ part-whole _ _ (found-whole _ _ (fieldOf (a .args .field)) (a .args .next) (a .pre .2))
+    c .field-value .ensures ∙ part-whole _ _ (found-whole _ _ (fieldOf (a .args .x)) (a .args .next) (a .pre .2))
 
 looped : (c : tie.After-is-looping) →
     c .is-looping .result
-    ≡ loops (fieldOf (c .before .before .before .before .before .before .args .field))
+    ≡ loops (fieldOf (c .before .before .before .before .before .before .args .x))
     (valueAt (now (c .before .before .before .before .before .before .args .plan)) (c .before .before .before .before .before .before .args .at))
 looped c = c .is-looping .ensures ∙ rw (value-read (c .before))
 
--- src/reading.rt:89:9
 is-taken-requires : tie.Need-is-taken-requires
 is-taken-requires c κs = found _ _ _ _ (c .before .before .pre .2) .numbers
 
--- src/reading.rt:91:9
 returns : tie.Need-returns
 returns c =
     let a = c .before .before .before .before in
-    sym (step-taken _ _ (draftOf (a .args .draft)) (fieldOf (a .args .field)) (a .args .next) (a .pre .2) (sym (c .before .is-taken .ensures) ∙ c .if1 .taken))
+    sym (step-taken _ _ (draftOf (a .args .draft)) (fieldOf (a .args .x)) (a .args .next) (a .pre .2) (sym (c .before .is-taken .ensures) ∙ c .if1 .taken))
 
--- src/reading.rt:99:9
 field-value-requires : tie.Need-field-value-requires
 field-value-requires c κs = search needs
 
--- src/reading.rt:100:9
 is-looping-requires : tie.Need-is-looping-requires
 is-looping-requires c κs = search needs
 
--- src/reading.rt:102:9
 returns-2 : tie.Need-returns-2
 returns-2 c =
     let a = c .before .before .before .before .before .before .before in
-    sym (step-loops _ _ (draftOf (a .args .draft)) (fieldOf (a .args .field)) (a .args .next) (a .pre .2)
+    sym (step-loops _ _ (draftOf (a .args .draft)) (fieldOf (a .args .x)) (a .args .next) (a .pre .2)
     (free (c .before .before .before))
     (sym (looped (c .before)) ∙ c .if2 .taken))
 
--- src/reading.rt:111:16
 with-added-requires : tie.Need-with-added-requires
 with-added-requires c κs =
     let a = c .before .before .before .before .before .before .before in
     let f = found _ _ _ _ (a .pre .2) in
     (a .pre .0, a .pre .1, f .numbers, rw (value-read (c .before .before)) (f .route))
 
--- src/reading.rt:84:1
 returns-3 : tie.Need-returns-3
 returns-3 c =
     let a = c .before .before .before .before .before .before .before .before in
     rw (c .with-added .ensures, value-read (c .before .before .before))
-    (sym (step-added _ _ (draftOf (a .args .draft)) (fieldOf (a .args .field)) (a .args .next) (a .pre .2)
+    (sym (step-added _ _ (draftOf (a .args .draft)) (fieldOf (a .args .x)) (a .args .next) (a .pre .2)
     (free (c .before .before .before .before))
     (sym (looped (c .before .before)) ∙ c .before .if2 .left)))
 

@@ -1,38 +1,29 @@
+-- `is_looping` meets its contract.
 use Rattle.plan.specs.Draft.{loops}
 use borrow.Author.Needs.{needs}
 use Rattle.planner.proofs.reading.is_looping.Statement.{statement}
 use Rattle.planner.proofs.reading.is_looping.Tie as tie
-use Rattle.planner.proofs.reading.is_looping.Reads as reads
-use Rattle.planner.proofs.reading.is_looping.Lts as lts
-use Rattle.plan.proofs.route.repeats_port.Reads as repeats-port-reads
 
--- src/reading.rt:43:29
 enum-told : tie.Need-enum-told
 enum-told c = search needs
 
--- src/reading.rt:44:27
 enum-told-2 : tie.Need-enum-told-2
 enum-told-2 c = search needs
 
--- src/reading.rt:45:27
 enum-told-3 : tie.Need-enum-told-3
 enum-told-3 c = search needs
 
--- src/reading.rt:45:27
 repeats-port-requires : tie.Need-repeats-port-requires
 repeats-port-requires c κs = search needs
 
--- src/reading.rt:39:1
 returns : tie.Need-returns
 unfolding loops
 returns c = rw (c .enum-told .given .1)
 
--- src/reading.rt:39:1
 returns-2 : tie.Need-returns-2
 unfolding loops
 returns-2 c = rw (c .enum-told2 .given .1)
 
--- src/reading.rt:39:1
 returns-3 : tie.Need-returns-3
 unfolding loops
 returns-3 c = rw (c .before .enum-told3 .given .1) (c .repeats-port .ensures)
