@@ -5,4 +5,5 @@ pub mod Answer
 pub mod Draft
 pub mod Reading
 pub mod FieldOrder
+pub mod Ranges
 pub mod laws

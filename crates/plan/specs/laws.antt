@@ -15,3 +15,10 @@ pub mod Sound
 pub mod Commute
 pub mod Stored
 pub mod Order
+pub mod Within
+pub mod Every
+pub mod Found
+pub mod Steps
+pub mod Absent
+pub mod Closing
+pub mod Sized

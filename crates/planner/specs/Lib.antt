@@ -2,6 +2,7 @@
 pub mod Outcome
 pub mod Calls
 pub mod Answer
+pub mod Loading
 pub mod Demand3
 pub mod SameAnswers
 pub mod PlanK

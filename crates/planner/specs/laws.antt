@@ -1,2 +1,5 @@
 -- Laws of the calls.
 pub mod Rows
+pub mod Copy
+pub mod Ports
+pub mod Load
