@@ -2,6 +2,10 @@
 pub mod Bounded
 pub mod Lists
 pub mod Formed
+pub mod Bounds
+pub mod Route
+pub mod Slot
+pub mod Tests
 pub mod Tabulate
 pub mod Ceil
 pub mod Arrivals
@@ -11,3 +15,5 @@ pub mod Places
 pub mod Sending
 pub mod Accepted
 pub mod Refused
+pub mod Demand
+pub mod Slack

@@ -8,3 +8,5 @@ pub mod SameAnswers
 pub mod PlanK
 pub mod laws
 pub mod Theorem
+pub mod Columns
+pub mod Failing

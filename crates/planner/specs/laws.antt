@@ -3,3 +3,9 @@ pub mod Rows
 pub mod Copy
 pub mod Ports
 pub mod Load
+pub mod Marks
+pub mod Sums
+pub mod Sets
+pub mod Fails
+pub mod Signed
+pub mod Answers

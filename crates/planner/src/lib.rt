@@ -8,6 +8,13 @@ ghost use Rattle.planner.specs.Answer.{planOf, Loads};
 mod reading; // reading.rt: a whole plan read into fresh tables
 mod absent; // absent.rt: test 9, a route that names a port not in the plan
 mod store; // store.rt: a field stored into the tables
+mod demand;
+mod failing;
+mod formed;
+mod question;
+
+pub use question::check;
+pub use question::slack;
 
 // The held plan: port n in slot n - 1, flow n in slot n - 1, a flow's route at its slot times 16. An absent port has rate 0,
 // an absent flow period 0; top is 0 where no plan is held.

@@ -1,0 +1,157 @@
+-- `planner::demand::demands` meets its contract. The loop's invariant: `out` has each port's demand by the flows passed.
+use mathlib.Core.Path.{_≡_, refl, sym, ap, _∙_}
+use mathlib.Core.Logic.{⊎-elim}
+use mathlib.Core.List.{[]}
+use Prim.Native.Nat.{ℕ, _+_, _-_, _*_, _≤_, _<_}
+use lib.ListN.{length, getD}
+use Rattle.cqf.specs.Limits.{portSlots, flowSlots}
+use Rattle.cqf.specs.Plan.{Plan, periodOf, countOf, lengthOf, hopsOf, routeOf}
+use Rattle.cqf.specs.laws.Demand.{mostBits}
+use Rattle.planner.specs.Columns.{columns, Ready}
+use Rattle.planner.specs.laws.Sums.{Sums, sums-none, sums-skip, sums-add, sums-all, flow-most, sum-most}
+use native.Mathlib.Omega.{arith}
+use borrow.Author.Needs.{needs}
+use Rattle.planner.proofs.demand.demands.Statement.{statement}
+use Rattle.planner.proofs.demand.demands.Tie as tie
+
+abbrev Inv-loop : tie.InvT-loop
+Inv-loop periods counts lengths hops routes duration out₀ at f₀ out f =
+    (f ≤ flowSlots)
+    × (length out ≡ portSlots)
+    × Sums (columns [] [] periods counts lengths hops routes) duration f out
+
+abbrev μ-loop : tie.MeasureT-loop
+μ-loop periods counts lengths hops routes duration out₀ at f₀ out f = flowSlots - f
+
+-- where the function starts
+abbrev begin : tie.In-loop Inv-loop μ-loop → tie.Start Inv-loop μ-loop
+begin c = c .before .before .before .before .before .before .before .before .before .before .before .before
+
+-- the plan of the columns
+abbrev plan : tie.Start Inv-loop μ-loop → Plan
+plan s =
+    columns [] [] (s .args .periods .now) (s .args .counts .now) (s .args .lengths .now) (s .args .hops .now) (s .args .routes .now)
+
+-- the slot of the flow at hand
+slot : (c : tie.In-loop Inv-loop μ-loop) → (let f = c .before .loop .f in let p = plan (begin c) in Ready (periodOf p f) (countOf p f) (lengthOf p f) (hopsOf p f) (routeOf p f))
+slot c = begin c .pre .1 .0 .slot (c .before .loop .f) (c .loop-test .taken)
+
+clear-requires : tie.Need-clear-requires Inv-loop μ-loop
+clear-requires c κs = c .before .before .before .before .before .before .before .pre .1 .1 .1
+
+cast-at : tie.Need-cast-at Inv-loop μ-loop
+cast-at c = search needs
+
+loop-holds : tie.Need-loop-holds Inv-loop μ-loop
+loop-holds c =
+    let start = c .before .before .before .before .before .before .before .before .before .before in
+    (omega arith, c .before .before .clear .kept .0 ∙ start .pre .1 .1 .1, sums-none (plan start) (start .args .duration) (c .before .before .clear .last .0) (c .before .before .clear .ensures))
+
+mul-period : tie.Need-mul-period Inv-loop μ-loop
+mul-period c = search needs
+
+shared-slice-read-period : tie.Need-shared-slice-read-period Inv-loop μ-loop
+shared-slice-read-period c = search needs
+
+mul-flow-bits : tie.Need-mul-flow-bits Inv-loop μ-loop
+mul-flow-bits c = search needs
+
+shared-slice-read-flow-bits : tie.Need-shared-slice-read-flow-bits Inv-loop μ-loop
+shared-slice-read-flow-bits c = search needs
+
+mul-flow-bits-2 : tie.Need-mul-flow-bits-2 Inv-loop μ-loop
+mul-flow-bits-2 c = search needs
+
+shared-slice-read-flow-bits-2 : tie.Need-shared-slice-read-flow-bits-2 Inv-loop μ-loop
+shared-slice-read-flow-bits-2 c = search needs
+
+flow-bits-requires : tie.Need-flow-bits-requires Inv-loop μ-loop
+flow-bits-requires c κs =
+    let at = c .before .before .before .before in
+    let r = slot at in
+    (r .period-least (c .before .before .if1 .taken), r .period-most, r .count-most, r .bytes-most, begin at .pre .1 .1 .0)
+
+mul-add-route : tie.Need-mul-add-route Inv-loop μ-loop
+mul-add-route c = search needs
+
+shared-slice-read-add-route : tie.Need-shared-slice-read-add-route Inv-loop μ-loop
+shared-slice-read-add-route c = search needs
+
+cast-add-route : tie.Need-cast-add-route Inv-loop μ-loop
+cast-add-route c = omega (arith, slot (c .before .before .before .before .before .before) .hops-most)
+
+add-route-requires : tie.Need-add-route-requires Inv-loop μ-loop
+add-route-requires c κs =
+    let at = c .before .before .before .before .before .before .before in
+    let start = begin at in
+    let p = plan start in
+    let f = at .before .loop .f in
+    let T = start .args .duration in
+    let r = slot at in
+    let bits = c .before .before .flow-bits in
+    let few : bits .result ≤ mostBits = rw (bits .ensures) (flow-most p (start .pre .1 .0 .slot) T (start .pre .1 .1 .0) f (at .loop-test .taken) (c .before .before .before .before .before .if1 .taken)) in (
+      (omega (arith, start .pre .0, r .hops-most), at .before .loop .inv .1),
+      (
+        (r .ports, r .once),
+        λ q h. omega (arith, at .before .loop .inv .2 q h, sum-most p (start .pre .1 .0 .slot) T (start .pre .1 .1 .0) q f (at .before .loop .inv .0)),
+      ),
+    )
+
+add-f : tie.Need-add-f Inv-loop μ-loop
+add-f c = search needs
+
+loop-less : tie.Need-loop-less Inv-loop μ-loop
+loop-less c = search needs
+
+loop-again : tie.Need-loop-again Inv-loop μ-loop
+loop-again c =
+    let at = c .before .before in
+    let p = plan (begin at) in
+    let T = begin at .args .duration in
+    let f = at .before .loop .f in
+    let out = at .before .loop .out in
+    let sums = at .before .loop .inv .2 in
+    ⊎-elim
+    (λ w. (
+      omega arith,
+      rw (w .9) (w .6 .kept .1 .1 .1 .1 .0 ∙ at .before .loop .inv .1),
+      rw (w .9) (sums-add p T f (w .3 .result) out (w .6 .last .1 .1 .1 .1 .0) (w .3 .ensures) (w .6 .ensures) sums),
+    ))
+    (λ w.
+    (omega arith, rw (w .1) (at .before .loop .inv .1), rw (w .1) (sums-skip p T f out (slot at .absent (w .0 .left)) sums)))
+    (c .if1 .came)
+
+same-length : tie.Need-same-length Inv-loop μ-loop
+same-length c = search needs
+
+returns : tie.Need-returns Inv-loop μ-loop
+returns c =
+    let start = c .before .before .before .before .before .before .before .before .before .before .before .before in
+    let all : c .before .loop .f ≡ flowSlots = omega arith in
+    sums-all (plan start) (start .args .duration) (c .before .loop .out) (c .before .loop .inv .1) (rw all at (c .before .loop .inv .2))
+
+pub demands-spec : {M : Type 1} → statement M
+demands-spec =
+    tie.close
+    (tie.spec
+    Inv-loop
+    μ-loop
+    clear-requires
+    cast-at
+    loop-holds
+    mul-period
+    shared-slice-read-period
+    mul-flow-bits
+    shared-slice-read-flow-bits
+    mul-flow-bits-2
+    shared-slice-read-flow-bits-2
+    flow-bits-requires
+    mul-add-route
+    shared-slice-read-add-route
+    cast-add-route
+    add-route-requires
+    add-f
+    loop-less
+    loop-again
+    same-length
+    returns)

@@ -1,0 +1,17 @@
+-- `planner::failing::failing_ports` meets its contract.
+use mathlib.Core.Path.{refl}
+use native.Mathlib.Numerals.{add-one}
+use lib.Count.{trailing-le}
+use native.Mathlib.Omega.{arith}
+use borrow.Author.Needs.{needs}
+use Rattle.planner.proofs.failing.failing_ports.Statement.{statement}
+use Rattle.planner.proofs.failing.failing_ports.Tie as tie
+
+add-t3 : tie.Need-add-t3
+add-t3 c = omega (arith, trailing-le 64 (c .args .set))
+
+returns : tie.Need-returns
+returns c = search needs
+
+pub failing-ports-spec : {M : Type 1} → statement M
+failing-ports-spec = tie.close (tie.spec add-t3 returns)

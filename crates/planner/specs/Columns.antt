@@ -1,0 +1,53 @@
+-- What a function reads and asks which is lent columns of the tables and not the whole planner.
+use mathlib.Core.Path.{_≡_}
+use mathlib.Core.List.{List}
+use mathlib.Core.Bool.{true, cond}
+use Prim.Native.Nat.{ℕ, suc, _+_, _*_, _≤_, _<_}
+use lib.ListN.{length, getD}
+use Rattle.cqf.specs.Bounded.{elem, distinct, every, row}
+use Rattle.cqf.specs.Limits.{portSlots, flowSlots, maxHops, maxTop, portOk}
+use Rattle.cqf.specs.Plan.{Plan}
+
+-- the columns in the order of the tables; one that the function is not lent is empty, and guard and top are 0
+abbrev pub columns : (rates blockings periods counts lengths hops routes : List ℕ) → Plan
+columns rates blockings periods counts lengths hops routes =
+    record {
+      guard = 0;
+      top = 0;
+      rates = rates;
+      blockings = blockings;
+      periods = periods;
+      counts = counts;
+      lengths = lengths;
+      hops = hops;
+      routes = routes;
+    }
+
+-- the flows' columns have a number for each slot
+pub record FlowColumns (periods counts lengths hops routes : List ℕ) : Type 0 where
+  pub periods-long : length periods ≡ flowSlots
+  pub counts-long : length counts ≡ flowSlots
+  pub lengths-long : length lengths ≡ flowSlots
+  pub hops-long : length hops ≡ flowSlots
+  pub routes-long : length routes ≡ flowSlots * maxHops
+
+-- a flow's slot that is empty or in range, over distinct ports; whether the ports are in the plan does not matter here
+pub record Ready (period count bytes hops : ℕ) (route : List ℕ) : Type 0 where
+  pub absent : period ≡ 0 → hops ≡ 0
+  pub period-least : (period ≡ 0 → ⊥) → 1000 ≤ period
+  pub period-most : period ≤ maxTop
+  pub count-most : count ≤ 64
+  pub bytes-most : bytes ≤ 2000
+  pub hops-most : hops ≤ maxHops
+  pub ports : every portOk route ≡ true
+  pub once : distinct route ≡ true
+
+pub record FlowsReady (periods counts lengths hops routes : List ℕ) : Type 0 where
+  pub slot
+      : (f : ℕ)
+      → f < flowSlots
+      → Ready (getD periods f 0) (getD counts f 0) (getD lengths f 0) (getD hops f 0) (row routes (f * maxHops) (getD hops f 0))
+
+-- a table l that has v more than l₀ at each port of r, and as much elsewhere
+abbrev pub Marked : (l₀ l r : List ℕ) → ℕ → Type 0
+Marked l₀ l r v = (q : ℕ) → q < portSlots → getD l q 0 ≡ getD l₀ q 0 + cond (elem (suc q) r) v 0

@@ -1,0 +1,151 @@
+-- Laws of the demands as they are summed up, flow by flow, from columns that are ready for it.
+use mathlib.Core.Path.{_≡_, refl, sym, ap, _∙_}
+use mathlib.Core.Logic.{_⊎_, inl, inr}
+use mathlib.Core.Bool.{Bool, true, false, cond, and-eq-true-iff}
+use mathlib.Core.List.{List, [], _∷_}
+use Prim.Native.Nat.{ℕ, suc, _+_, _*_, _^_, _≤_, _<_, zero-le}
+use native.Mathlib.Nat.{add-zero, mul-le-mul-right, le-trans}
+use native.Mathlib.Decide.{ℕ-discrete}
+use native.Mathlib.Omega.{arith}
+use lib.ListN.{length, getD}
+use lib.Seq.{ext-getD}
+use Rattle.cqf.specs.Bounded.{sumTo, elem, every, distinct, row, tabulate}
+use Rattle.cqf.specs.Limits.{portSlots, flowSlots, maxHops, maxTop, portOk}
+use Rattle.cqf.specs.Plan.{Plan, periodOf, countOf, lengthOf, hopsOf, routeOf, crosses, portIn, wellFormed}
+use Rattle.cqf.specs.Condition.{bitsOf, wireBits, ceilDiv, frames, demand}
+use Rattle.cqf.specs.laws.Bounds.{sumTo-most}
+use Rattle.cqf.specs.laws.Formed.{Empty, Held, slot-cases}
+use Rattle.cqf.specs.laws.Tabulate.{tabulate-length, tabulate-at}
+use Rattle.cqf.specs.laws.Demand.{share, demand-sum, mostBits, bits-most, share-none, sum-next}
+use Rattle.planner.specs.Failing.{mostDemand}
+use Rattle.planner.specs.Columns.{columns, Ready, FlowsReady, Marked}
+
+-- a stronger test that each number of a list passes
+every-weaker : (a b : ℕ → Bool) → ((n : ℕ) → a n ≡ true → b n ≡ true) → (l : List ℕ) → every a l ≡ true → every b l ≡ true
+unfolding every
+every-weaker a b h [] e = refl
+every-weaker a b h (x ∷ l) e =
+    let t = and-eq-true-iff (a x) (every a l) .0 e in
+    and-eq-true-iff (b x) (every b l) .1 (h x (t .0), every-weaker a b h l (t .1))
+
+-- the slots of a well-formed plan are ready
+pub slot-ready
+    : (p : Plan)
+    → wellFormed p ≡ true
+    → (f : ℕ)
+    → f < flowSlots
+    → Ready (periodOf p f) (countOf p f) (lengthOf p f) (hopsOf p f) (routeOf p f)
+unfolding row every distinct
+slot-ready p formed f l = go (slot-cases p formed f l)
+  where
+    go : Empty p f ⊎ Held p f → Ready (periodOf p f) (countOf p f) (lengthOf p f) (hopsOf p f) (routeOf p f)
+    go (inl e) =
+        record {
+          absent = λ _. e .hops;
+          period-least = λ ne. absurd (ne (e .period));
+          period-most = omega (arith, e .period);
+          count-most = omega (arith, e .count);
+          bytes-most = omega (arith, e .bytes);
+          hops-most = omega (arith, e .hops);
+          ports = rw (e .hops);
+          once = rw (e .hops);
+        }
+    go (inr h) =
+        record {
+          absent = λ e. absurd (omega (arith, h .period-least, e));
+          period-least = λ _. h .period-least;
+          period-most = h .period-most;
+          count-most = h .count-most;
+          bytes-most = h .bytes-most;
+          hops-most = h .hops-most;
+          ports = every-weaker (portIn (p .rates)) portOk (λ n e. and-eq-true-iff _ _ .0 e .0) (routeOf p f) (h .in-plan);
+          once = h .once;
+        }
+
+-- the wire bits of the frames of flow f
+abbrev pub bitsAt : Plan → ℕ → ℕ → ℕ
+bitsAt p T f = countOf p f * ceilDiv T (periodOf p f) * bitsOf (lengthOf p f)
+
+-- each port's demand by the flows before f
+abbrev pub Sums : Plan → ℕ → ℕ → List ℕ → Type 0
+Sums p T f l = (q : ℕ) → q < portSlots → getD l q 0 ≡ sumTo f (share p q T)
+
+module _ (p : Plan) (T : ℕ) where
+  pub sums-none : (l : List ℕ) → ((q : ℕ) → q < portSlots → getD l q 0 ≡ 0) → Sums p T 0 l
+  unfolding sumTo
+  sums-none l zeros = zeros
+
+  -- a flow without ports adds nothing
+  pub sums-skip : (f : ℕ) (l : List ℕ) → hopsOf p f ≡ 0 → Sums p T f l → Sums p T (f + 1) l
+  sums-skip f l none sums q h =
+      sums q h ∙ sym (sum-next p q T f ∙ ap (λ (n : ℕ). sumTo f (share p q T) + n) (share-none p q T f none) ∙ add-zero _)
+
+  -- a flow whose bits are added at each port of its route
+  pub sums-add
+      : (f bits : ℕ) (l l′ : List ℕ)
+      → bits ≡ bitsAt p T f
+      → Marked l l′ (routeOf p f) bits
+      → Sums p T f l
+      → Sums p T (f + 1) l′
+  unfolding frames wireBits
+  sums-add f bits l l′ e marked sums q h =
+      marked q h
+      ∙ rw (e, sums q h) (sym (sum-next p q T f))
+
+  -- after the last flow
+  pub sums-all : (l : List ℕ) → length l ≡ portSlots → Sums p T flowSlots l → l ≡ tabulate portSlots (λ q. demand p q T)
+  sums-all l long sums =
+      ext-getD 0 l (tabulate portSlots (λ q. demand p q T)) (long ∙ sym (tabulate-length portSlots _))
+      (λ q h.
+      let h′ : q < portSlots = omega arith in
+      sums q h′ ∙ sym (demand-sum p q T) ∙ sym (tabulate-at portSlots (λ q. demand p q T) q h′))
+
+-- every slot of the flows' columns is ready
+abbrev pub AllReady : Plan → Type 0
+AllReady p = (f : ℕ) → f < flowSlots → Ready (periodOf p f) (countOf p f) (lengthOf p f) (hopsOf p f) (routeOf p f)
+
+module _ (p : Plan) (ready : AllReady p) (T : ℕ) (fits : T ≤ maxTop) where
+  -- one flow brings at most its most bits
+  pub flow-most : (f : ℕ) → f < flowSlots → (periodOf p f ≡ 0 → ⊥) → bitsAt p T f ≤ mostBits
+  flow-most f l there =
+      let r = ready f l in
+      bits-most T fits (r .period-least there) (r .count-most) (r .bytes-most)
+
+  share-most : (q f : ℕ) → f < flowSlots → share p q T f ≤ mostBits
+  unfolding frames wireBits
+  share-most q f l = go (ℕ-discrete (periodOf p f) 0)
+    where
+      part : (x : Bool) → bitsAt p T f ≤ mostBits → cond x (bitsAt p T f) 0 ≤ mostBits
+      part true h = h
+      part false h = zero-le
+
+      go : Dec (periodOf p f ≡ 0) → share p q T f ≤ mostBits
+      go (yes e) = omega (arith, share-none p q T f (ready f l .absent e))
+      go (no there) = part (crosses p f q) (flow-most f l there)
+
+  -- the sums by the flows before f, and so each demand
+  pub sum-most : (q f : ℕ) → f ≤ flowSlots → sumTo f (share p q T) ≤ mostDemand
+  sum-most q f l =
+      le-trans (sumTo-most f (share p q T) mostBits (λ i h. share-most q i (omega arith))) (mul-le-mul-right mostBits l)
+
+  pub demand-most : (q : ℕ) → demand p q T ≤ mostDemand
+  demand-most q = omega (arith, demand-sum p q T, sum-most q flowSlots (omega arith))
+
+-- the demand depends on the flows' columns alone
+pub demand-columns
+    : (p : Plan) (q T : ℕ)
+    → demand (columns [] [] (p .periods) (p .counts) (p .lengths) (p .hops) (p .routes)) q T ≡ demand p q T
+unfolding frames wireBits
+demand-columns p q T =
+    demand-sum (columns [] [] (p .periods) (p .counts) (p .lengths) (p .hops) (p .routes)) q T ∙ sym (demand-sum p q T)
+
+-- the table of demands of a well-formed plan is within the largest demand
+pub demands-most
+    : (p : Plan)
+    → wellFormed p ≡ true
+    → (T : ℕ)
+    → T ≤ maxTop
+    → (q : ℕ)
+    → q < portSlots
+    → getD (tabulate portSlots (λ q. demand p q T)) q 0 ≤ mostDemand
+demands-most p formed T fits q l = rw (tabulate-at portSlots (λ q. demand p q T) q l) (demand-most p (slot-ready p formed) T fits q)

@@ -1,0 +1,73 @@
+// Each port's demand at a duration, in bits: one pass over the flows and the ports of their routes.
+ghost use mathlib.Core.Path.{_≡_};
+ghost use mathlib.Core.Bool.{true};
+ghost use mathlib.Core.List.{[]};
+ghost use Prim.Native.Nat.{ℕ, _+_, _*_, _^_, _≤_, _<_};
+ghost use lib.ListN.{length, getD, replicate};
+ghost use Rattle.cqf.specs.Bounded.{distinct, every, row, tabulate};
+ghost use Rattle.cqf.specs.Limits.{portSlots, flowSlots, maxTop, portOk};
+ghost use Rattle.cqf.specs.Condition.{bitsOf, ceilDiv, demand};
+ghost use Rattle.planner.specs.Columns.{columns, FlowColumns, FlowsReady, Marked};
+
+// The wire bits of the frames that a flow brings.
+fn flow_bits(period: u32, count: u16, bytes: u16, duration: u32) -> u64
+    requires { ⌜ (1000 ≤ period) × (period ≤ maxTop) × (count ≤ 64) × (bytes ≤ 2000) × (duration ≤ maxTop) ⌝ }
+    ensures { λ r. ⌜ r ≡ count * ceilDiv duration period * bitsOf bytes ⌝ }
+{
+    let begun = (duration + (period - 1)) / period;
+    (count as u64) * (begun as u64) * (8 * (bytes as u64 + 20))
+}
+
+// The bits are added at each port of a route.
+fn add_route<'a>(routes: &'a [u8], base: usize, hops: usize, bits: u64, out: &mut [u64])
+    requires { ⌜ (base + hops ≤ length (now routes)) × (length (now out) ≡ portSlots) ⌝ }
+    requires { ⌜ (every portOk (row (now routes) base hops) ≡ true) × (distinct (row (now routes) base hops) ≡ true) ⌝ }
+    requires { ⌜ ((q : ℕ) → q < portSlots → getD (now out) q 0 + bits < 2 ^ 64) ⌝ }
+    ensures { λ r. ⌜ Marked (now (out .entry)) (now (out .exit)) (row (now (routes .entry)) base hops) bits ⌝ }
+{
+    let mut i: usize = 0;
+    while i < hops {
+        let q = routes[base + i] as usize - 1;
+        out[q] = out[q] + bits;
+        i += 1;
+    }
+}
+
+fn clear(out: &mut [u64])
+    requires { ⌜ length (now out) ≡ portSlots ⌝ }
+    ensures { λ r. ⌜ ((q : ℕ) → q < portSlots → getD (now (out .exit)) q 0 ≡ 0) ⌝ }
+{
+    let mut q: usize = 0;
+    while q < 64 {
+        out[q] = 0;
+        q += 1;
+    }
+}
+
+// Port n's demand goes to position n - 1; what stood there before does not matter.
+pub(crate) fn demands<'a>(
+    periods: &'a [u32],
+    counts: &'a [u16],
+    lengths: &'a [u16],
+    hops: &'a [u8],
+    routes: &'a [u8],
+    duration: u64,
+    out: &mut [u64],
+)
+    requires { ⌜ FlowColumns (now periods) (now counts) (now lengths) (now hops) (now routes) ⌝ }
+    requires { ⌜ FlowsReady (now periods) (now counts) (now lengths) (now hops) (now routes) ⌝ }
+    requires { ⌜ (duration ≤ maxTop) × (length (now out) ≡ portSlots) ⌝ }
+    ensures { λ r. ⌜ now (out .exit) ≡ tabulate portSlots (λ q. demand (columns [] [] (now (periods .entry)) (now (counts .entry)) (now (lengths .entry)) (now (hops .entry)) (now (routes .entry))) q duration) ⌝ }
+{
+    clear(out);
+    let at = duration as u32;
+    let mut f: usize = 0;
+    while f < 256 {
+        let period = periods[f];
+        if period != 0 {
+            let bits = flow_bits(period, counts[f], lengths[f], at);
+            add_route(routes, f * 16, hops[f] as usize, bits, out);
+        }
+        f += 1;
+    }
+}

@@ -1,0 +1,77 @@
+// Which ports fail at a duration, from each port's demand.
+ghost use mathlib.Core.Path.{_≡_};
+ghost use Prim.Native.Nat.{ℕ, suc, _+_, _-_, _*_, _≤_, _<_};
+ghost use lib.ListN.{length, getD};
+ghost use lib.Count.{ones, trailingZeros};
+ghost use Rattle.cqf.specs.Limits.{portSlots, maxTop};
+ghost use Rattle.planner.specs.Failing.{setTo, workloadOf, failsBy, failsIn, mostDemand};
+
+// The part of a cycle in which a port sends.
+pub(crate) fn window(guard: u32, duration: u64) -> u64
+    ensures { λ r. ⌜ r ≡ duration - 2 * guard ⌝ }
+{
+    let closed = 2 * (guard as u64);
+    if duration < closed {
+        return 0;
+    }
+    duration - closed
+}
+
+// What a port must be able to send, in bits times 1,000 ns.
+pub(crate) fn workload(blocking: u16, bits: u64) -> u64
+    requires { ⌜ bits ≤ mostDemand ⌝ }
+    ensures { λ r. ⌜ r ≡ workloadOf blocking bits ⌝ }
+{
+    if blocking == 0 {
+        return 1_000 * bits;
+    }
+    1_000 * (bits + 8 * (blocking as u64 + 20))
+}
+
+// Whether a port fails; a demand of 0 is that of a port that no flow crosses.
+pub(crate) fn port_fails(rate: u32, blocking: u16, window: u64, bits: u64) -> bool
+    requires { ⌜ (window ≤ maxTop) × (bits ≤ mostDemand) ⌝ }
+    ensures { λ r. ⌜ r ≡ failsBy rate blocking window bits ⌝ }
+{
+    if bits == 0 {
+        return false;
+    }
+    (rate as u64) * window < workload(blocking, bits)
+}
+
+// The failing ports: bit q for the port in slot q.
+pub(crate) fn failing_set<'a>(
+    rates: &'a [u32],
+    blockings: &'a [u16],
+    window: u64,
+    demands: &'a [u64],
+) -> u64
+    requires { ⌜ (length (now rates) ≡ portSlots) × (length (now blockings) ≡ portSlots) × (length (now demands) ≡ portSlots) ⌝ }
+    requires { ⌜ (window ≤ maxTop) × ((q : ℕ) → q < portSlots → getD (now demands) q 0 ≤ mostDemand) ⌝ }
+    ensures { λ r. ⌜ r ≡ setTo portSlots (failsIn (now (rates .entry)) (now (blockings .entry)) window (now (demands .entry))) ⌝ }
+{
+    let mut set: u64 = 0;
+    let mut q: usize = 0;
+    while q < 64 {
+        if port_fails(rates[q], blockings[q], window, demands[q]) {
+            set = set | (1u64 << q);
+        }
+        q += 1;
+    }
+    set
+}
+
+// The number of the lowest port of a set, and how many there are.
+pub(crate) struct FailingPorts {
+    pub(crate) port: u32,
+    pub(crate) count: u32,
+}
+
+pub(crate) fn failing_ports(set: u64) -> FailingPorts
+    ensures { λ r. ⌜ (r .port ≡ suc (trailingZeros 64 set)) × (r .count ≡ ones set) ⌝ }
+{
+    FailingPorts {
+        port: u64::trailing_zeros(set) + 1,
+        count: u64::count_ones(set),
+    }
+}

@@ -1,0 +1,108 @@
+// The two questions at one duration: is it admissible, and what is a port's slack.
+use super::CheckAnswer;
+use super::Planner;
+use super::SlackAnswer;
+use super::demand::demands;
+use super::failing::failing_ports;
+use super::failing::failing_set;
+use super::failing::window;
+use super::failing::workload;
+use super::formed::formed;
+ghost use mathlib.Core.Path.{_≡_};
+ghost use mathlib.Core.Bool.{true};
+ghost use Prim.Native.Nat.{_*_, _≤_};
+ghost use lib.IntN.{subℕ};
+ghost use Rattle.cqf.specs.Bounded.{tabulate};
+ghost use Rattle.cqf.specs.Limits.{portSlots, maxTop};
+ghost use Rattle.cqf.specs.Plan.{wellFormed};
+ghost use Rattle.cqf.specs.Condition.{demand};
+ghost use Rattle.planner.specs.Answer.{planOf, checkOf, slackOf};
+ghost use Rattle.planner.specs.Failing.{workloadOf, mostDemand};
+ghost use Rattle.planner.specs.Demand3.{Demand3};
+ghost use Rattle.planner.specs.Outcome.{checkAnswer, slackAnswer};
+
+// Each port's demand.
+fn port_demands(planner: Planner, duration: u64) -> [u64; 64]
+    requires { ⌜ (wellFormed (planOf planner) ≡ true) × (duration ≤ maxTop) ⌝ }
+    ensures { λ r. ⌜ r ≡ tabulate portSlots (λ q. demand (planOf planner) q duration) ⌝ }
+{
+    let mut out = [0u64; 64];
+    demands(
+        &planner.periods,
+        &planner.counts,
+        &planner.lengths,
+        &planner.hops,
+        &planner.routes,
+        duration,
+        &mut out,
+    );
+    out
+}
+
+// Is this duration admissible? What the answer means is demand 3: after every row of calls that leads to this planner.
+pub fn check(planner: Planner, duration: u64) -> CheckAnswer
+    ensures answers { λ r. ⌜ checkOf r ≡ checkAnswer (planOf planner) duration ⌝ }
+    ensures means { λ r. ⌜ Demand3 (planOf planner) duration (checkOf r) ⌝ }
+{
+    if !formed(planner) {
+        return CheckAnswer::NoPlan;
+    }
+    if duration < 1 {
+        return CheckAnswer::BadDuration;
+    }
+    let top = planner.top as u64;
+    if top < duration {
+        return CheckAnswer::BadDuration;
+    }
+    let out = port_demands(planner, duration);
+    let open = window(planner.guard, duration);
+    let set = failing_set(&planner.rates, &planner.blockings, open, &out);
+    if set == 0 {
+        return CheckAnswer::Admissible;
+    }
+    let ports = failing_ports(set);
+    CheckAnswer::Failing {
+        port: ports.port,
+        count: ports.count,
+    }
+}
+
+// The slack of a port, from two products: a signed number, exact at zero.
+fn port_slack(rate: u32, blocking: u16, window: u64, bits: u64) -> i64
+    requires { ⌜ (window ≤ maxTop) × (bits ≤ mostDemand) ⌝ }
+    ensures { λ r. ⌜ r ≡ subℕ (rate * window) (workloadOf blocking bits) ⌝ }
+{
+    let capacity = (rate as u64) * window;
+    let needed = workload(blocking, bits);
+    (capacity as i64) - (needed as i64)
+}
+
+// What is the slack of this port?
+pub fn slack(planner: Planner, port: u64, duration: u64) -> SlackAnswer
+    ensures { λ r. ⌜ slackOf r ≡ slackAnswer (planOf planner) port duration ⌝ }
+{
+    if !formed(planner) {
+        return SlackAnswer::NoPlan;
+    }
+    if duration < 1 {
+        return SlackAnswer::BadDuration;
+    }
+    let top = planner.top as u64;
+    if top < duration {
+        return SlackAnswer::BadDuration;
+    }
+    if port < 1 {
+        return SlackAnswer::NotCrossed;
+    }
+    if 64 < port {
+        return SlackAnswer::NotCrossed;
+    }
+    let q = (port - 1) as usize;
+    let out = port_demands(planner, duration);
+    let bits = out[q];
+    if bits == 0 {
+        return SlackAnswer::NotCrossed;
+    }
+    let open = window(planner.guard, duration);
+    SlackAnswer::Slack(port_slack(planner.rates[q], planner.blockings[q], open, bits))
+}
