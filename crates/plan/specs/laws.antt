@@ -7,3 +7,7 @@ pub mod Tested
 pub mod Within
 pub mod Every
 pub mod Found
+pub mod Steps
+pub mod Absent
+pub mod Closing
+pub mod Sized

@@ -1,6 +1,6 @@
 -- Laws of a test that each number of a list passes.
 use Prim.Native.Nat.{ℕ, zero, suc, _<_}
-use mathlib.Core.Path.{_≡_, refl}
+use mathlib.Core.Path.{_≡_}
 use mathlib.Core.List.{List, [], _∷_}
 use mathlib.Core.Bool.{Bool, true}
 use native.Mathlib.Nat.{le-of-suc-le-suc, not-suc-le-zero}

@@ -1,6 +1,6 @@
 -- Laws of a field that was read: it is whole, its numbers are in range, its route fits it, and the next offset is the one after it.
-use Prim.Native.Nat.{ℕ, _+_, _*_, _≤_, _<_}
-use mathlib.Core.Path.{_≡_, refl, sym, _∙_}
+use Prim.Native.Nat.{ℕ, _+_, _*_, _≤_}
+use mathlib.Core.Path.{_≡_, refl}
 use mathlib.Core.List.{List}
 use mathlib.Core.Bool.{Bool, true, false, cond, _&&_}
 use native.Mathlib.Omega.{arith}
@@ -10,7 +10,7 @@ use Rattle.cqf.specs.Bounded.{every}
 use Rattle.cqf.specs.Limits.{guardOk, topOk, portOk, rateOk, lengthOk, blockingOk, flowOk, periodOk, countOk, hopsOk}
 use Rattle.plan.specs.Bytes.{number2, number4, headSize, tagAt, sizeAt, wholeAt, valueAt}
 use Rattle.plan.specs.Field.{Field, header, port, flow, FieldRead, field, refused, unless, headerTag, portTag, flowTag, headerSize, portSize, flowSize, hopsIn, routeIn, headerIn, portInValue, flowIn, fieldIn, fieldAt}
-use Rattle.plan.specs.Ranges.{HeaderOk, PortOk, FlowOk, NumbersOk, RouteOk, RouteFits}
+use Rattle.plan.specs.Ranges.{NumbersOk, RouteFits}
 use Rattle.plan.specs.laws.Tests.{and-left, and-right}
 use Rattle.plan.specs.laws.Route.{route-length}
 use Rattle.plan.specs.laws.Whole.{whole-fits}
@@ -69,7 +69,7 @@ module _ (v : List ℕ) (at next m : ℕ) (x : Field) where
       (record {
         number = and-left (portOk n) (rateOk r) ok₂;
         rate = and-right (portOk n) (rateOk r) ok₂;
-        blocking = and-right (portOk n && rateOk r) (blockingOk b) ok
+        blocking = and-right (portOk n && rateOk r) (blockingOk b) ok;
       })
       tt
       (behind 5 at test read e₅)
@@ -97,11 +97,11 @@ module _ (v : List ℕ) (at next m : ℕ) (x : Field) where
         period = and-right (flowOk n) (periodOk p) okp;
         count = and-right (flowOk n && periodOk p) (countOk c) okc;
         length = and-right (flowOk n && periodOk p && countOk c) (lengthOk l) okl;
-        hops = and-left (hopsOk h) sized ok₄
+        hops = and-left (hopsOk h) sized ok₄;
       })
       (record {
         hops = route-length v;
-        ports = and-right (flowOk n && periodOk p && countOk c && lengthOk l) (every portOk (routeIn v)) ok
+        ports = and-right (flowOk n && periodOk p && countOk c && lengthOk l) (every portOk (routeIn v)) ok;
       })
       (behind 5 at test read e₅)
 
