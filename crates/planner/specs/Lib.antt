@@ -2,5 +2,6 @@
 pub mod Outcome
 pub mod Calls
 pub mod Answer
+pub mod Loading
 pub mod Demand3
 pub mod laws

@@ -1,7 +1,10 @@
 // A field stored into the tables.
 
 use crate::Planner;
-use plan::{Field, Flow, Header, Port};
+use plan::Field;
+use plan::Flow;
+use plan::Header;
+use plan::Port;
 use plan::route::route_port;
 ghost use Prim.Native.Nat.{_+_, _≤_};
 ghost use mathlib.Core.Path.{_≡_};

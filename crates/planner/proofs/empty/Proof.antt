@@ -1,11 +1,9 @@
+-- `empty` meets its contract: the tables are those of no plan.
 use mathlib.Core.Path.{refl}
 use Rattle.cqf.specs.Plan.{noPlan}
 use Rattle.planner.proofs.empty.Statement.{statement}
 use Rattle.planner.proofs.empty.Tie as tie
-use Rattle.planner.proofs.empty.Reads as reads
-use Rattle.planner.proofs.empty.Lts as lts
 
--- src/lib.rt:56:1
 returns : tie.Need-returns
 unfolding noPlan
 returns c = refl

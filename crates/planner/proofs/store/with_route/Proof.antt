@@ -1,5 +1,6 @@
-use Prim.Native.Nat.{ℕ, _+_, _-_, _≤_, _<_}
-use mathlib.Core.Path.{_≡_, refl, ap, sym, _∙_}
+-- `with_route` meets its contract. The invariant: the first i ports of the route are stored, and nothing else has changed.
+use Prim.Native.Nat.{_-_, _≤_, _<_}
+use mathlib.Core.Path.{_≡_, refl}
 use borrow.Author.Needs.{needs}
 use native.Mathlib.Omega.{arith}
 use lib.ListN.{length, getD, take}
@@ -12,9 +13,6 @@ use Rattle.plan.specs.laws.Every.{every-at}
 use Rattle.planner.specs.laws.Copy.{sets-take}
 use Rattle.planner.proofs.store.with_route.Statement.{statement}
 use Rattle.planner.proofs.store.with_route.Tie as tie
-use Rattle.planner.proofs.store.with_route.Reads as reads
-use Rattle.planner.proofs.store.with_route.Lts as lts
-use Rattle.plan.proofs.route.route_port.Reads as route-port-reads
 
 abbrev Inv-loop : tie.InvT-loop
 Inv-loop base value hops next₀ i₀ next i = (i ≤ hops) × (next ≡ sets next₀ base (take i (routeIn value)))
@@ -34,43 +32,33 @@ module _ (c : tie.After-route-port Inv-loop μ-loop) where
   in-range : portOk (c .route-port .result) ≡ true
   in-range = rw read (every-at portOk _ _ (c .before .before .before .before .pre .1 .ports) inside)
 
--- src/store.rt:68:5
 loop-holds : tie.Need-loop-holds Inv-loop μ-loop
 loop-holds c = (omega arith, refl)
 
--- src/store.rt:69:13
 route-port-requires : tie.Need-route-port-requires Inv-loop μ-loop
 route-port-requires c κs = search needs
 
--- src/store.rt:70:26
 cast-next : tie.Need-cast-next Inv-loop μ-loop
 cast-next c = omega (arith, within-high 1 64 (c .route-port .result) (in-range c))
 
--- src/store.rt:70:14
 add-next : tie.Need-add-next Inv-loop μ-loop
 add-next c = omega arith
 
--- src/store.rt:70:9
 array-write-next : tie.Need-array-write-next Inv-loop μ-loop
 array-write-next c = omega arith
 
--- src/store.rt:71:9
 add-i : tie.Need-add-i Inv-loop μ-loop
 add-i c = omega arith
 
--- src/store.rt:68:5
 loop-less : tie.Need-loop-less Inv-loop μ-loop
 loop-less c = omega arith
 
--- src/store.rt:68:5
 loop-again : tie.Need-loop-again Inv-loop μ-loop
-loop-again c =
-    (
-      omega arith,
-      rw (c .before .before .loop .inv .1, read c, sets-take _ _ _ _ (inside c))
-    )
+loop-again c = (
+  omega arith,
+  rw (c .before .before .loop .inv .1, read c, sets-take _ _ _ _ (inside c)),
+)
 
--- src/store.rt:62:1
 returns : tie.Need-returns Inv-loop μ-loop
 returns c =
     let e : c .before .loop .i ≡ length (routeIn (c .before .before .before .args .value .now)) = omega (arith, c .before .before .before .pre .1 .hops) in
