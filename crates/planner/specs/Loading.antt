@@ -14,6 +14,10 @@ use Rattle.planner.specs.Answer.{planOf}
 abbrev pub draftOf : Draft → plan.Draft
 draftOf d = record { tables = planOf (d .planner); ports = d .ports; flows = d .flows }
 
+-- nothing read yet, with these tables to store into
+abbrev pub into : Plan → plan.Draft
+into p = record { tables = p; ports = 0; flows = 0 }
+
 -- one field read
 abbrev pub progressOf : plan.Draft → Progress → Step
 progressOf d (Progress.More next) = more next d

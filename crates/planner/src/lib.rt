@@ -107,7 +107,8 @@ pub fn load(planner: Planner, plan: &[u8]) -> LoadOutcome
             },
         };
     }
-    let read = read_plan(plan);
+    let fresh = empty();
+    let read = read_plan(plan, fresh);
     let answer = read.answer;
     match answer {
         LoadAnswer::Held { ports: _, flows: _ } => read,

@@ -4,7 +4,6 @@ use crate::LoadAnswer;
 use crate::LoadOutcome;
 use crate::Planner;
 use crate::absent::first_absent;
-use crate::empty;
 use crate::store::is_taken;
 use crate::store::with_field;
 use plan::Fault;
@@ -13,15 +12,16 @@ use plan::Reading;
 use plan::read::read_field;
 use plan::route::repeats_port;
 use plan::split::field_value;
-ghost use Prim.Native.Nat.{_<_, _≤_};
+ghost use Prim.Native.Nat.{_≤_};
 ghost use mathlib.Core.Path.{_≡_};
 ghost use lib.ListN.{length};
 ghost use Rattle.plan.specs.Field.{field, fieldAt};
-ghost use Rattle.plan.specs.Draft.{blank, loops, added, portsIn, flowsIn};
+ghost use Rattle.plan.specs.Draft.{loops, added, portsIn, flowsIn};
 ghost use Rattle.plan.specs.Reading.{stepAt, closing, readFrom, maxBytes};
 ghost use Rattle.plan.specs.Ranges.{NumbersOk, RouteFits};
 ghost use Rattle.plan.specs.Answer.{fieldOf};
-ghost use Rattle.planner.specs.Loading.{draftOf, stepOf, readOf};
+ghost use Rattle.planner.specs.Answer.{planOf};
+ghost use Rattle.planner.specs.Loading.{draftOf, into, stepOf, readOf};
 
 // The tables so far, and how many port and flow fields they came from.
 pub(crate) struct Draft {
@@ -178,13 +178,13 @@ fn close(plan: &[u8], draft: Draft) -> LoadOutcome
     }
 }
 
-// The whole plan. A refusal leaves tables that are half filled: only the answer counts then.
-pub(crate) fn read_plan(plan: &[u8]) -> LoadOutcome
+// All fields of the plan, stored into these tables. A refusal leaves them half filled: only the answer counts then.
+pub(crate) fn read_plan(plan: &[u8], tables: Planner) -> LoadOutcome
     requires { ⌜ length (now plan) ≤ maxBytes ⌝ }
-    ensures { λ r. ⌜ readOf r ≡ readFrom (length (now (plan .entry))) (now (plan .entry)) 0 blank ⌝ }
+    ensures { λ r. ⌜ readOf r ≡ readFrom (length (now (plan .entry))) (now (plan .entry)) 0 (into (planOf tables)) ⌝ }
 {
     let mut draft = Draft {
-        planner: empty(),
+        planner: tables,
         ports: 0,
         flows: 0,
     };

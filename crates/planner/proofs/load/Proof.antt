@@ -1,5 +1,6 @@
 -- `load` meets its contract: test 1, then the plan that is read, or the one held before.
 use denote.Ref.{now}
+use Rattle.plan.specs.Draft.{blank}
 use Rattle.plan.specs.Reading.{readPlan}
 use Rattle.planner.specs.Answer.{planOf}
 use Rattle.planner.specs.Loading.{answerOf}
@@ -12,9 +13,12 @@ use Rattle.planner.proofs.load.Tie as tie
 
 -- a plan of allowed length is read as its fields are
 whole-read : (c : tie.After-read-plan) →
-    readPlan (now (c .before .before .before .before .args .plan))
+    readPlan (now (c .before .before .before .before .before .args .plan))
     ≡ answerOf (planOf (c .read-plan .result .planner)) (c .read-plan .result .answer)
-whole-read c = read-sized _ (c .before .before .if1 .left) (c .before .if2 .left) ∙ sym (c .read-plan .ensures)
+unfolding blank
+whole-read c =
+    read-sized _ (c .before .before .before .if1 .left) (c .before .before .if2 .left)
+    ∙ rw (← c .before .empty .ensures) (sym (c .read-plan .ensures))
 
 returns : tie.Need-returns
 returns c =
@@ -25,6 +29,9 @@ returns-2 : tie.Need-returns-2
 returns-2 c =
     let e = read-long _ (c .if2 .taken) in
     record { leaves = sym (refused-leaves _ _ 1 0 e); answers = sym (refused-answer _ 1 0 e) }
+
+empty-requires : tie.Need-empty-requires
+empty-requires c κs = search needs
 
 read-plan-requires : tie.Need-read-plan-requires
 read-plan-requires c κs = search needs
@@ -37,7 +44,7 @@ enum-told-2 c = search needs
 
 returns-3 : tie.Need-returns-3
 returns-3 c =
-    let a = c .before .before .before .before .before .before .args in
+    let a = c .before .before .before .before .before .before .before .args in
     let e = whole-read (c .before .before) ∙ ap (answerOf _) (c .enum-told .given .1) in
     record {
       leaves = sym (accepted-leaves (planOf (a .planner)) (now (a .plan)) _ _ _ e);
@@ -46,7 +53,7 @@ returns-3 c =
 
 returns-4 : tie.Need-returns-4
 returns-4 c =
-    let a = c .before .before .before .before .before .before .args in
+    let a = c .before .before .before .before .before .before .before .args in
     let e = whole-read (c .before .before) ∙ ap (answerOf _) (c .enum-told2 .given .1) in
     record {
       leaves = sym (refused-leaves (planOf (a .planner)) (now (a .plan)) _ _ e);
@@ -56,4 +63,4 @@ returns-4 c =
 pub load-spec : {M : Type 1} → statement M
 load-spec =
     tie.close
-    (tie.spec returns returns-2 read-plan-requires enum-told enum-told-2 returns-3 returns-4)
+    (tie.spec returns returns-2 empty-requires read-plan-requires enum-told enum-told-2 returns-3 returns-4)

@@ -1,12 +1,12 @@
 -- `read_plan` meets its contract. The invariant: the reading from this offset on gives what the reading from the start gives.
 use Prim.Native.Nat.{ℕ, _-_, _≤_}
-use mathlib.Core.Path.{_≡_, sym, ap, _∙_}
+use mathlib.Core.Path.{_≡_, refl, sym, ap, _∙_}
 use mathlib.Core.List.{List}
 use borrow.Author.Needs.{needs}
 use native.Mathlib.Omega.{arith}
 use lib.ListN.{length}
 use denote.Ref.{now}
-use Rattle.plan.specs.Draft.{Draft, blank}
+use Rattle.plan.specs.Draft.{Draft}
 use Rattle.plan.specs.Reading.{more, stepAt, readFrom}
 use Rattle.plan.specs.laws.Steps.{Onward, onward, read-end, read-stop, read-more}
 use Rattle.planner.specs.Loading.{draftOf, progressOf}
@@ -14,14 +14,14 @@ use Rattle.planner.proofs.reading.read_plan.Statement.{statement}
 use Rattle.planner.proofs.reading.read_plan.Tie as tie
 
 -- the fields before this offset are read, into this draft
-record Reached (s : List ℕ) (d : Draft) (at : ℕ) : Type 0 where
+record Reached (s : List ℕ) (start d : Draft) (at : ℕ) : Type 0 where
   inside : at ≤ length s
   ports : d .ports ≤ at
   flows : d .flows ≤ at
-  rest : readFrom (length s) s 0 blank ≡ readFrom (length s) s at d
+  rest : readFrom (length s) s 0 start ≡ readFrom (length s) s at d
 
 abbrev Inv-loop : tie.InvT-loop
-Inv-loop plan draft₀ at₀ draft at = Reached plan (draftOf draft) at
+Inv-loop plan draft₀ at₀ draft at = Reached plan (draftOf draft₀) (draftOf draft) at
 
 abbrev μ-loop : tie.MeasureT-loop
 μ-loop plan draft₀ at₀ draft at = length plan - at
@@ -29,7 +29,7 @@ abbrev μ-loop : tie.MeasureT-loop
 -- a turn that goes on, as the definition steps
 module _ (c : tie.After-known-told Inv-loop μ-loop) where
   abbrev bytes : List ℕ
-  bytes = now (c .before .before .before .before .before .before .before .before .before .args .plan)
+  bytes = now (c .before .before .before .before .before .before .before .before .args .plan)
 
   abbrev here : ℕ
   here = c .before .before .before .before .before .before .loop .at
@@ -49,17 +49,13 @@ module _ (c : tie.After-known-told Inv-loop μ-loop) where
   goes-on : Onward bytes here held next read
   goes-on = onward bytes here held next read stepped
 
-empty-requires : tie.Need-empty-requires Inv-loop μ-loop
-empty-requires c κs = tt
-
 loop-holds : tie.Need-loop-holds Inv-loop μ-loop
-unfolding blank
-loop-holds c = record { inside = omega arith; ports = omega arith; flows = omega arith; rest = rw (c .empty .ensures) }
+loop-holds c = record { inside = omega arith; ports = omega arith; flows = omega arith; rest = refl }
 
 step-requires : tie.Need-step-requires Inv-loop μ-loop
 step-requires c κs =
     let i = c .before .loop .inv in
-    (omega (arith, i .inside, i .ports, c .before .before .before .before .pre), omega (arith, i .inside, i .flows, c .before .before .before .before .pre))
+    (omega (arith, i .inside, i .ports, c .before .before .before .pre), omega (arith, i .inside, i .flows, c .before .before .before .pre))
 
 enum-known-progress : tie.Need-enum-known-progress Inv-loop μ-loop
 enum-known-progress c = search needs
@@ -102,7 +98,6 @@ read-plan-spec =
     (tie.spec
     Inv-loop
     μ-loop
-    empty-requires
     loop-holds
     step-requires
     enum-known-progress
