@@ -10,3 +10,4 @@ pub mod laws
 pub mod Theorem
 pub mod Columns
 pub mod Failing
+pub mod Need

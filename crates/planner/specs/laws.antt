@@ -9,3 +9,8 @@ pub mod Sets
 pub mod Fails
 pub mod Signed
 pub mod Answers
+pub mod PortNeed
+pub mod Scratch
+pub mod Climb
+pub mod Descent
+pub mod Searched

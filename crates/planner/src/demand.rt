@@ -3,9 +3,9 @@ ghost use mathlib.Core.Path.{_≡_};
 ghost use mathlib.Core.Bool.{true};
 ghost use mathlib.Core.List.{[]};
 ghost use Prim.Native.Nat.{ℕ, _+_, _*_, _^_, _≤_, _<_};
-ghost use lib.ListN.{length, getD, replicate};
+ghost use lib.ListN.{length, getD};
 ghost use Rattle.cqf.specs.Bounded.{distinct, every, row, tabulate};
-ghost use Rattle.cqf.specs.Limits.{portSlots, flowSlots, maxTop, portOk};
+ghost use Rattle.cqf.specs.Limits.{portSlots, maxTop, portOk};
 ghost use Rattle.cqf.specs.Condition.{bitsOf, ceilDiv, demand};
 ghost use Rattle.planner.specs.Columns.{columns, FlowColumns, FlowsReady, Marked};
 

@@ -11,10 +11,14 @@ mod store; // store.rt: a field stored into the tables
 mod demand;
 mod failing;
 mod formed;
+mod need;
 mod question;
+mod search;
 
 pub use question::check;
 pub use question::slack;
+pub use search::least;
+pub use search::margin_safe;
 
 // The held plan: port n in slot n - 1, flow n in slot n - 1, a flow's route at its slot times 16. An absent port has rate 0,
 // an absent flow period 0; top is 0 where no plan is held.

@@ -8,7 +8,7 @@ use native.Mathlib.Omega.{arith}
 use lib.Count.{ones, ones-cat, under, trailingZeros}
 use lib.Bits.{bitOr, or-shifted-r}
 use lib.Pow.{pow-lt}
-use Rattle.cqf.specs.Bounded.{sumTo, countTo, lowest}
+use Rattle.cqf.specs.Bounded.{countTo, lowest}
 use Rattle.cqf.specs.laws.Bounded.{countTo-zero}
 use Rattle.planner.specs.Failing.{setTo}
 

@@ -3,14 +3,14 @@ use mathlib.Core.Path.{_≡_, refl, sym, ap, _∙_}
 use mathlib.Core.Logic.{_⊎_, inl, inr}
 use mathlib.Core.Bool.{Bool, true, false, cond, and-eq-true-iff}
 use mathlib.Core.List.{List, [], _∷_}
-use Prim.Native.Nat.{ℕ, suc, _+_, _*_, _^_, _≤_, _<_, zero-le}
+use Prim.Native.Nat.{ℕ, _+_, _*_, _≤_, _<_, zero-le}
 use native.Mathlib.Nat.{add-zero, mul-le-mul-right, le-trans}
 use native.Mathlib.Decide.{ℕ-discrete}
 use native.Mathlib.Omega.{arith}
 use lib.ListN.{length, getD}
 use lib.Seq.{ext-getD}
-use Rattle.cqf.specs.Bounded.{sumTo, elem, every, distinct, row, tabulate}
-use Rattle.cqf.specs.Limits.{portSlots, flowSlots, maxHops, maxTop, portOk}
+use Rattle.cqf.specs.Bounded.{sumTo, every, distinct, row, tabulate}
+use Rattle.cqf.specs.Limits.{portSlots, flowSlots, maxTop, portOk}
 use Rattle.cqf.specs.Plan.{Plan, periodOf, countOf, lengthOf, hopsOf, routeOf, crosses, portIn, wellFormed}
 use Rattle.cqf.specs.Condition.{bitsOf, wireBits, ceilDiv, frames, demand}
 use Rattle.cqf.specs.laws.Bounds.{sumTo-most}
@@ -18,7 +18,7 @@ use Rattle.cqf.specs.laws.Formed.{Empty, Held, slot-cases}
 use Rattle.cqf.specs.laws.Tabulate.{tabulate-length, tabulate-at}
 use Rattle.cqf.specs.laws.Demand.{share, demand-sum, mostBits, bits-most, share-none, sum-next}
 use Rattle.planner.specs.Failing.{mostDemand}
-use Rattle.planner.specs.Columns.{columns, Ready, FlowsReady, Marked}
+use Rattle.planner.specs.Columns.{columns, Ready, Marked}
 
 -- a stronger test that each number of a list passes
 every-weaker : (a b : ℕ → Bool) → ((n : ℕ) → a n ≡ true → b n ≡ true) → (l : List ℕ) → every a l ≡ true → every b l ≡ true

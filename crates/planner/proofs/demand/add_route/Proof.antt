@@ -2,14 +2,14 @@
 use mathlib.Core.Path.{_≡_, refl, ap}
 use mathlib.Core.Bool.{false}
 use Prim.Native.Nat.{ℕ, _+_, _-_, _≤_, _<_}
+use native.Mathlib.Omega.{arith}
 use lib.ListN.{length, getD, length-set}
+use borrow.Author.Needs.{needs}
 use Rattle.cqf.specs.Bounded.{elem, row}
 use Rattle.cqf.specs.Limits.{portSlots}
 use Rattle.cqf.specs.laws.Route.{next-port}
 use Rattle.planner.specs.Columns.{Marked}
 use Rattle.planner.specs.laws.Marks.{mark-none, mark-next, unmarked}
-use native.Mathlib.Omega.{arith}
-use borrow.Author.Needs.{needs}
 use Rattle.planner.proofs.demand.add_route.Statement.{statement}
 use Rattle.planner.proofs.demand.add_route.Tie as tie
 

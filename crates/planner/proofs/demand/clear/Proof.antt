@@ -1,12 +1,12 @@
 -- `planner::demand::clear` meets its contract. The loop's invariant: every number passed is 0.
 use mathlib.Core.Path.{_≡_, _∙_}
 use Prim.Native.Nat.{ℕ, _-_, _≤_, _<_}
+use native.Mathlib.Omega.{arith}
 use lib.ListN.{length, getD, length-set}
 use lib.Seq.{getD-set-same, getD-set-other}
 use borrow.Author.Count.{below-more}
-use Rattle.cqf.specs.Limits.{portSlots}
-use native.Mathlib.Omega.{arith}
 use borrow.Author.Needs.{needs}
+use Rattle.cqf.specs.Limits.{portSlots}
 use Rattle.planner.proofs.demand.clear.Statement.{statement}
 use Rattle.planner.proofs.demand.clear.Tie as tie
 

@@ -1,16 +1,16 @@
 -- `planner::demand::demands` meets its contract. The loop's invariant: `out` has each port's demand by the flows passed.
-use mathlib.Core.Path.{_≡_, refl, sym, ap, _∙_}
+use mathlib.Core.Path.{_≡_, _∙_}
 use mathlib.Core.Logic.{⊎-elim}
 use mathlib.Core.List.{[]}
-use Prim.Native.Nat.{ℕ, _+_, _-_, _*_, _≤_, _<_}
-use lib.ListN.{length, getD}
+use Prim.Native.Nat.{_-_, _≤_}
+use native.Mathlib.Omega.{arith}
+use lib.ListN.{length}
+use borrow.Author.Needs.{needs}
 use Rattle.cqf.specs.Limits.{portSlots, flowSlots}
 use Rattle.cqf.specs.Plan.{Plan, periodOf, countOf, lengthOf, hopsOf, routeOf}
 use Rattle.cqf.specs.laws.Demand.{mostBits}
 use Rattle.planner.specs.Columns.{columns, Ready}
 use Rattle.planner.specs.laws.Sums.{Sums, sums-none, sums-skip, sums-add, sums-all, flow-most, sum-most}
-use native.Mathlib.Omega.{arith}
-use borrow.Author.Needs.{needs}
 use Rattle.planner.proofs.demand.demands.Statement.{statement}
 use Rattle.planner.proofs.demand.demands.Tie as tie
 

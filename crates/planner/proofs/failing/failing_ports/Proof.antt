@@ -1,14 +1,12 @@
 -- `planner::failing::failing_ports` meets its contract.
-use mathlib.Core.Path.{refl}
-use native.Mathlib.Numerals.{add-one}
-use lib.Count.{trailing-le}
 use native.Mathlib.Omega.{arith}
+use lib.Count.{leading-le, trailing-le}
 use borrow.Author.Needs.{needs}
 use Rattle.planner.proofs.failing.failing_ports.Statement.{statement}
 use Rattle.planner.proofs.failing.failing_ports.Tie as tie
 
 add-t3 : tie.Need-add-t3
-add-t3 c = omega (arith, trailing-le 64 (c .args .set))
+add-t3 c = omega (arith, trailing-le 64 (c .args .set), leading-le 64 (c .args .set))
 
 returns : tie.Need-returns
 returns c = search needs

@@ -1,12 +1,12 @@
 -- `planner::failing::failing_set` meets its contract. The loop's invariant: `set` has the failing ports passed.
-use mathlib.Core.Path.{_≡_, refl, sym, ap, _∙_}
+use mathlib.Core.Path.{_≡_, sym, _∙_}
 use mathlib.Core.Logic.{⊎-elim}
-use Prim.Native.Nat.{ℕ, _-_, _≤_}
+use Prim.Native.Nat.{_-_, _≤_}
+use native.Mathlib.Omega.{arith}
+use borrow.Author.Needs.{needs}
 use Rattle.cqf.specs.Limits.{portSlots}
 use Rattle.planner.specs.Failing.{setTo, failsIn}
 use Rattle.planner.specs.laws.Sets.{set-or, set-skip}
-use native.Mathlib.Omega.{arith}
-use borrow.Author.Needs.{needs}
 use Rattle.planner.proofs.failing.failing_set.Statement.{statement}
 use Rattle.planner.proofs.failing.failing_set.Tie as tie
 

@@ -1,11 +1,10 @@
 -- `planner::failing::port_fails` meets its contract.
-use mathlib.Core.Path.{_≡_}
 use Prim.Native.Nat.{_*_, _^_, _≤_, _<_}
 use native.Mathlib.Nat.{mul-le-mul}
-use borrow.Author.Tests.{lt-ltb}
-use Rattle.cqf.specs.Limits.{maxTop}
 use native.Mathlib.Omega.{arith}
+use borrow.Author.Tests.{lt-ltb}
 use borrow.Author.Needs.{needs}
+use Rattle.cqf.specs.Limits.{maxTop}
 use Rattle.planner.proofs.failing.port_fails.Statement.{statement}
 use Rattle.planner.proofs.failing.port_fails.Tie as tie
 

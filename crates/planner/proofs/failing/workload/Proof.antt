@@ -3,8 +3,8 @@ use mathlib.Core.Path.{sym, ap}
 use Prim.Native.Nat.{ℕ, _*_}
 use native.Mathlib.Nat.{add-zero}
 use borrow.Author.Tests.{ne-eqb}
-use Rattle.cqf.specs.Condition.{bitsOf}
 use borrow.Author.Needs.{needs}
+use Rattle.cqf.specs.Condition.{bitsOf}
 use Rattle.planner.proofs.failing.workload.Statement.{statement}
 use Rattle.planner.proofs.failing.workload.Tie as tie
 

@@ -1,14 +1,14 @@
 -- `planner::formed::flow_sound` meets its contract: each way out has decided the tests of a flow's slot.
-use mathlib.Core.Path.{_≡_, sym, _∙_}
-use borrow.Author.Tests.{not-true, not-false}
-use Rattle.cqf.specs.laws.Slot.{slot-count, slot-length, slot-hops, slot-range, slot-route, ranged-hops}
+use mathlib.Core.Path.{sym, _∙_}
 use mathlib.Core.List.{[]}
 use Prim.Native.Nat.{_≤_}
-use lib.ListN.{getD}
-use Rattle.cqf.specs.Limits.{maxHops}
-use Rattle.planner.specs.Columns.{columns}
 use native.Mathlib.Omega.{arith}
+use lib.ListN.{getD}
+use borrow.Author.Tests.{not-true, not-false}
 use borrow.Author.Needs.{needs}
+use Rattle.cqf.specs.Limits.{maxHops}
+use Rattle.cqf.specs.laws.Slot.{slot-count, slot-length, slot-hops, slot-range, slot-route, ranged-hops}
+use Rattle.planner.specs.Columns.{columns}
 use Rattle.planner.proofs.formed.flow_sound.Statement.{statement}
 use Rattle.planner.proofs.formed.flow_sound.Tie as tie
 

@@ -3,14 +3,14 @@ use mathlib.Core.Path.{_≡_, sym, _∙_}
 use mathlib.Core.Bool.{true}
 use mathlib.Core.List.{[]}
 use Prim.Native.Nat.{_-_, _≤_}
+use native.Mathlib.Omega.{arith}
+use borrow.Author.Needs.{needs}
+use borrow.Author.Tests.{not-true, not-false}
 use Rattle.cqf.specs.Bounded.{allTo}
 use Rattle.cqf.specs.Limits.{flowSlots}
 use Rattle.cqf.specs.Plan.{flowSound}
 use Rattle.cqf.specs.laws.Bounds.{allTo-next, allTo-false}
 use Rattle.planner.specs.Columns.{columns}
-use native.Mathlib.Omega.{arith}
-use borrow.Author.Needs.{needs}
-use borrow.Author.Tests.{not-true, not-false}
 use Rattle.planner.proofs.formed.flows_sound.Statement.{statement}
 use Rattle.planner.proofs.formed.flows_sound.Tie as tie
 

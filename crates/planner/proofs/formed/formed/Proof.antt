@@ -1,5 +1,5 @@
 -- `planner::formed::formed` meets its contract: each way out has decided the tests before it.
-use mathlib.Core.Path.{_≡_, refl, sym, _∙_}
+use mathlib.Core.Path.{refl, sym, _∙_}
 use mathlib.Core.Bool.{and-false}
 use borrow.Author.Needs.{needs}
 use borrow.Author.Tests.{not-true, not-false}

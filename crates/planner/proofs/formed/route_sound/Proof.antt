@@ -1,10 +1,12 @@
 -- `planner::formed::route_sound` meets its contract. The loop's invariant: every port passed is in the plan and new, and `seen`
 -- has 1 for each of them.
-use mathlib.Core.Path.{_≡_, refl, sym, ap, _∙_}
+use mathlib.Core.Path.{_≡_, refl, sym, _∙_}
 use mathlib.Core.Bool.{Bool, true, false, not, _&&_, and-false}
 use mathlib.Core.List.{List, []}
 use Prim.Native.Nat.{ℕ, _+_, _-_, _≤_, _<_}
+use native.Mathlib.Omega.{arith}
 use lib.ListN.{length, getD, length-set, getD-replicate}
+use borrow.Author.Needs.{needs}
 use Rattle.cqf.specs.Bounded.{allTo, elem, every, distinct, row}
 use Rattle.cqf.specs.Limits.{portSlots}
 use Rattle.cqf.specs.Plan.{portIn}
@@ -12,8 +14,6 @@ use Rattle.cqf.specs.laws.Bounds.{allTo-next, allTo-false}
 use Rattle.cqf.specs.laws.Route.{route-test, portIn-low, portIn-high, portIn-absent, portIn-there}
 use Rattle.planner.specs.Columns.{Marked}
 use Rattle.planner.specs.laws.Marks.{mark-next, marked-new, marked-again}
-use native.Mathlib.Omega.{arith}
-use borrow.Author.Needs.{needs}
 use Rattle.planner.proofs.formed.route_sound.Statement.{statement}
 use Rattle.planner.proofs.formed.route_sound.Tie as tie
 

@@ -1,10 +1,9 @@
 -- `planner::question::check` meets its contract: the set of failing ports is that of the condition.
-use mathlib.Core.Path.{_≡_, refl, sym, ap₂, _∙_, subst}
+use mathlib.Core.Path.{_≡_, sym, ap₂, _∙_, subst}
 use mathlib.Core.Bool.{true}
 use mathlib.Core.List.{List}
-use Prim.Native.Nat.{ℕ, _-_, _*_, _≤_, _<_}
+use Prim.Native.Nat.{ℕ, _≤_}
 use native.Mathlib.Omega.{arith}
-use lib.ListN.{length, getD}
 use borrow.Author.Needs.{needs}
 use borrow.Author.Tests.{not-true, not-false}
 use Rattle.cqf.specs.Limits.{portSlots, maxTop}
@@ -16,7 +15,7 @@ use Rattle.planner.specs.Answer.{planOf}
 use Rattle.planner.specs.Outcome.{Answer, checkAnswer}
 use Rattle.planner.specs.Demand3.{Demand3}
 use Rattle.planner.specs.Theorem.{demand3}
-use Rattle.planner.specs.Failing.{setTo, failsIn, mostDemand}
+use Rattle.planner.specs.Failing.{setTo, failsIn}
 use Rattle.planner.specs.laws.Sums.{demands-most}
 use Rattle.planner.specs.laws.Fails.{failing-set, set-admissible, set-refused, set-lowest-failing, set-failing}
 use Rattle.planner.specs.laws.Answers.{check-none, check-low, check-high, check-good, check-bad}

@@ -3,13 +3,13 @@ use mathlib.Core.Path.{ap, _∙_}
 use mathlib.Core.Bool.{Bool, true, false, cond}
 use Prim.Native.Nat.{ℕ, _+_, _*_, _^_, _≤_, _<_}
 use native.Mathlib.Nat.{mul-le-mul}
+use native.Mathlib.Omega.{arith}
 use lib.Dec.{eqb}
 use lib.IntN.{subℕ}
+use borrow.Author.Needs.{needs}
 use Rattle.cqf.specs.Limits.{maxTop}
 use Rattle.cqf.specs.Condition.{bitsOf, nsPerBit}
 use Rattle.planner.specs.laws.Signed.{sub-fits, sub-is}
-use native.Mathlib.Omega.{arith}
-use borrow.Author.Needs.{needs}
 use Rattle.planner.proofs.question.port_slack.Statement.{statement}
 use Rattle.planner.proofs.question.port_slack.Tie as tie
 

@@ -1,9 +1,9 @@
 -- `planner::question::slack` meets its contract.
-use mathlib.Core.Path.{_≡_, refl, sym, ap, ap₂, _∙_}
-use mathlib.Core.Bool.{true, false}
+use mathlib.Core.Path.{_≡_, sym, ap, ap₂, _∙_}
+use mathlib.Core.Bool.{true}
 use Prim.Native.Nat.{ℕ, _-_, _*_, _≤_, _<_}
 use native.Mathlib.Omega.{arith}
-use lib.ListN.{length, getD}
+use lib.ListN.{getD}
 use lib.IntN.{subℕ}
 use lib.Dec.{ltb}
 use borrow.Author.Needs.{needs}
@@ -12,9 +12,9 @@ use mir.Syntax.{w64}
 use mir.ValLaws.{toZ-ofZ}
 use Rattle.cqf.specs.Limits.{portSlots, maxTop}
 use Rattle.cqf.specs.Plan.{Plan, rateOf, blockingOf, wellFormed}
-use Rattle.cqf.specs.Condition.{demand, crossed}
+use Rattle.cqf.specs.Condition.{demand}
 use Rattle.cqf.specs.laws.Tests.{formed-top}
-use Rattle.cqf.specs.laws.Tabulate.{tabulate-length, tabulate-at}
+use Rattle.cqf.specs.laws.Tabulate.{tabulate-at}
 use Rattle.planner.specs.Answer.{planOf}
 use Rattle.planner.specs.Outcome.{result}
 use Rattle.planner.specs.Failing.{workloadOf, mostDemand}
