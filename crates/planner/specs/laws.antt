@@ -1,11 +1,15 @@
--- Laws of the definitions, one subject a file.
+-- Laws of the calls.
+pub mod Rows
+pub mod Copy
+pub mod Ports
+pub mod Load
 pub mod Marks
 pub mod Sums
 pub mod Sets
 pub mod Fails
 pub mod Signed
 pub mod Answers
-pub mod Ports
+pub mod PortNeed
 pub mod Scratch
 pub mod Climb
 pub mod Descent

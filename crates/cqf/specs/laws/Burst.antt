@@ -13,8 +13,8 @@ use borrow.Author.Tests.{eq-eqb}
 use Rattle.cqf.specs.Bounded.{countTo, tabulate}
 use Rattle.cqf.specs.Condition.{ceilDiv}
 use Rattle.cqf.specs.laws.Bounded.{countTo-all}
-use Rattle.cqf.specs.laws.Ceil.{ceil-before}
 use Rattle.cqf.specs.laws.Tabulate.{tabulate-length, tabulate-at}
+use Rattle.cqf.specs.laws.Ceil.{ceil-before}
 use Rattle.cqf.specs.laws.Arrivals.{cycle-of}
 
 -- the instants of the burst in cycle c of duration T

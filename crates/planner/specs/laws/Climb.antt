@@ -15,7 +15,7 @@ use Rattle.cqf.specs.laws.Search.{Climbed, fails-need, climb-found, climb-over,
 use Rattle.planner.specs.Failing.{failsBy}
 use Rattle.planner.specs.Need.{needBy}
 use Rattle.planner.specs.laws.Fails.{fails-by}
-use Rattle.planner.specs.laws.Ports.{need-by}
+use Rattle.planner.specs.laws.PortNeed.{need-by}
 use Rattle.planner.specs.laws.Scratch.{Filled, filled-bits}
 
 -- the ports below q do not fail at t

@@ -12,7 +12,7 @@ use Rattle.cqf.specs.Condition.{demand, fails, marginSafe}
 use Rattle.cqf.specs.laws.Need.{need}
 use Rattle.cqf.specs.laws.Search.{Descended, need-fails, descent-stop, descent-next}
 use Rattle.planner.specs.Need.{needBy}
-use Rattle.planner.specs.laws.Ports.{need-by, need-by-some}
+use Rattle.planner.specs.laws.PortNeed.{need-by, need-by-some}
 use Rattle.planner.specs.laws.Scratch.{Filled, filled-bits}
 
 -- no port below q needs more than most, which is from 1 to below, one below the duration reached

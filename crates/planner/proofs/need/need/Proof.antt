@@ -6,7 +6,7 @@ use native.Mathlib.Numerals.{sub-one}
 use native.Mathlib.Omega.{arith}
 use borrow.Author.Tests.{lt-ltb}
 use Rattle.cqf.specs.Condition.{ceilDiv}
-use Rattle.planner.specs.laws.Ports.{work-fits}
+use Rattle.planner.specs.laws.PortNeed.{work-fits}
 use Rattle.planner.proofs.need.need.Statement.{statement}
 use Rattle.planner.proofs.need.need.Tie as tie
 
