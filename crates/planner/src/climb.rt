@@ -1,10 +1,12 @@
 // The search for the least duration, upwards, by what the first failing port needs.
+use super::Planner;
+use super::SearchAnswer;
 use super::demand::demands;
-use super::failing::{port_fails, window};
+use super::failing::port_fails;
+use super::failing::window;
 use super::formed::formed;
 use super::need::need;
 use super::search::conclude;
-use super::{Planner, SearchAnswer};
 ghost use mathlib.Core.Path.{_≡_};
 ghost use mathlib.Core.Bool.{true};
 ghost use lib.ListN.{length};

@@ -1,9 +1,10 @@
 // The search for the margin-safe duration, downwards from top, by the most that a port needs.
+use super::Planner;
+use super::SearchAnswer;
 use super::demand::demands;
 use super::formed::formed;
 use super::need::need;
 use super::search::conclude;
-use super::{Planner, SearchAnswer};
 ghost use mathlib.Core.Path.{_≡_};
 ghost use mathlib.Core.Bool.{true};
 ghost use Prim.Native.Nat.{max};

@@ -1,7 +1,10 @@
 // How both searches end. Neither goes by single ns: see climb.rt and descend.rt.
+use super::Planner;
+use super::SearchAnswer;
 use super::demand::demands;
-use super::failing::{failing_ports, failing_set, window};
-use super::{Planner, SearchAnswer};
+use super::failing::failing_ports;
+use super::failing::failing_set;
+use super::failing::window;
 ghost use mathlib.Core.Path.{_≡_};
 ghost use mathlib.Core.Bool.{true, cond};
 ghost use Prim.Native.Nat.{ℕ};
