@@ -1,4 +1,4 @@
--- Sums, counts, tests and searches over the numbers below a bound, and two tests on lists.
+-- Sums, counts, tests, searches and tables over the numbers below a bound, and tests on lists.
 use Prim.Native.Nat.{ℕ, zero, suc, _+_}
 use mathlib.Core.List.{List, [], _∷_}
 use mathlib.Core.Bool.{Bool, true, false, cond, not, _&&_, _||_}

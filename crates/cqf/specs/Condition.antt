@@ -1,7 +1,7 @@
 -- The condition of document 01: Theorem 1 of the source paper in whole ns, with the IEEE 802.3 overhead.
 -- T is a cycle duration in ns, f the slot of a flow, q the slot of a port.
-use Prim.Native.Nat.{ℕ, zero, suc, pred, _+_, _-_, _*_, _/_}
-use mathlib.Core.Bool.{Bool, true, false, cond, not, _&&_}
+use Prim.Native.Nat.{ℕ, suc, pred, _+_, _-_, _*_, _/_}
+use mathlib.Core.Bool.{Bool, cond, not, _&&_}
 use lib.Dec.{eqb, ltb, leb}
 use lib.IntN.{ℤ, subℕ}
 use Rattle.cqf.specs.Bounded.{sumTo, countTo, anyTo, lowest}
@@ -20,7 +20,7 @@ nsPerBit = 1000
 unfoldable pub bitsOf : ℕ → ℕ
 bitsOf bytes = 8 * (bytes + overhead)
 
--- the wire bits of one frame of flow f at the port in slot q
+-- the wire bits of one frame of flow f at the port in slot q: the same at every port
 unfoldable pub wireBits : Plan → ℕ → ℕ → ℕ
 unfolding bitsOf
 wireBits p f q = bitsOf (lengthOf p f)

@@ -1,7 +1,7 @@
 -- Emissions and the contract that they keep (document 01, "Emissions and runs").
 use mathlib.Core.Path.{_≡_}
 use mathlib.Core.List.{List, [], map}
-use mathlib.Core.Bool.{Bool, false}
+use mathlib.Core.Bool.{false}
 use Prim.Native.Nat.{ℕ, suc, _+_, _/_, _≤_, _<_}
 use lib.ListN.{length, getD}
 use Rattle.cqf.specs.Plan.{Plan, present, periodOf, countOf}

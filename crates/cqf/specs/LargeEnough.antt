@@ -1,7 +1,7 @@
 -- What the large-enough-cycle theorem says of one plan and one duration T (000, Theorem 1; document 01, demand 3).
 use mathlib.Core.Path.{_≡_}
 use mathlib.Core.Logic.{_↔_}
-use mathlib.Core.Bool.{Bool, true, false}
+use mathlib.Core.Bool.{true, false}
 use Prim.Native.Nat.{ℕ, suc, _+_, _*_, _/_, _≤_, _<_}
 use lib.ListN.{length, getD}
 use Rattle.cqf.specs.Plan.{Plan, routeOf}
@@ -27,14 +27,17 @@ pub record OnTime (p : Plan) (T : ℕ) (cycles : Cycles) (f k t h : ℕ) : Type 
       → end + p .guard ≤ suc (t / T + h) * T
       → (t + h * T ≤ end + T) × (end ≤ t + suc h * T)
 
+-- every frame of every emission that keeps the contracts is on time
+abbrev pub AllOnTime : Plan → ℕ → Type 0
+AllOnTime p T =
+    (e : Emission)
+    → Keeps p e
+    → (f k : ℕ)
+    → k < length (e f)
+    → OnTime p T (cyclesOf T e) f k (getD (e f) k 0) (length (routeOf p f))
+
 -- T is refused exactly when some emission that keeps every contract leaves a frame unsent; where it is accepted, every frame
 -- of every such emission is on time
 pub record LargeEnough (p : Plan) (T : ℕ) : Type 0 where
   pub refused : admissible p T ≡ false ↔ Counterexample p T
-  pub accepted
-      : admissible p T ≡ true
-      → (e : Emission)
-      → Keeps p e
-      → (f k : ℕ)
-      → k < length (e f)
-      → OnTime p T (cyclesOf T e) f k (getD (e f) k 0) (length (routeOf p f))
+  pub accepted : admissible p T ≡ true → AllOnTime p T

@@ -8,3 +8,4 @@ pub mod Run
 pub mod LargeEnough
 pub mod Worked
 pub mod laws
+pub mod Theorem

@@ -17,15 +17,19 @@ maxHops = 16
 abbrev pub maxTop : ℕ
 maxTop = 100000000
 
+-- guard band S in ns
 abbrev pub guardOk : ℕ → Bool
 guardOk n = within 0 1000000 n
 
+-- the longest duration that is asked about, in ns
 abbrev pub topOk : ℕ → Bool
 topOk n = within 1 maxTop n
 
+-- a port's number
 abbrev pub portOk : ℕ → Bool
 portOk n = within 1 portSlots n
 
+-- a rate in Mbit/s
 abbrev pub rateOk : ℕ → Bool
 rateOk n = within 1 100000 n
 
@@ -37,14 +41,18 @@ lengthOk n = within 64 2000 n
 abbrev pub blockingOk : ℕ → Bool
 blockingOk n = eqb n 0 || lengthOk n
 
+-- a flow's number
 abbrev pub flowOk : ℕ → Bool
 flowOk n = within 1 flowSlots n
 
+-- a period in ns
 abbrev pub periodOk : ℕ → Bool
 periodOk n = within 1000 100000000 n
 
+-- frames in a period
 abbrev pub countOk : ℕ → Bool
 countOk n = within 1 64 n
 
+-- ports on a route
 abbrev pub hopsOk : ℕ → Bool
 hopsOk n = within 1 maxHops n

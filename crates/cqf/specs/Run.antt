@@ -18,7 +18,7 @@ pub data Place : Type 0 where
   queued : ℕ → List ℕ → Place
   gone : Place
 
--- the place of frame k of the flow in slot f
+-- the place of frame k of the flow in slot f; a flow has as many frames as its list is long
 abbrev pub Places : Type 0
 Places = ℕ → ℕ → Place
 
@@ -66,7 +66,7 @@ pub data Network : Type 0 where
   running : Places → Network
   stopped : Network
 
--- cycle c
+-- the network after cycle c, from the network when it starts
 abbrev pub next : Plan → ℕ → Cycles → ℕ → Network → Network
 next p T cycles c stopped = stopped
 next p T cycles c (running places) =

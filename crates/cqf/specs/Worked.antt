@@ -1,13 +1,18 @@
--- Plan K of document 01 as tables.
+-- Plan K of document 01 as tables, its numbers worked out, and an emission on each side of the theorem.
 use mathlib.Core.Path.{_≡_, refl}
-use mathlib.Core.List.{List, [], _∷_, map}
-use mathlib.Core.Bool.{Bool, true, false}
-use Prim.Native.Nat.{ℕ}
-use lib.ListN.{set}
-use lib.IntN.{ℤ, pos, negsuc}
-use Rattle.cqf.specs.Bounded.{sumTo, countTo, anyTo, allTo, lowest, elem, distinct, every, row}
-use Rattle.cqf.specs.Plan.{Plan, noPlan, wellFormed, portSound, flowSound}
-use Rattle.cqf.specs.Condition.{failing, lowestFailing, fails, slack, demand, frames, wireBits, bitsOf, blockingBits, ceilDiv, capacity, workload, window, crossed, admissible}
+use mathlib.Core.List.{[], _∷_, map}
+use mathlib.Core.Bool.{Bool, true, false, true≢false}
+use Prim.Native.Nat.{ℕ, zero, suc, _+_, _≤_, _<_}
+use native.Mathlib.Omega.{arith}
+use lib.ListN.{set, length, getD}
+use lib.Dec.{lit≤}
+use Rattle.cqf.specs.Bounded.{sumTo, countTo, anyTo, allTo, elem, distinct, every, row}
+use Rattle.cqf.specs.Limits.{maxHops}
+use Rattle.cqf.specs.Plan.{Plan, noPlan, present, periodOf, countOf, wellFormed, portSound, flowSound}
+use Rattle.cqf.specs.Condition.{bitsOf, wireBits, blockingBits, ceilDiv, frames, demand, window, capacity, workload, slack, crossed, fails, failing}
+use Rattle.cqf.specs.Emission.{Emission, Keeps, cyclesOf}
+use Rattle.cqf.specs.Run.{Places, gone, Network, running, stopped, run, queuedBits, overrunAt, overrun, Leaves}
+use Rattle.cqf.specs.LargeEnough.{Counterexample}
 
 unfoldable pub planK : Plan
 unfolding noPlan
@@ -21,14 +26,115 @@ planK =
       counts = set (set (noPlan .counts) 0 1) 1 1;
       lengths = set (set (noPlan .lengths) 0 230) 1 605;
       hops = set (set (noPlan .hops) 0 1) 1 1;
-      routes = set (set (noPlan .routes) 0 1) 16 1;
+      routes = set (set (noPlan .routes) 0 1) maxHops 1;
     }
 
-rows : map (λ (T : ℕ). failing planK T) (71999 ∷ 72000 ∷ 100000 ∷ 110000 ∷ 110001 ∷ 120000 ∷ 141999 ∷ 142000 ∷ 1000 ∷ [])
-    ≡ 1 ∷ 0 ∷ 0 ∷ 0 ∷ 1 ∷ 1 ∷ 1 ∷ 0 ∷ 1 ∷ []
-unfolding planK failing countTo fails crossed anyTo elem row capacity window workload blockingBits demand sumTo frames ceilDiv wireBits bitsOf
-rows = refl
+-- K with port 2 added: rate 1, blocking frame of 2,000 bytes, crossed by no flow
+planK2 : Plan
+unfolding planK
+planK2 =
+    record {
+      guard = planK .guard;
+      top = planK .top;
+      rates = set (planK .rates) 1 1;
+      blockings = set (planK .blockings) 1 2000;
+      periods = planK .periods;
+      counts = planK .counts;
+      lengths = planK .lengths;
+      hops = planK .hops;
+      routes = planK .routes;
+    }
 
-ok : wellFormed planK ≡ true
-unfolding planK wellFormed portSound flowSound allTo anyTo every distinct elem row
-ok = refl
+-- the rules accept K
+formed : wellFormed planK ≡ true
+unfolding planK noPlan wellFormed portSound flowSound allTo anyTo every distinct elem row
+formed = refl
+
+-- wire bits 2,000 and 5,000
+bits : map (λ (f : ℕ). wireBits planK f 0) (0 ∷ 1 ∷ []) ≡ 2000 ∷ 5000 ∷ []
+unfolding planK noPlan wireBits bitsOf
+bits = refl
+
+-- one frame of each flow at 100,000; two of the first at 100,001 and at 110,000; two of each at 110,001
+brought : map (λ (T : ℕ). demand planK 0 T) (100000 ∷ 100001 ∷ 110000 ∷ 110001 ∷ []) ≡ 7000 ∷ 9000 ∷ 9000 ∷ 14000 ∷ []
+unfolding planK noPlan demand sumTo elem row frames ceilDiv wireBits bitsOf
+brought = refl
+
+-- two guard bands, and no window below them
+windows : map (λ (T : ℕ). window planK T) (1000 ∷ 2000 ∷ 72000 ∷ []) ≡ 0 ∷ 0 ∷ 70000 ∷ []
+unfolding planK window
+windows = refl
+
+-- how many ports fail, with and without the port that no flow crosses
+failures : map (λ (T : ℕ). failing planK2 T) (71999 ∷ 72000 ∷ 110001 ∷ 142000 ∷ []) ≡ 1 ∷ 0 ∷ 1 ∷ 0 ∷ []
+unfolding planK2 planK noPlan failing countTo fails crossed anyTo elem row capacity window workload blockingBits demand sumTo frames ceilDiv wireBits bitsOf
+failures = refl
+
+-- both flows of K emit at the cycle's start and once more as soon as they may
+early : Emission
+early zero = 0 ∷ 100000 ∷ []
+early (suc zero) = 0 ∷ 110000 ∷ []
+early (suc (suc f)) = []
+
+absent : (f : ℕ) → present planK f ≡ false → early f ≡ []
+unfolding planK noPlan early
+absent zero h = absurd (true≢false h)
+absent (suc zero) h = absurd (true≢false h)
+absent (suc (suc f)) h = refl
+
+rising : (f k : ℕ) → suc k < length (early f) → getD (early f) k 0 ≤ getD (early f) (suc k) 0
+unfolding early
+rising zero zero h = lit≤ tt
+rising zero (suc k) h = absurd (omega arith)
+rising (suc zero) zero h = lit≤ tt
+rising (suc zero) (suc k) h = absurd (omega arith)
+rising (suc (suc f)) k h = absurd (omega arith)
+
+spaced
+    : (f k : ℕ)
+    → k + countOf planK f < length (early f)
+    → getD (early f) k 0 + periodOf planK f ≤ getD (early f) (k + countOf planK f) 0
+unfolding planK noPlan early
+spaced zero zero h = lit≤ tt
+spaced zero (suc k) h = absurd (omega arith)
+spaced (suc zero) zero h = lit≤ tt
+spaced (suc zero) (suc k) h = absurd (omega arith)
+spaced (suc (suc f)) k h = absurd (omega arith)
+
+keeps : Keeps planK early
+keeps = record { absent = absent; rising = rising; spaced = spaced }
+
+abbrev placesOf : Network → Places
+placesOf (running places) = places
+placesOf stopped = λ f k. gone
+
+-- at 120,000 all four frames fall into cycle 0, and port 1 cannot send them in cycle 1
+broken : Counterexample planK 120000
+unfolding planK noPlan early run overrun queuedBits overrunAt anyTo sumTo countTo row capacity window workload blockingBits wireBits bitsOf
+broken = record { emission = early; keeps = keeps; overruns = record { cycle = 2; unsent = refl } }
+
+-- at 72,000, where the slack is 0, port 1 sends just as much as it can in cycles 1 and 2
+isRunning : Network → Bool
+isRunning (running places) = true
+isRunning stopped = false
+
+filled : isRunning (run planK 72000 (cyclesOf 72000 early) 3) ≡ true
+unfolding isRunning planK noPlan early run overrun queuedBits overrunAt anyTo sumTo countTo row capacity window workload blockingBits wireBits bitsOf
+filled = refl
+
+network : ℕ → Places
+unfolding run overrun queuedBits overrunAt
+network c = placesOf (run planK 100000 (cyclesOf 100000 early) c)
+
+-- at 100,000 the same frames fall into cycles 0 and 1, and each leaves port 1 in the cycle after its own
+leaving : (f k c : ℕ) → Type 0
+leaving f k c = Leaves planK 100000 (cyclesOf 100000 early) f k c
+
+kept : leaving 0 0 1 × leaving 1 0 1 × leaving 0 1 2 × leaving 1 1 2
+unfolding leaving network planK noPlan early run overrun queuedBits overrunAt anyTo sumTo countTo row capacity window workload blockingBits wireBits bitsOf
+kept = (
+  record { before = network 1; after = network 2; starts = refl; ends = refl; there = refl; left = refl },
+  record { before = network 1; after = network 2; starts = refl; ends = refl; there = refl; left = refl },
+  record { before = network 2; after = network 3; starts = refl; ends = refl; there = refl; left = refl },
+  record { before = network 2; after = network 3; starts = refl; ends = refl; there = refl; left = refl },
+)

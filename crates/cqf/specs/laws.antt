@@ -13,3 +13,12 @@ pub mod Burst
 pub mod Condition
 pub mod Demand
 pub mod Slack
+pub mod Places
+pub mod Sending
+pub mod Accepted
+pub mod Refused
+pub mod Monotone
+pub mod Need
+pub mod Smallest
+pub mod Ranges
+pub mod Search

@@ -4,3 +4,6 @@ pub mod Field
 pub mod Answer
 pub mod Draft
 pub mod Reading
+pub mod FieldOrder
+pub mod Ranges
+pub mod laws

@@ -7,7 +7,7 @@ use lib.ListN.{length}
 use Rattle.cqf.specs.Bounded.{within, every}
 use Rattle.cqf.specs.Plan.{Plan, portIn}
 use Rattle.plan.specs.Bytes.{headSize, tagAt, sizeAt, wholeAt, valueAt}
-use Rattle.plan.specs.Field.{Field, FieldRead, field, refused, flowTag, fieldAt, routeIn}
+use Rattle.plan.specs.Field.{FieldRead, field, refused, flowTag, fieldAt, routeIn}
 use Rattle.plan.specs.Draft.{Draft, blank, taken, loops, added}
 
 -- a plan has 1 to 16,384 bytes

@@ -1,5 +1,20 @@
 // The plan's bytes: a field's head and value, the fields, and the tests of one field.
 
+ghost use mathlib.Core.Path.{_≡_};
+ghost use Rattle.plan.specs.Answer.{faultNumber};
+
+mod number; // number.rt: numbers of several bytes, high byte first
+pub mod limits; // limits.rt: the ranges of a plan's numbers
+pub mod split; // split.rt: a field's head, and its value as a part of the plan
+pub mod route; // route.rt: a flow's route
+pub mod read; // read.rt: a whole field, tests 2 to 5
+
+pub use read::read_field;
+pub use route::repeats_port;
+pub use route::route_port;
+pub use split::field_value;
+pub use split::split_head;
+
 // What a plan can be refused for: document 01's refusals 1 to 9.
 pub enum Fault {
     Size,
@@ -47,4 +62,20 @@ pub enum Field {
 pub enum Reading {
     Field { field: Field, next: usize },
     Refused { fault: Fault, offset: usize },
+}
+
+pub fn fault_number(fault: Fault) -> u8
+    ensures { λ r. ⌜ r ≡ faultNumber fault ⌝ }
+{
+    match fault {
+        Fault::Size => 1,
+        Fault::Truncated => 2,
+        Fault::UnknownTag => 3,
+        Fault::WrongLength => 4,
+        Fault::OutOfRange => 5,
+        Fault::Duplicate => 6,
+        Fault::RepeatedPort => 7,
+        Fault::Incomplete => 8,
+        Fault::UnknownPort => 9,
+    }
 }

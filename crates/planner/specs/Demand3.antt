@@ -2,12 +2,10 @@
 use mathlib.Core.Path.{_≡_}
 use mathlib.Core.Logic.{_↔_}
 use mathlib.Core.List.{List, [], _∷_}
-use mathlib.Core.Option.{Option, some}
-use Prim.Native.Nat.{ℕ, _≤_, _<_}
-use lib.ListN.{length, getD}
-use Rattle.cqf.specs.Plan.{Plan, routeOf}
-use Rattle.cqf.specs.Emission.{Emission, Keeps, cyclesOf}
-use Rattle.cqf.specs.LargeEnough.{Counterexample, OnTime}
+use mathlib.Core.Option.{some}
+use Prim.Native.Nat.{ℕ, _≤_}
+use Rattle.cqf.specs.Plan.{Plan}
+use Rattle.cqf.specs.LargeEnough.{Counterexample, AllOnTime}
 use Rattle.plan.specs.Reading.{accepted, readPlan}
 use Rattle.planner.specs.Outcome.{Answer, result, refusal}
 use Rattle.planner.specs.Calls.{Call, after, heldBytes}
@@ -23,13 +21,7 @@ pub record Refuses (answer : Answer (Unit {0})) : Type 0 where
 pub record Means (p : Plan) (T : ℕ) (answer : Answer (Unit {0})) : Type 0 where
   pub refused : Refuses answer ↔ Counterexample p T
   pub accepted : (answer ≡ result tt) ↔ (Counterexample p T → ⊥)
-  pub on-time
-      : answer ≡ result tt
-      → (e : Emission)
-      → Keeps p e
-      → (f k : ℕ)
-      → k < length (e f)
-      → OnTime p T (cyclesOf T e) f k (getD (e f) k 0) (length (routeOf p f))
+  pub on-time : answer ≡ result tt → AllOnTime p T
 
 -- the answer to T after every row of calls that leaves the planner at these tables: the plan is the one in the bytes of the
 -- last load in which the rules find no refusal, and T is from 1 to its top

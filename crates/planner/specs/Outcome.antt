@@ -1,9 +1,9 @@
--- What each call answers and leaves, for any held plan and any input. A plan that is not well formed, as no call leaves it but
--- the empty planner, counts as no plan held (refusal 20).
+-- What each call answers and leaves, for any held plan and any input. Tables that are not well
+-- formed count as no plan held (refusal 20): no row of calls from the empty planner leaves such, but for the empty one itself.
 use Prim.Native.Nat.{ℕ, _-_}
 use mathlib.Core.List.{List, [], _∷_, _++_}
-use mathlib.Core.Bool.{Bool, true, false, cond, not, _&&_}
-use lib.Dec.{ltb, leb}
+use mathlib.Core.Bool.{cond, not, _&&_}
+use lib.Dec.{leb}
 use lib.IntN.{ℤ}
 use lib.ListN.{length, drop}
 use Rattle.cqf.specs.Bounded.{within, tabulate}

@@ -1,7 +1,16 @@
--- Laws of the definitions, one subject a file.
+-- Laws of the calls.
+pub mod Rows
+pub mod Copy
+pub mod Ports
+pub mod Load
 pub mod Marks
 pub mod Sums
 pub mod Sets
 pub mod Fails
 pub mod Signed
 pub mod Answers
+pub mod PortNeed
+pub mod Scratch
+pub mod Climb
+pub mod Descent
+pub mod Searched

@@ -18,6 +18,7 @@ ghost use Rattle.cqf.specs.Plan.{wellFormed};
 ghost use Rattle.cqf.specs.Condition.{demand};
 ghost use Rattle.planner.specs.Answer.{planOf, checkOf, slackOf};
 ghost use Rattle.planner.specs.Failing.{workloadOf, mostDemand};
+ghost use Rattle.planner.specs.Demand3.{Demand3};
 ghost use Rattle.planner.specs.Outcome.{checkAnswer, slackAnswer};
 
 // Each port's demand.
@@ -38,9 +39,10 @@ fn port_demands(planner: Planner, duration: u64) -> [u64; 64]
     out
 }
 
-// Is this duration admissible?
+// Is this duration admissible? What the answer means is demand 3: after every row of calls that leads to this planner.
 pub fn check(planner: Planner, duration: u64) -> CheckAnswer
-    ensures { λ r. ⌜ checkOf r ≡ checkAnswer (planOf planner) duration ⌝ }
+    ensures answers { λ r. ⌜ checkOf r ≡ checkAnswer (planOf planner) duration ⌝ }
+    ensures means { λ r. ⌜ Demand3 (planOf planner) duration (checkOf r) ⌝ }
 {
     if !formed(planner) {
         return CheckAnswer::NoPlan;

@@ -2,9 +2,8 @@
 -- count more after each period.
 use mathlib.Core.Path.{_≡_, refl, ap, _∙_}
 use mathlib.Core.List.{List, [], _∷_, map}
-use mathlib.Core.Bool.{Bool, true}
 use Prim.Native.Nat.{ℕ, zero, suc, _+_, _*_, _/_, _≤_, _<_}
-use native.Mathlib.Nat.{le-refl, le-of-suc-le-suc, not-suc-le-zero, mul-comm, suc-mul, mul-le-mul-right, add-div-right, div-mul-le-self, le-div-iff-mul-le, div-lt-iff-lt-mul}
+use native.Mathlib.Nat.{le-of-suc-le-suc, not-suc-le-zero, mul-comm, suc-mul, mul-le-mul-right, add-div-right, div-mul-le-self, le-div-iff-mul-le, div-lt-iff-lt-mul}
 use native.Mathlib.Numerals.{add-one}
 use native.Mathlib.Omega.{arith}
 use lib.ListN.{length, getD, length-map}
@@ -13,16 +12,10 @@ use lib.Dec.{eqb}
 use borrow.Author.Tests.{eq-eqb}
 use Rattle.cqf.specs.Bounded.{countTo, tabulate}
 use Rattle.cqf.specs.Condition.{ceilDiv}
-use Rattle.cqf.specs.laws.Ceil.{ceil-before}
+use Rattle.cqf.specs.laws.Bounded.{countTo-all}
 use Rattle.cqf.specs.laws.Tabulate.{tabulate-length, tabulate-at}
+use Rattle.cqf.specs.laws.Ceil.{ceil-before}
 use Rattle.cqf.specs.laws.Arrivals.{cycle-of}
-
--- where every number below n passes, n of them do
-pub count-all : (b : ℕ → Bool) (n : ℕ) → ((i : ℕ) → i < n → b i ≡ true) → countTo n b ≡ n
-unfolding countTo
-count-all b zero h = refl
-count-all b (suc n) h =
-    rw (h n (le-refl _), count-all b n (λ i l. h i (omega arith))) (add-one n)
 
 -- the instants of the burst in cycle c of duration T
 unfoldable pub burst : (T c count period : ℕ) → List ℕ
@@ -95,6 +88,6 @@ module _ (T c count period : ℕ) (long : 0 < T) (some : 0 < count) (apart : 0 <
       (λ k. eqb (getD (map (λ (t : ℕ). t / T) (burst T c count period)) k 0) c)
       ≡ count * ceilDiv T period
   burst-count =
-      count-all _ _ (λ i l. eq-eqb _ _ (burst-cycles i l))
+      countTo-all _ _ (λ i l. eq-eqb _ _ (burst-cycles i l))
       ∙ length-map (burst T c count period) (λ (t : ℕ). t / T)
       ∙ burst-length T c count period

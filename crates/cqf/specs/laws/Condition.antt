@@ -69,7 +69,11 @@ pub no-overrun : (p : Plan) (T q bits : ℕ) → fails p T q ≡ false → bits 
 unfolding overrunAt
 no-overrun p T q bits sound l = go (ltb 0 bits) refl
   where
-    fits : (x : Bool) → x ≡ true → x && ltb (capacity p q T) (workload p q (demand p q T)) ≡ false → ltb (capacity p q T) (workload p q bits) ≡ false
+    fits
+        : (x : Bool)
+        → x ≡ true
+        → x && ltb (capacity p q T) (workload p q (demand p q T)) ≡ false
+        → ltb (capacity p q T) (workload p q bits) ≡ false
     fits true h e = le-ltb _ _ (le-trans (workload-mono p q l) (ltb-false _ _ e))
     fits false h e = absurd (false≢true h)
 

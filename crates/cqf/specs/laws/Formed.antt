@@ -31,6 +31,7 @@ pub record Held (p : Plan) (f : ℕ) : Type 0 where
   pub in-plan : every (portIn (p .rates)) (routeOf p f) ≡ true
   pub once : distinct (routeOf p f) ≡ true
 
+-- its period is above 0
 pub held-period : (p : Plan) (f : ℕ) → Held p f → 0 < periodOf p f
 held-period p f flow = omega (arith, flow .period-least)
 
@@ -47,6 +48,7 @@ heldTest p f =
     && every (portIn (p .rates)) (routeOf p f)
     && distinct (routeOf p f)
 
+-- what each test says
 empty : (p : Plan) (f : ℕ) → emptyTest p f ≡ true → Empty p f
 empty p f h =
     let t = simp and-eq-true-iff at h in
@@ -74,6 +76,7 @@ held p f h =
     }
 
 module _ (p : Plan) (formed : wellFormed p ≡ true) where
+  -- each slot is sound
   pub ports-sound : (q : ℕ) → q < portSlots → portSound p q ≡ true
   unfolding wellFormed
   ports-sound = let h = simp and-eq-true-iff at formed in allTo-at portSlots (portSound p) (h .0 .0 .1)

@@ -32,12 +32,19 @@ elem-at [] i l = absurd (not-suc-le-zero l)
 elem-at (x ∷ xs) zero l = rw (eq-eqb x x refl)
 elem-at (x ∷ xs) (suc i) l = rw (elem-at xs i (le-of-suc-le-suc l)) (or-true (eqb (getD xs i 0) x))
 
--- a number that stands in no list's position
+-- a number that does not stand in a list stands at no position of it
 pub elem-none : (n : ℕ) (l : List ℕ) → elem n l ≡ false → (i : ℕ) → i < length l → getD l i 0 ≡ n → ⊥
 elem-none n l e i h d = true≢false (sym (elem-at l i h) ∙ ap (λ (m : ℕ). elem m l) d ∙ e)
 
 -- a list without a number twice has each at one position
-pub distinct-index : (l : List ℕ) → distinct l ≡ true → (i j : ℕ) → i < length l → j < length l → getD l i 0 ≡ getD l j 0 → i ≡ j
+pub distinct-index
+    : (l : List ℕ)
+    → distinct l ≡ true
+    → (i j : ℕ)
+    → i < length l
+    → j < length l
+    → getD l i 0 ≡ getD l j 0
+    → i ≡ j
 unfolding distinct
 distinct-index [] e i j hi hj d = absurd (not-suc-le-zero hi)
 distinct-index (x ∷ xs) e zero zero hi hj d = refl

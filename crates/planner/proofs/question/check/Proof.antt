@@ -1,5 +1,5 @@
 -- `planner::question::check` meets its contract: the set of failing ports is that of the condition.
-use mathlib.Core.Path.{_≡_, sym, ap₂, _∙_}
+use mathlib.Core.Path.{_≡_, sym, ap₂, _∙_, subst}
 use mathlib.Core.Bool.{true}
 use mathlib.Core.List.{List}
 use Prim.Native.Nat.{ℕ, _≤_}
@@ -12,6 +12,9 @@ use Rattle.cqf.specs.Condition.{fails}
 use Rattle.cqf.specs.laws.Tests.{formed-top}
 use Rattle.cqf.specs.laws.Tabulate.{tabulate-length}
 use Rattle.planner.specs.Answer.{planOf}
+use Rattle.planner.specs.Outcome.{Answer, checkAnswer}
+use Rattle.planner.specs.Demand3.{Demand3}
+use Rattle.planner.specs.Theorem.{demand3}
 use Rattle.planner.specs.Failing.{setTo, failsIn}
 use Rattle.planner.specs.laws.Sums.{demands-most}
 use Rattle.planner.specs.laws.Fails.{failing-set, set-admissible, set-refused, set-lowest-failing, set-failing}
@@ -22,6 +25,10 @@ use Rattle.planner.proofs.question.check.Tie as tie
 -- the plan that the planner holds
 abbrev held : tie.Start → Plan
 held s = planOf (s .args .t1)
+
+-- the answer of the definition, and with it what demand 3 says of it
+told : (p : Plan) (T : ℕ) (a : Answer (Unit {0})) → a ≡ checkAnswer p T → (a ≡ checkAnswer p T) × Demand3 p T a
+told p T a e = (e, subst (λ (x : Answer (Unit {0})). Demand3 p T x) (sym e) (demand3 p T))
 
 -- past the refusals: the plan is well formed, and the duration from 1 to top
 module _ (c : tie.Else3) where
@@ -53,12 +60,14 @@ formed-requires : tie.Need-formed-requires
 formed-requires c κs = tt
 
 returns : tie.Need-returns
-returns c = sym (check-none (held (c .before .before)) _ (sym (c .before .formed .ensures) ∙ not-true _ (c .if1 .taken)))
+returns c =
+    told (held (c .before .before)) _ _
+    (sym (check-none (held (c .before .before)) _ (sym (c .before .formed .ensures) ∙ not-true _ (c .if1 .taken))))
 
 returns-2 : tie.Need-returns-2
 returns-2 c =
     let yes = sym (c .before .before .formed .ensures) ∙ not-false _ (c .before .if1 .left) in
-    sym (check-low (held (c .before .before .before)) _ yes (c .if2 .taken))
+    told (held (c .before .before .before)) _ _ (sym (check-low (held (c .before .before .before)) _ yes (c .if2 .taken)))
 
 cast-top : tie.Need-cast-top
 cast-top c = search needs
@@ -66,7 +75,7 @@ cast-top c = search needs
 returns-3 : tie.Need-returns-3
 returns-3 c =
     let yes = sym (c .before .before .before .formed .ensures) ∙ not-false _ (c .before .before .if1 .left) in
-    sym (check-high (held (c .before .before .before .before)) _ yes (c .if3 .taken))
+    told (held (c .before .before .before .before)) _ _ (sym (check-high (held (c .before .before .before .before)) _ yes (c .if3 .taken)))
 
 port-demands-requires : tie.Need-port-demands-requires
 port-demands-requires c κs = (formed c, fits c)
@@ -92,7 +101,7 @@ returns-4 : tie.Need-returns-4
 returns-4 c =
     let at = past (c .before) in
     let good = set-admissible _ _ (set-is (c .before)) (c .if4 .taken) in
-    sym (check-good (held (begin at)) _ (formed at) (at .before .if2 .left) (high at) good)
+    told (held (begin at)) _ _ (sym (check-good (held (begin at)) _ (formed at) (at .before .if2 .left) (high at) good))
 
 failing-ports-requires : tie.Need-failing-ports-requires
 failing-ports-requires c κs = tt
@@ -101,7 +110,8 @@ returns-5 : tie.Need-returns-5
 returns-5 c =
     let at = past (c .before .before) in
     let is = set-is (c .before .before) in
-    sym
+    told (held (begin at)) _ _
+    (sym
     (check-bad
     (held (begin at))
     _
@@ -110,7 +120,7 @@ returns-5 c =
     (high at)
     (set-refused _ _ is (c .before .if4 .left))
     (c .failing-ports .ensures .0 ∙ set-lowest-failing _ _ is)
-    (c .failing-ports .ensures .1 ∙ set-failing _ _ is))
+    (c .failing-ports .ensures .1 ∙ set-failing _ _ is)))
 
 pub check-spec : {M : Type 1} → statement M
 check-spec =

@@ -1,0 +1,137 @@
+//! The plans that are measured, as bytes.
+
+use crate::found;
+
+/// How a plan is measured: its name, its bytes, and how many durations the scan tries at most.
+pub struct Case {
+    pub name: &'static str,
+    pub bytes: Vec<u8>,
+    pub scanned: u64,
+    /// Too long to count instructions; the two are timed instead.
+    pub timed: bool,
+    /// Which of the two searches the plan is for.
+    pub searches: &'static [&'static str],
+}
+
+fn header(plan: &mut Vec<u8>, guard: u32, top: u32) {
+    plan.extend([1, 0, 8]);
+    plan.extend(guard.to_be_bytes());
+    plan.extend(top.to_be_bytes());
+}
+
+fn port(plan: &mut Vec<u8>, number: u16, rate: u32, blocker: u16) {
+    plan.extend([2, 0, 8]);
+    plan.extend(number.to_be_bytes());
+    plan.extend(rate.to_be_bytes());
+    plan.extend(blocker.to_be_bytes());
+}
+
+fn flow(plan: &mut Vec<u8>, number: u16, period: u32, length: u16, route: &[u16]) {
+    plan.push(3);
+    plan.extend((10 + 2 * route.len() as u16).to_be_bytes());
+    plan.extend(number.to_be_bytes());
+    plan.extend(period.to_be_bytes());
+    plan.extend(1u16.to_be_bytes());
+    plan.extend(length.to_be_bytes());
+    plan.extend(route.iter().flat_map(|port| port.to_be_bytes()));
+}
+
+fn k() -> Vec<u8> {
+    let mut plan = Vec::new();
+    header(&mut plan, 1_000, 1_000_000);
+    port(&mut plan, 1, 100, 0);
+    flow(&mut plan, 1, 100_000, 230, &[1]);
+    flow(&mut plan, 2, 110_000, 605, &[1]);
+    plan
+}
+
+/// 64 ports, 256 flows of 16 hops, each rate so that the long-run load is a part of it.
+fn large(load: f64) -> Vec<u8> {
+    let mut state = 1u64;
+    let mut below = |bound: u64| {
+        state = state.wrapping_mul(6364136223846793005).wrapping_add(1442695040888963407);
+        (state >> 33) % bound
+    };
+    let (mut flows, mut loads) = (Vec::new(), [0.0; 64]);
+    for number in 1..=256 {
+        let (period, length) = (5_000 + below(45_000) as u32, 64 + below(1_400) as u16);
+        let (start, step) = (below(64), 1 + 2 * below(32));
+        let route: Vec<u16> = (0..16).map(|hop| ((start + hop * step) % 64 + 1) as u16).collect();
+        for port in &route {
+            loads[*port as usize - 1] += 8_000.0 * (length as f64 + 20.0) / period as f64;
+        }
+        flow(&mut flows, number, period, length, &route);
+    }
+    let mut plan = Vec::new();
+    header(&mut plan, 500, 100_000_000);
+    for number in 1..=64 {
+        let rate = (loads[number as usize - 1] / load).ceil();
+        port(&mut plan, number, rate as u32, if number % 2 == 0 { 1_500 } else { 0 });
+    }
+    plan.extend(flows);
+    plan
+}
+
+/// One flow whose frame takes a whole period: every round goes one period further.
+fn one_flow() -> Vec<u8> {
+    let mut plan = Vec::new();
+    header(&mut plan, 1, 100_000_000);
+    port(&mut plan, 1, 1_000, 0);
+    flow(&mut plan, 1, 1_000, 105, &[1]);
+    plan
+}
+
+/// One port at 100,000 Mbit/s, flows of the shortest frames with the given periods.
+fn one_port(periods: &[u32]) -> Vec<u8> {
+    let mut plan = Vec::new();
+    header(&mut plan, 0, 100_000_000);
+    port(&mut plan, 1, 100_000, 0);
+    for (slot, period) in periods.iter().enumerate() {
+        flow(&mut plan, slot as u16 + 1, *period, 64, &[1]);
+    }
+    plan
+}
+
+/// 149 flows of 64 bytes at 100,000 Mbit/s, one with a period that brings the load to 1.000003.
+fn spread() -> Vec<u8> {
+    let mut periods: Vec<u32> = (0..148).map(|slot| 1_000 + slot % 3).collect();
+    let rest = 100.0 * 1.000003 - periods.iter().map(|period| 672.0 / *period as f64).sum::<f64>();
+    periods.push((672.0 / rest).round() as u32);
+    one_port(&periods)
+}
+
+/// The same flows over each group of 16 ports, with blockers that rise from port to port.
+fn many_ports(top: u32, rates: &[u32; 64], blockers: &[u16; 64], periods: &[u32]) -> Vec<u8> {
+    let mut plan = Vec::new();
+    header(&mut plan, 0, top);
+    for slot in 0..64 {
+        port(&mut plan, slot as u16 + 1, rates[slot], blockers[slot]);
+    }
+    for group in 0..4 {
+        let route: Vec<u16> = (1..=16).map(|hop| group * 16 + hop).collect();
+        for (slot, period) in periods.iter().enumerate() {
+            flow(&mut plan, group * periods.len() as u16 + slot as u16 + 1, *period, 64, &route);
+        }
+    }
+    plan
+}
+
+const BOTH: &[&str] = &["least", "safe"];
+
+pub fn all() -> Vec<Case> {
+    let case = |name, bytes, scanned, searches| Case { name, bytes, scanned, timed: false, searches };
+    let short = many_ports(1_000_000, &found::SHORT_RATES, &found::SHORT_BLOCKERS, &found::SHORT_PERIODS);
+    let long = many_ports(100_000_000, &found::LONG_RATES, &found::LONG_BLOCKERS, &found::LONG_PERIODS);
+    vec![
+        case("K", k(), 100_000, BOTH),
+        case("large-60", large(0.6), 2_000, BOTH),
+        case("large-90", large(0.9), 2_000, BOTH),
+        case("large-99.9", large(0.999), 2_000, BOTH),
+        case("one-flow", one_flow(), 20_000, &["least"]),
+        case("149-flows", spread(), 5_000, &["least"]),
+        case("up-one-port", one_port(&found::UP_PERIODS), 5_000, &["least"]),
+        case("up-64-ports-1ms", short, 2_000, &["least"]),
+        Case { timed: true, ..case("up-64-ports", long, 2_000, &["least"]) },
+        case("down-one-port", one_port(&found::DOWN_PERIODS), 5_000, &["safe"]),
+    ]
+}

@@ -1,0 +1,24 @@
+use borrow.Author.Needs.{needs}
+use mathlib.Core.Path.{_∙_, ap}
+use Rattle.capi.specs.Numbers.{loadNumbers}
+use Rattle.capi.proofs.cp_load.Statement.{statement}
+use Rattle.capi.proofs.cp_load.Tie as tie
+use Rattle.capi.proofs.cp_load.Reads as reads
+use Rattle.capi.proofs.cp_load.Lts as lts
+use Rattle.capi.proofs.load_numbers.Reads as load-numbers-reads
+use Rattle.planner.proofs.load.Reads as load-reads
+
+-- src/lib.rt:160:9
+load-requires : tie.Need-load-requires
+load-requires c κs = search needs
+
+-- src/lib.rt:163:9
+load-numbers-requires : tie.Need-load-numbers-requires
+load-numbers-requires c κs = search needs
+
+-- src/lib.rt:156:1
+returns : tie.Need-returns
+returns c = (c .before .before .load .ensures .leaves, c .load-numbers .ensures ∙ ap loadNumbers (c .before .before .load .ensures .answers))
+
+pub cp-load-spec : {M : Type 1} → statement M
+cp-load-spec = tie.close (tie.spec load-requires load-numbers-requires returns)

@@ -1,0 +1,29 @@
+use mathlib.Core.Path.{_∙_, ap}
+use borrow.Author.Needs.{needs}
+use Rattle.capi.specs.Numbers.{searchNumbers}
+use Rattle.capi.proofs.cp_margin_safe.Statement.{statement}
+use Rattle.capi.proofs.cp_margin_safe.Tie as tie
+use Rattle.capi.proofs.cp_margin_safe.Reads as reads
+use Rattle.capi.proofs.cp_margin_safe.Lts as lts
+use Rattle.capi.proofs.search_numbers.Reads as search-numbers-reads
+use Rattle.planner.proofs.margin_safe.Reads as margin-safe-reads
+
+-- src/lib.rt:208:24
+margin-safe-requires : tie.Need-margin-safe-requires
+margin-safe-requires c κs = search needs
+
+-- src/lib.rt:208:5
+search-numbers-requires : tie.Need-search-numbers-requires
+search-numbers-requires c κs = search needs
+
+-- src/lib.rt:204:1
+same-length : tie.Need-same-length
+same-length c = search needs
+
+-- src/lib.rt:204:1
+returns : tie.Need-returns
+returns c = (c .search-numbers .ensures ∙ ap searchNumbers (c .before .before .before .margin-safe .ensures .0), c .before .before .before .margin-safe .ensures .1)
+
+pub cp-margin-safe-spec : {M : Type 1} → statement M
+cp-margin-safe-spec =
+    tie.close (tie.spec margin-safe-requires search-numbers-requires same-length returns)

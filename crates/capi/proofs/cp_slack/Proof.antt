@@ -1,0 +1,24 @@
+use mathlib.Core.Path.{_∙_, ap}
+use borrow.Author.Needs.{needs}
+use Rattle.capi.specs.Numbers.{slackNumbers}
+use Rattle.capi.proofs.cp_slack.Statement.{statement}
+use Rattle.capi.proofs.cp_slack.Tie as tie
+use Rattle.capi.proofs.cp_slack.Reads as reads
+use Rattle.capi.proofs.cp_slack.Lts as lts
+use Rattle.capi.proofs.slack_numbers.Reads as slack-numbers-reads
+use Rattle.planner.proofs.slack.Reads as slack-reads
+
+-- src/lib.rt:194:19
+slack-requires : tie.Need-slack-requires
+slack-requires c κs = search needs
+
+-- src/lib.rt:194:5
+slack-numbers-requires : tie.Need-slack-numbers-requires
+slack-numbers-requires c κs = search needs
+
+-- src/lib.rt:190:1
+returns : tie.Need-returns
+returns c = c .slack-numbers .ensures ∙ ap slackNumbers (c .before .slack .ensures)
+
+pub cp-slack-spec : {M : Type 1} → statement M
+cp-slack-spec = tie.close (tie.spec slack-requires slack-numbers-requires returns)

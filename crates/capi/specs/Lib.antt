@@ -1,0 +1,2 @@
+-- The outcomes of the calls as numbers, as include/cycle_planner.h tells them.
+pub mod Numbers

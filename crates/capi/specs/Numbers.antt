@@ -1,0 +1,41 @@
+-- An outcome as numbers: document 01's refusal number, 0 for a result, and up to two numbers with it.
+use Prim.Native.Nat.{ℕ}
+use mathlib.Core.List.{List, [], _∷_}
+use lib.IntN.{ℤ, pos}
+use Rattle.planner.specs.Outcome.{Answer, result, refusal, Fields}
+use Rattle.plan.specs.Field.{Field, header, port, flow, FieldRead, field, refused, headerTag, portTag, flowTag}
+use Rattle.capi.specs.declared.Answered.{Answered}
+use Rattle.capi.specs.declared.Slacked.{Slacked}
+use Rattle.capi.specs.declared.FieldNumbers.{FieldNumbers}
+
+abbrev pub answered : ℕ → ℕ → ℕ → Answered
+answered number first second = record { refusal = number; first = first; second = second }
+
+-- a refusal's number and the first two of what it carries
+abbrev pub refusedWith : ℕ → List ℕ → Answered
+refusedWith number [] = answered number 0 0
+refusedWith number (a ∷ []) = answered number a 0
+refusedWith number (a ∷ b ∷ rest) = answered number a b
+
+abbrev pub loadNumbers : Answer Fields → Answered
+loadNumbers (result fields) = answered 0 (fields .ports) (fields .flows)
+loadNumbers (refusal number values) = refusedWith number values
+
+abbrev pub checkNumbers : Answer (Unit {0}) → Answered
+checkNumbers (result u) = answered 0 0 0
+checkNumbers (refusal number values) = refusedWith number values
+
+abbrev pub searchNumbers : Answer ℕ → Answered
+searchNumbers (result duration) = answered 0 duration 0
+searchNumbers (refusal number values) = refusedWith number values
+
+abbrev pub slackNumbers : Answer ℤ → Slacked
+slackNumbers (result z) = record { refusal = 0; slack = z }
+slackNumbers (refusal number values) = record { refusal = number; slack = pos 0 }
+
+-- a field's tag and its numbers, 0 behind them
+abbrev pub fieldNumbers : FieldRead → FieldNumbers
+fieldNumbers (field (header g t) next) = record { refusal = 0; tag = headerTag; offset = next; numbers = g ∷ t ∷ 0 ∷ 0 ∷ 0 ∷ [] }
+fieldNumbers (field (port n r b) next) = record { refusal = 0; tag = portTag; offset = next; numbers = n ∷ r ∷ b ∷ 0 ∷ 0 ∷ [] }
+fieldNumbers (field (flow n p c l h) next) = record { refusal = 0; tag = flowTag; offset = next; numbers = n ∷ p ∷ c ∷ l ∷ h ∷ [] }
+fieldNumbers (refused number offset) = record { refusal = number; tag = 0; offset = offset; numbers = 0 ∷ 0 ∷ 0 ∷ 0 ∷ 0 ∷ [] }

@@ -1,0 +1,104 @@
+-- At an admissible duration the run of an emission that keeps every contract never stops, and each frame is on time.
+use mathlib.Core.Path.{_≡_, refl, sym, ap, _∙_}
+use mathlib.Core.Bool.{true, false, true≢false}
+use Prim.Native.Nat.{ℕ, zero, suc, _+_, _*_, _/_, _%_, _≤_, _<_}
+use native.Mathlib.Nat.{div-add-mod', mod-lt, add-mul, suc-mul}
+use native.Mathlib.Omega.{arith}
+use lib.ListN.{length, getD}
+use Rattle.cqf.specs.Limits.{portSlots}
+use Rattle.cqf.specs.Plan.{Plan, routeOf, wellFormed}
+use Rattle.cqf.specs.Condition.{frames, admissible}
+use Rattle.cqf.specs.Emission.{Emission, Keeps, cyclesOf}
+use Rattle.cqf.specs.Run.{Places, source, isGone, running, run, overrun, overrunAt, queuedBits, Leaves}
+use Rattle.cqf.specs.LargeEnough.{OnTime}
+use Rattle.cqf.specs.laws.Bounded.{anyTo-none}
+use Rattle.cqf.specs.laws.Formed.{held-period, present-held}
+use Rattle.cqf.specs.laws.Arrivals.{at-most, cycle-of}
+use Rattle.cqf.specs.laws.Places.{track, moved, run-goes, run-track, track-there, track-gone}
+use Rattle.cqf.specs.laws.Condition.{none-fails, no-overrun}
+use Rattle.cqf.specs.laws.Sending.{emittedIn, bits-most}
+
+-- the delay of a frame that leaves h cycles after its own lies within one cycle of h cycles
+delay
+    : (p : Plan) (T : ℕ)
+    → 0 < T
+    → (t h end : ℕ)
+    → (t / T + h) * T + p .guard ≤ end
+    → end + p .guard ≤ suc (t / T + h) * T
+    → (t + h * T ≤ end + T) × (end ≤ t + suc h * T)
+delay p T long t h end from to =
+    let split = div-add-mod' t T in
+    let less : t % T < T = mod-lt t long in
+    let start = add-mul (t / T) h T in
+    let stop = suc-mul (t / T + h) T in
+    let more = suc-mul h T in
+    (omega arith, omega arith)
+
+module _ (p : Plan) (formed : wellFormed p ≡ true) (T : ℕ) (long : 0 < T) (good : admissible p T ≡ true) (e : Emission) (keeps : Keeps p e) where
+  -- no flow emits more than its frames in a cycle
+  few : (f own : ℕ) → emittedIn (cyclesOf T e) f own ≤ frames p f T
+  few f own =
+      at-most p e keeps f T own
+      (λ h. let flow = present-held p formed f h in (flow .count-least, held-period p f flow))
+      long
+
+  -- no port leaves a frame unsent
+  none-unsent
+      : (c : ℕ) (places : Places)
+      → run p T (cyclesOf T e) c ≡ running places
+      → overrun p T (cyclesOf T e) places ≡ false
+  unfolding overrun
+  none-unsent c places goes =
+      anyTo-none
+      portSlots
+      (λ q. overrunAt p T (queuedBits p (cyclesOf T e) places q) q)
+      (λ q l. no-overrun p T q _ (none-fails p T good q l) (bits-most p T (cyclesOf T e) c places goes formed few q))
+
+  -- the run goes on
+  pub goes-on : (c : ℕ) → (places : Places) × (run p T (cyclesOf T e) c ≡ running places)
+  unfolding run
+  goes-on zero = (λ f k. source, refl)
+  goes-on (suc c) =
+      let b = goes-on c in
+      (moved p T (cyclesOf T e) c (b .0), run-goes p T (cyclesOf T e) c (b .0) (b .1) (none-unsent c (b .0) (b .1)))
+
+  module _ (f k : ℕ) where
+    -- the cycle of its instant
+    abbrev own : ℕ
+    own = getD (e f) k 0 / T
+
+    -- where the frame is when cycle c starts
+    place : (c : ℕ) (places : Places) → run p T (cyclesOf T e) c ≡ running places → places f k ≡ track own (routeOf p f) c
+    place c places goes =
+        run-track p T (cyclesOf T e) c places goes f k ∙ ap (λ (r : ℕ). track r (routeOf p f) c) (cycle-of T (e f) k)
+
+    -- the frame leaves its last port as many cycles after its own as its route has ports
+    leaves : Leaves p T (cyclesOf T e) f k (own + length (routeOf p f))
+    leaves =
+        let c = own + length (routeOf p f) in
+        let b = goes-on c in
+        let a = goes-on (suc c) in
+        record {
+          before = b .0;
+          after = a .0;
+          starts = b .1;
+          ends = a .1;
+          there = rw (place c (b .0) (b .1)) (track-there own (routeOf p f) c (omega arith));
+          left = rw (place (suc c) (a .0) (a .1)) (track-gone own (routeOf p f) (suc c) (omega arith));
+        }
+
+    -- and in no other cycle
+    once : (c : ℕ) → Leaves p T (cyclesOf T e) f k c → c ≡ own + length (routeOf p f)
+    once c l = omega (arith, early, late)
+      where
+        early : ¬ (own + length (routeOf p f) < c)
+        early h = true≢false (sym (track-gone own (routeOf p f) c h) ∙ ap isGone (sym (place c (l .before) (l .starts))) ∙ l .there)
+
+        late : ¬ (c < own + length (routeOf p f))
+        late h =
+            true≢false
+            (sym (l .left) ∙ ap isGone (place (suc c) (l .after) (l .ends)) ∙ track-there own (routeOf p f) (suc c) h)
+
+    -- so every frame is on time
+    pub on-time : OnTime p T (cyclesOf T e) f k (getD (e f) k 0) (length (routeOf p f))
+    on-time = record { leaves = leaves; once = once; delay = delay p T long (getD (e f) k 0) (length (routeOf p f)) }

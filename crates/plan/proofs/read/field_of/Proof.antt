@@ -1,0 +1,39 @@
+-- `field_of` meets its contract: test 3, and the field by its tag.
+use mathlib.Core.Path.{sym, _∙_}
+use borrow.Author.Needs.{needs}
+use Rattle.plan.specs.laws.Tested.{tag-header, tag-port, tag-flow, tag-unknown}
+use Rattle.plan.proofs.read.field_of.Statement.{statement}
+use Rattle.plan.proofs.read.field_of.Tie as tie
+
+header-of-requires : tie.Need-header-of-requires
+header-of-requires c κs = search needs
+
+returns : tie.Need-returns
+returns c = c .header-of .ensures ∙ sym (tag-header _ _ _ _ (c .before .if1 .taken))
+
+port-of-requires : tie.Need-port-of-requires
+port-of-requires c κs = search needs
+
+returns-2 : tie.Need-returns-2
+returns-2 c = c .port-of .ensures ∙ sym (tag-port _ _ _ _ (c .before .if2 .taken))
+
+flow-of-requires : tie.Need-flow-of-requires
+flow-of-requires c κs = search needs
+
+returns-3 : tie.Need-returns-3
+returns-3 c = c .flow-of .ensures ∙ sym (tag-flow _ _ _ _ (c .before .if3 .taken))
+
+returns-4 : tie.Need-returns-4
+returns-4 c = sym (tag-unknown _ _ _ _ (c .before .before .if1 .left) (c .before .if2 .left) (c .if3 .left))
+
+pub field-of-spec : {M : Type 1} → statement M
+field-of-spec =
+    tie.close
+    (tie.spec
+    header-of-requires
+    returns
+    port-of-requires
+    returns-2
+    flow-of-requires
+    returns-3
+    returns-4)

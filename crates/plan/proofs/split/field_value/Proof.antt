@@ -1,0 +1,84 @@
+-- `field_value` meets its contract: a whole field ends within the plan, so its value is a part of it.
+use Prim.Native.Nat.{_+_, _≤_}
+use mathlib.Core.Path.{_≡_, sym, ap, _∙_}
+use native.Mathlib.Nat.{add-sub-cancel-left}
+use native.Mathlib.Omega.{arith}
+use borrow.Author.Needs.{needs}
+use lib.ListN.{length}
+use denote.Ref.{now}
+use Rattle.plan.specs.Bytes.{valueAt}
+use Rattle.plan.specs.Field.{head, headAt}
+use Rattle.plan.specs.Answer.{headOf}
+use Rattle.plan.specs.laws.Whole.{read-fits, read-whole, read-size, read-cut, part-whole, part-cut}
+use Rattle.plan.proofs.split.field_value.Statement.{statement}
+use Rattle.plan.proofs.split.field_value.Tie as tie
+
+-- the head that the splitter found is the one in the plan's bytes
+read-head : (c : tie.After-known-told) →
+    head (c .before .size .given .0 .0) (c .before .size .given .0 .1 .0)
+    ≡ headAt (now (c .before .before .before .before .before .args .plan)) (c .before .before .before .before .before .args .at)
+read-head c = sym (ap headOf (c .before .size .given .1)) ∙ c .before .before .before .split-head .ensures
+
+-- so the field ends within the plan
+ends : (c : tie.After-known-told) →
+    c .before .before .before .before .before .args .at + 3 + c .before .size .given .0 .1 .0
+    ≤ length (now (c .before .before .before .before .before .args .plan))
+ends c = read-fits _ _ (c .before .size .given .0 .0) (c .before .size .given .0 .1 .0) (read-head c)
+
+split-head-requires : tie.Need-split-head-requires
+split-head-requires c κs = search needs
+
+enum-known-size : tie.Need-enum-known-size
+enum-known-size c = search needs
+
+add-start : tie.Need-add-start
+add-start c = omega (arith, ends c)
+
+add-end : tie.Need-add-end
+add-end c = omega (arith, ends c)
+
+sub-result : tie.Need-sub-result
+sub-result c = search needs
+
+part-result-start : tie.Need-part-result-start
+part-result-start c = search needs
+
+part-result-end : tie.Need-part-result-end
+part-result-end c = omega (arith, ends c)
+
+enum-told : tie.Need-enum-told
+enum-told c = search needs
+
+slice-aggregate-result : tie.Need-slice-aggregate-result
+slice-aggregate-result c = search needs
+
+returns : tie.Need-returns
+unfolding valueAt
+returns c =
+    let a = c .before .before .before .before .before .before .args in
+    let v = c .before .before .size .given .0 in
+    let h = read-head (c .before) in
+    rw (add-sub-cancel-left, read-size (now (a .plan)) (a .at) (v .0) (v .1 .0) h)
+    (sym (part-whole (now (a .plan)) (a .at) (read-whole (now (a .plan)) (a .at) (v .0) (v .1 .0) h)))
+
+returns-2 : tie.Need-returns-2
+returns-2 c =
+    let a = c .before .before .before .before .before .args in
+    let h = sym (ap headOf (c .before .enum-told .given .1)) ∙ c .before .before .before .split-head .ensures in
+    sym (part-cut (now (a .plan)) (a .at) (read-cut (now (a .plan)) (a .at) h))
+
+pub field-value-spec : {M : Type 1} → statement M
+field-value-spec =
+    tie.close
+    (tie.spec
+    split-head-requires
+    enum-known-size
+    add-start
+    add-end
+    sub-result
+    part-result-start
+    part-result-end
+    enum-told
+    slice-aggregate-result
+    returns
+    returns-2)

@@ -1,0 +1,56 @@
+-- `split_head` meets its contract: at each return the tests that led there say whether the field ends within the plan.
+use mathlib.Core.Path.{sym, ap, _∙_}
+use native.Mathlib.Omega.{arith}
+use borrow.Author.Needs.{needs}
+use denote.Ref.{now}
+use Rattle.plan.specs.Bytes.{tagAt, sizeAt}
+use Rattle.plan.specs.Field.{head}
+use Rattle.plan.specs.laws.Whole.{whole, not-whole, head-whole, head-cut}
+use Rattle.plan.proofs.split.split_head.Statement.{statement}
+use Rattle.plan.proofs.split.split_head.Tie as tie
+
+returns : tie.Need-returns
+returns c = sym (head-cut _ _ (not-whole _ _ (omega arith)))
+
+sub-left : tie.Need-sub-left
+sub-left c = search needs
+
+returns-2 : tie.Need-returns-2
+returns-2 c = sym (head-cut _ _ (not-whole _ _ (omega arith)))
+
+add-be16 : tie.Need-add-be16
+add-be16 c = search needs
+
+be16-requires : tie.Need-be16-requires
+be16-requires c κs = search needs
+
+cast-size : tie.Need-cast-size
+cast-size c = search needs
+
+returns-3 : tie.Need-returns-3
+unfolding sizeAt
+returns-3 c = sym (head-cut _ _ (not-whole _ _ (omega arith)))
+
+shared-slice-read-t9 : tie.Need-shared-slice-read-t9
+shared-slice-read-t9 c = search needs
+
+returns-4 : tie.Need-returns-4
+unfolding sizeAt
+returns-4 c =
+    let a = c .before .before .before .before .before .before .args in
+    ap (head (tagAt (now (a .plan)) (a .at))) (c .before .before .be16 .ensures)
+    ∙ sym (head-whole (now (a .plan)) (a .at) (whole (now (a .plan)) (a .at) (omega arith)))
+
+pub split-head-spec : {M : Type 1} → statement M
+split-head-spec =
+    tie.close
+    (tie.spec
+    returns
+    sub-left
+    returns-2
+    add-be16
+    be16-requires
+    cast-size
+    returns-3
+    shared-slice-read-t9
+    returns-4)

@@ -1,0 +1,157 @@
+-- A draft stays sound with each field that is added to it.
+use mathlib.Core.Path.{_≡_, refl}
+use mathlib.Core.Logic.{_⊎_, inl, inr}
+use mathlib.Core.List.{List}
+use mathlib.Core.Bool.{true, _||_, or-true}
+use Prim.Native.Nat.{ℕ, _-_, _≤_, _<_}
+use native.Mathlib.Nat.{add-zero}
+use native.Mathlib.Omega.{arith}
+use native.Mathlib.Decide.{ℕ-discrete}
+use lib.Dec.{eqb}
+use lib.ListN.{getD-replicate}
+use lib.Seq.{getD-set-same, getD-set-other}
+use borrow.Author.Tests.{lt-ltb}
+use Rattle.cqf.specs.Bounded.{every, distinct}
+use Rattle.cqf.specs.Limits.{portSlots, flowSlots, maxHops, guardOk, topOk}
+use Rattle.cqf.specs.Plan.{Plan, noPlan, periodOf, routeOf, present, portIn, portSound}
+use Rattle.plan.specs.Field.{header, port, flow, routeIn}
+use Rattle.plan.specs.Draft.{Draft, blank, store, added}
+use Rattle.plan.specs.laws.Passes.{HeaderPasses, PortPasses, FlowPasses}
+use Rattle.plan.specs.laws.Slots.{within-least, within-most, slot-fits, soundIn, sound-hops, port-kept, flow-kept, port-filled, flow-filled}
+use Rattle.plan.specs.laws.Tables
+use Rattle.plan.specs.laws.Tables.{Sized, sized-none, sized-store}
+
+-- the draft's tables are sound, but for the ports that its routes name: those are in the plan of these rates
+pub record Sound (rates : List ℕ) (d : Draft) : Type 0 where
+  pub sized : Sized (d .tables)
+  pub guard : guardOk (d .tables .guard) ≡ true
+  pub top : eqb (d .tables .top) 0 || topOk (d .tables .top) ≡ true
+  pub ports : (q : ℕ) → q < portSlots → portSound (d .tables) q ≡ true
+  pub flows : (f : ℕ) → f < flowSlots → soundIn rates (d .tables) f ≡ true
+  pub some : (d .flows ≡ 0) ⊎ ((f : ℕ) × (f < flowSlots) × (present (d .tables) f ≡ true))
+
+pub sound-blank : (rates : List ℕ) → Sound rates blank
+unfolding blank noPlan portSound soundIn
+sound-blank rates =
+    record {
+      sized = sized-none;
+      guard = refl;
+      top = refl;
+      ports = λ q l. rw (getD-replicate {A = ℕ} portSlots q 0 0 l);
+      flows = λ f l. rw (getD-replicate {A = ℕ} flowSlots f 0 0 l);
+      some = inl refl;
+    }
+
+-- a header keeps the tables sound
+pub header-sound
+    : (rates : List ℕ) (d : Draft) (tag g t : ℕ) (v : List ℕ)
+    → HeaderPasses tag v g t
+    → Sound rates d
+    → Sound rates (added d (header g t) v)
+unfolding added store portSound soundIn
+header-sound rates d tag g t v h s =
+    record {
+      sized = sized-store (d .tables) (header g t) v (s .sized);
+      guard = h .guard-ok;
+      top = rw (h .top-ok) (or-true (eqb t 0));
+      ports = s .ports;
+      flows = s .flows;
+      some = rw add-zero (s .some);
+    }
+
+-- so does a port
+pub port-sound
+    : (rates : List ℕ) (d : Draft) (tag n r b : ℕ) (v : List ℕ)
+    → PortPasses tag v n r b
+    → Sound rates d
+    → Sound rates (added d (port n r b) v)
+unfolding added store soundIn
+port-sound rates d tag n r b v h s =
+    record {
+      sized = sized-store (d .tables) (port n r b) v (s .sized);
+      guard = s .guard;
+      top = s .top;
+      ports = λ q l. slot q l (ℕ-discrete q (n - 1));
+      flows = s .flows;
+      some = rw add-zero (s .some);
+    }
+  where
+    p : Plan
+    p = d .tables
+
+    fits : n - 1 < portSlots
+    fits = slot-fits portSlots n (h .number-ok)
+
+    slot : (q : ℕ) → q < portSlots → Dec (q ≡ n - 1) → portSound (store p (port n r b) v) q ≡ true
+    slot q l (yes e) =
+        port-filled (store p (port n r b) v) q
+        (rw (e, getD-set-same (p .rates) (n - 1) r 0 (rw (s .sized .rates) fits)) (h .rate-ok))
+        (rw (e, getD-set-same (p .blockings) (n - 1) b 0 (rw (s .sized .blockings) fits)) (h .blocking-ok))
+    slot q l (no ne) =
+        port-kept p (store p (port n r b) v) q
+        (getD-set-other (p .rates) (n - 1) q r 0 ne)
+        (getD-set-other (p .blockings) (n - 1) q b 0 ne)
+        (s .ports q l)
+
+-- and a flow over distinct ports of the plan
+pub flow-sound
+    : (rates : List ℕ) (d : Draft) (tag n t c l h : ℕ) (v : List ℕ)
+    → FlowPasses tag v n t c l h
+    → distinct (routeIn v) ≡ true
+    → every (portIn rates) (routeIn v) ≡ true
+    → Sound rates d
+    → Sound rates (added d (flow n t c l h) v)
+unfolding added store portSound
+flow-sound rates d tag n t c l h v k once named s =
+    record {
+      sized = sized-store (d .tables) (flow n t c l h) v (s .sized);
+      guard = s .guard;
+      top = s .top;
+      ports = s .ports;
+      flows = λ f less. slot f less (ℕ-discrete f (n - 1));
+      some = inr (n - 1, fits, here);
+    }
+  where
+    p : Plan
+    p = d .tables
+
+    o : Plan
+    o = store p (flow n t c l h) v
+
+    fits : n - 1 < flowSlots
+    fits = slot-fits flowSlots n (k .number-ok)
+
+    short : h ≤ maxHops
+    short = within-most _ _ h (k .hops-ok)
+
+    period : periodOf o (n - 1) ≡ t
+    period = Tables.stored-period p (s .sized) n t c l h v fits
+
+    route : routeOf o (n - 1) ≡ routeIn v
+    route = Tables.stored-route p (s .sized) n t c l h v fits (k .hops) short
+
+    here : present o (n - 1) ≡ true
+    here =
+        let long : 0 < t = omega (arith, within-least _ _ t (k .period-ok)) in
+        rw (lt-ltb (n - 1) flowSlots fits, period, lt-ltb 0 t long)
+
+    new : soundIn rates o (n - 1) ≡ true
+    new =
+        flow-filled rates o (n - 1)
+        (rw period (k .period-ok))
+        (rw (Tables.stored-count p (s .sized) n t c l h v fits) (k .count-ok))
+        (rw (Tables.stored-bytes p (s .sized) n t c l h v fits) (k .bytes-ok))
+        (rw (Tables.stored-hops p (s .sized) n t c l h v fits) (k .hops-ok))
+        (rw route named)
+        (rw route once)
+
+    slot : (f : ℕ) → f < flowSlots → Dec (f ≡ n - 1) → soundIn rates o f ≡ true
+    slot f less (yes e) = rw e new
+    slot f less (no ne) =
+        flow-kept rates p o f
+        (Tables.kept-period p n t c l h v f ne)
+        (Tables.kept-count p n t c l h v f ne)
+        (Tables.kept-bytes p n t c l h v f ne)
+        (Tables.kept-hops p n t c l h v f ne)
+        (Tables.kept-route p n t c l h v f ne (k .hops) short (sound-hops rates p f (s .flows f less)))
+        (s .flows f less)

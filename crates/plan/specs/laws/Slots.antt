@@ -1,0 +1,90 @@
+-- Laws of the soundness of one slot, by the numbers that stand in it.
+use mathlib.Core.Path.{_≡_}
+use mathlib.Core.List.{List}
+use mathlib.Core.Bool.{Bool, true, _&&_, _||_, and-eq-true-iff, or-true}
+use Prim.Native.Nat.{ℕ, _-_, _≤_, _<_}
+use native.Mathlib.Omega.{arith}
+use lib.Dec.{leb, eqb}
+use borrow.Author.Tests.{leb-true, eqb-true}
+use Rattle.cqf.specs.Bounded.{within, every, distinct}
+use Rattle.cqf.specs.Limits.{maxHops, rateOk, blockingOk, lengthOk, periodOk, countOk, hopsOk}
+use Rattle.cqf.specs.Plan.{Plan, rateOf, blockingOf, periodOf, countOf, lengthOf, hopsOf, routeOf, portIn, portSound}
+use Rattle.cqf.specs.laws.Bounded.{or-cases}
+use Rattle.plan.specs.laws.Tests.{and-left, and-right}
+
+-- a number in its range is no smaller than the least and no larger than the most
+pub within-least : (least most n : ℕ) → within least most n ≡ true → least ≤ n
+within-least least most n e = leb-true least n (and-left (leb least n) (leb n most) e)
+
+pub within-most : (least most n : ℕ) → within least most n ≡ true → n ≤ most
+within-most least most n e = leb-true n most (and-right (leb least n) (leb n most) e)
+
+-- a number from 1 has a slot
+pub slot-fits : (slots n : ℕ) → within 1 slots n ≡ true → n - 1 < slots
+slot-fits slots n e = omega (arith, within-least 1 slots n e, within-most 1 slots n e)
+
+-- whether slot f is empty, or holds a flow in range over distinct ports with these rates
+abbrev pub emptyAt : Plan → ℕ → Bool
+emptyAt p f = eqb (periodOf p f) 0 && eqb (countOf p f) 0 && eqb (lengthOf p f) 0 && eqb (hopsOf p f) 0
+
+abbrev pub heldAt : List ℕ → Plan → ℕ → Bool
+heldAt rates p f =
+    periodOk (periodOf p f)
+    && countOk (countOf p f)
+    && lengthOk (lengthOf p f)
+    && hopsOk (hopsOf p f)
+    && every (portIn rates) (routeOf p f)
+    && distinct (routeOf p f)
+
+unfoldable pub soundIn : List ℕ → Plan → ℕ → Bool
+soundIn rates p f = emptyAt p f || heldAt rates p f
+
+-- a sound slot has at most 16 hops
+pub sound-hops : (rates : List ℕ) (p : Plan) (f : ℕ) → soundIn rates p f ≡ true → hopsOf p f ≤ maxHops
+unfolding soundIn
+sound-hops rates p f e = or-cases (emptyAt p f) (heldAt rates p f) e empty held
+  where
+    empty : emptyAt p f ≡ true → hopsOf p f ≤ maxHops
+    empty h = omega (arith, eqb-true (hopsOf p f) 0 (and-right (eqb (periodOf p f) 0 && eqb (countOf p f) 0 && eqb (lengthOf p f) 0) _ h))
+
+    held : heldAt rates p f ≡ true → hopsOf p f ≤ maxHops
+    held h = let t = simp and-eq-true-iff at h in leb-true _ _ (t .0 .0 .1 .1)
+
+-- a slot whose numbers stay is as sound as it was
+pub port-kept
+    : (p o : Plan) (q : ℕ)
+    → rateOf o q ≡ rateOf p q
+    → blockingOf o q ≡ blockingOf p q
+    → portSound p q ≡ true
+    → portSound o q ≡ true
+unfolding portSound
+port-kept p o q a b h = rw (a, b) h
+
+pub flow-kept
+    : (rates : List ℕ) (p o : Plan) (f : ℕ)
+    → periodOf o f ≡ periodOf p f
+    → countOf o f ≡ countOf p f
+    → lengthOf o f ≡ lengthOf p f
+    → hopsOf o f ≡ hopsOf p f
+    → routeOf o f ≡ routeOf p f
+    → soundIn rates p f ≡ true
+    → soundIn rates o f ≡ true
+unfolding soundIn
+flow-kept rates p o f a b c d e h = rw (e, a, b, c, d) h
+
+-- a slot with a port, or a flow, in range is sound
+pub port-filled : (p : Plan) (q : ℕ) → rateOk (rateOf p q) ≡ true → blockingOk (blockingOf p q) ≡ true → portSound p q ≡ true
+unfolding portSound
+port-filled p q a b = rw (a, b) (or-true (eqb (rateOf p q) 0 && eqb (blockingOf p q) 0))
+
+pub flow-filled
+    : (rates : List ℕ) (p : Plan) (f : ℕ)
+    → periodOk (periodOf p f) ≡ true
+    → countOk (countOf p f) ≡ true
+    → lengthOk (lengthOf p f) ≡ true
+    → hopsOk (hopsOf p f) ≡ true
+    → every (portIn rates) (routeOf p f) ≡ true
+    → distinct (routeOf p f) ≡ true
+    → soundIn rates p f ≡ true
+unfolding soundIn
+flow-filled rates p f a b c d e g = rw (a, b, c, d, e, g) (or-true (emptyAt p f))

@@ -1,0 +1,129 @@
+-- Laws of the reading, field by field: what a step that goes on leaves, and that the plan's length is enough for all steps.
+use Prim.Native.Nat.{ℕ, zero, suc, _+_, _≤_, _<_}
+use mathlib.Core.Path.{_≡_, refl, sym, ap, _∙_}
+use mathlib.Core.List.{List}
+use mathlib.Core.Bool.{Bool, true, false, cond}
+use native.Mathlib.Omega.{arith}
+use borrow.Author.Tests.{lt-ltb, le-ltb, ltb-true, ltb-false}
+use lib.Dec.{ltb}
+use lib.ListN.{length}
+use Rattle.plan.specs.Bytes.{headSize, valueAt}
+use Rattle.plan.specs.Field.{Field, header, port, flow, FieldRead, field, refused, fieldAt}
+use Rattle.plan.specs.Draft.{Draft, taken, loops, added, portsIn, flowsIn}
+use Rattle.plan.specs.Reading.{rejected, Step, stop, more, fieldStep, stepAt, closing, readFrom}
+use Rattle.plan.specs.laws.Found.{found-forward, found-within}
+
+-- a field that tests 2 to 5 refuse
+pub step-refused : (s : List ℕ) (at : ℕ) (d : Draft) (n o : ℕ) → fieldAt s at ≡ refused n o → stepAt s at d ≡ stop n o
+unfolding stepAt
+step-refused s at d n o f = ap (fieldStep s at d) f
+
+-- the tests 6 and 7 of any other, and what it adds
+module _ (s : List ℕ) (at : ℕ) (d : Draft) (x : Field) (m : ℕ) (f : fieldAt s at ≡ field x m) where
+  passed : stepAt s at d ≡ fieldStep s at d (field x m)
+  unfolding stepAt
+  passed = ap (fieldStep s at d) f
+
+  pub step-taken : taken (d .tables) x ≡ true → stepAt s at d ≡ stop 6 at
+  step-taken e = passed ∙ rw e
+
+  pub step-loops : taken (d .tables) x ≡ false → loops x (valueAt s at) ≡ true → stepAt s at d ≡ stop 7 at
+  step-loops e g = passed ∙ rw (e, g)
+
+  pub step-added : taken (d .tables) x ≡ false → loops x (valueAt s at) ≡ false → stepAt s at d ≡ more m (added d x (valueAt s at))
+  step-added e g = passed ∙ rw (e, g)
+
+-- a step that goes on reaches a later offset within the plan, and has counted one field more at the most
+pub record Onward (s : List ℕ) (at : ℕ) (d : Draft) (next : ℕ) (d′ : Draft) : Type 0 where
+  pub forward : at + headSize ≤ next
+  pub inside : next ≤ length s
+  pub ports : d′ .ports ≤ d .ports + 1
+  pub flows : d′ .flows ≤ d .flows + 1
+
+-- a field adds one of a kind at the most
+pub portsIn-one : (x : Field) → portsIn x ≤ 1
+portsIn-one (header g t) = omega arith
+portsIn-one (port n r b) = omega arith
+portsIn-one (flow n p c l h) = omega arith
+
+pub flowsIn-one : (x : Field) → flowsIn x ≤ 1
+flowsIn-one (header g t) = omega arith
+flowsIn-one (port n r b) = omega arith
+flowsIn-one (flow n p c l h) = omega arith
+
+stopped : {n o next : ℕ} {d : Draft} → stop n o ≡ more next d → ⊥
+stopped e = let z : _≡_ {A = ℕ} 0 1 = cc in omega arith
+
+module _ (s : List ℕ) (at : ℕ) (d : Draft) (next : ℕ) (d′ : Draft) where
+  -- by the tests 6 and 7
+  tested : (b₁ b₂ : Bool) (x : Field) (m : ℕ) (v : List ℕ) → fieldAt s at ≡ field x m
+      → cond b₁ (stop 6 at) (cond b₂ (stop 7 at) (more m (added d x v))) ≡ more next d′
+      → Onward s at d next d′
+  unfolding added
+  tested true b₂ x m v f e = absurd (stopped e)
+  tested false true x m v f e = absurd (stopped e)
+  tested false false x m v f e =
+      let en : m ≡ next = cc in
+      let ed : added d x v ≡ d′ = cc in
+      let ep : d .ports + portsIn x ≡ d′ .ports = ap (λ (y : Draft). y .ports) ed in
+      let ef : d .flows + flowsIn x ≡ d′ .flows = ap (λ (y : Draft). y .flows) ed in
+      record {
+        forward = omega (arith, found-forward s at x m f);
+        inside = omega (arith, found-within s at x m f);
+        ports = omega (arith, portsIn-one x);
+        flows = omega (arith, flowsIn-one x);
+      }
+
+  by-field : (r : FieldRead) → fieldAt s at ≡ r → fieldStep s at d r ≡ more next d′ → Onward s at d next d′
+  by-field (refused n o) f e = absurd (stopped e)
+  by-field (field x m) f e = tested (taken (d .tables) x) (loops x (valueAt s at)) x m (valueAt s at) f e
+
+  pub onward : stepAt s at d ≡ more next d′ → Onward s at d next d′
+  unfolding stepAt
+  onward e = by-field (fieldAt s at) refl e
+
+module _ (s : List ℕ) (at : ℕ) (d : Draft) where
+  -- at the plan's end, whatever number of steps is left
+  pub read-end : (n : ℕ) → length s ≤ at → readFrom n s at d ≡ closing s d
+  unfolding readFrom
+  read-end zero h = refl
+  read-end (suc n) h = rw (le-ltb at (length s) h, readFrom)
+
+  stop-one : (n : ℕ) (k o : ℕ) → at < length s → stepAt s at d ≡ stop k o → readFrom (suc n) s at d ≡ rejected k o
+  unfolding readFrom
+  stop-one n k o h e = rw (lt-ltb at (length s) h, e, readFrom)
+
+  more-one : (n : ℕ) (next : ℕ) (d′ : Draft) → at < length s → stepAt s at d ≡ more next d′ → readFrom (suc n) s at d ≡ readFrom n s next d′
+  unfolding readFrom
+  more-one n next d′ h e = rw (lt-ltb at (length s) h, e, readFrom)
+
+-- any number of steps that is no less than the bytes left gives the same reading
+pub read-enough : (n m : ℕ) (s : List ℕ) (at : ℕ) (d : Draft) → length s ≤ at + n → length s ≤ at + m → readFrom n s at d ≡ readFrom m s at d
+read-enough zero m s at d h g = read-end s at d zero (omega arith) ∙ sym (read-end s at d m (omega arith))
+read-enough (suc n) zero s at d h g = read-end s at d (suc n) (omega arith) ∙ sym (read-end s at d zero (omega arith))
+read-enough (suc n) (suc m) s at d h g = by-end (λ next d′. read-enough n m s next d′) (ltb at (length s)) refl
+  where
+    Rest : Type 0
+    Rest = (next : ℕ) (d′ : Draft) → length s ≤ next + n → length s ≤ next + m → readFrom n s next d′ ≡ readFrom m s next d′
+
+    by-step : Rest → (r : Step) → stepAt s at d ≡ r → at < length s → readFrom (suc n) s at d ≡ readFrom (suc m) s at d
+    by-step rest (stop k o) e l = stop-one s at d n k o l e ∙ sym (stop-one s at d m k o l e)
+    by-step rest (more next d′) e l =
+        let f = onward s at d next d′ e in
+        more-one s at d n next d′ l e
+        ∙ rest next d′ (omega (arith, f .forward)) (omega (arith, f .forward))
+        ∙ sym (more-one s at d m next d′ l e)
+
+    by-end : Rest → (b : Bool) → ltb at (length s) ≡ b → readFrom (suc n) s at d ≡ readFrom (suc m) s at d
+    by-end rest true e = by-step rest (stepAt s at d) refl (ltb-true _ _ e)
+    by-end rest false e = read-end s at d (suc n) (ltb-false _ _ e) ∙ sym (read-end s at d (suc m) (ltb-false _ _ e))
+
+-- one field, with the plan's length as the bound throughout
+module _ (s : List ℕ) (at : ℕ) (d : Draft) (l : at < length s) where
+  pub read-stop : (k o : ℕ) → stepAt s at d ≡ stop k o → readFrom (length s) s at d ≡ rejected k o
+  read-stop k o e =
+      read-enough (length s) (suc (length s)) s at d (omega arith) (omega arith) ∙ stop-one s at d (length s) k o l e
+
+  pub read-more : (next : ℕ) (d′ : Draft) → stepAt s at d ≡ more next d′ → readFrom (length s) s at d ≡ readFrom (length s) s next d′
+  read-more next d′ e =
+      read-enough (length s) (suc (length s)) s at d (omega arith) (omega arith) ∙ more-one s at d (length s) next d′ l e

@@ -1,0 +1,25 @@
+-- Laws of a number that is in its range.
+use Prim.Native.Nat.{ℕ, _+_, _-_, _*_, _≤_, _<_}
+use native.Mathlib.Omega.{arith}
+use mathlib.Core.Path.{_≡_}
+use mathlib.Core.Bool.{true}
+use lib.Dec.{leb}
+use borrow.Author.Tests.{leb-true}
+use Rattle.cqf.specs.Bounded.{within}
+use Rattle.cqf.specs.Limits.{flowSlots, maxHops, flowOk, hopsOk}
+use Rattle.plan.specs.laws.Tests.{and-left, and-right}
+
+module _ (lo hi n : ℕ) (e : within lo hi n ≡ true) where
+  pub within-low : lo ≤ n
+  within-low = leb-true lo n (and-left (leb lo n) (leb n hi) e)
+
+  pub within-high : n ≤ hi
+  within-high = leb-true n hi (and-right (leb lo n) (leb n hi) e)
+
+-- a number from 1 on has its slot in the table
+pub slot-below : (slots n : ℕ) → within 1 slots n ≡ true → n - 1 < slots
+slot-below slots n e = omega (arith, within-low 1 slots n e, within-high 1 slots n e)
+
+-- a flow's route stays in its row of the routes
+pub row-below : (n h : ℕ) → flowOk n ≡ true → hopsOk h ≡ true → (n - 1) * maxHops + h ≤ flowSlots * maxHops
+row-below n h e f = omega (arith, within-low 1 flowSlots n e, within-high 1 flowSlots n e, within-high 1 maxHops h f)

@@ -1,0 +1,100 @@
+// The ranges of a plan's numbers (document 01, "The plan's bytes").
+
+ghost use mathlib.Core.Path.{_≡_};
+ghost use Rattle.cqf.specs.Bounded.{within};
+ghost use Rattle.cqf.specs.Limits.{guardOk, topOk, portOk, rateOk, lengthOk, blockingOk, flowOk, periodOk, countOk, hopsOk};
+
+const MAX_GUARD: u64 = 1_000_000;
+
+const MAX_TOP: u64 = 100_000_000;
+
+const MAX_PORT: u64 = 64;
+
+const MAX_RATE: u64 = 100_000;
+
+const MIN_LENGTH: u64 = 64;
+
+const MAX_LENGTH: u64 = 2_000;
+
+const MAX_FLOW: u64 = 256;
+
+const MIN_PERIOD: u64 = 1_000;
+
+const MAX_PERIOD: u64 = 100_000_000;
+
+const MAX_COUNT: u64 = 64;
+
+const MAX_HOPS: u64 = 16;
+
+fn between(lo: u64, hi: u64, n: u64) -> bool
+    ensures { λ r. ⌜ r ≡ within lo hi n ⌝ }
+{
+    if n < lo {
+        return false;
+    }
+    n <= hi
+}
+
+pub fn guard_ok(n: u32) -> bool
+    ensures { λ r. ⌜ r ≡ guardOk n ⌝ }
+{
+    between(0, MAX_GUARD, n as u64)
+}
+
+pub fn top_ok(n: u32) -> bool
+    ensures { λ r. ⌜ r ≡ topOk n ⌝ }
+{
+    between(1, MAX_TOP, n as u64)
+}
+
+pub fn port_ok(n: u16) -> bool
+    ensures { λ r. ⌜ r ≡ portOk n ⌝ }
+{
+    between(1, MAX_PORT, n as u64)
+}
+
+pub fn rate_ok(n: u32) -> bool
+    ensures { λ r. ⌜ r ≡ rateOk n ⌝ }
+{
+    between(1, MAX_RATE, n as u64)
+}
+
+pub fn length_ok(n: u16) -> bool
+    ensures { λ r. ⌜ r ≡ lengthOk n ⌝ }
+{
+    between(MIN_LENGTH, MAX_LENGTH, n as u64)
+}
+
+// 0 stands for no blocking frame.
+pub fn blocking_ok(n: u16) -> bool
+    ensures { λ r. ⌜ r ≡ blockingOk n ⌝ }
+{
+    if n == 0 {
+        return true;
+    }
+    length_ok(n)
+}
+
+pub fn flow_ok(n: u16) -> bool
+    ensures { λ r. ⌜ r ≡ flowOk n ⌝ }
+{
+    between(1, MAX_FLOW, n as u64)
+}
+
+pub fn period_ok(n: u32) -> bool
+    ensures { λ r. ⌜ r ≡ periodOk n ⌝ }
+{
+    between(MIN_PERIOD, MAX_PERIOD, n as u64)
+}
+
+pub fn count_ok(n: u16) -> bool
+    ensures { λ r. ⌜ r ≡ countOk n ⌝ }
+{
+    between(1, MAX_COUNT, n as u64)
+}
+
+pub fn hops_ok(n: usize) -> bool
+    ensures { λ r. ⌜ r ≡ hopsOk n ⌝ }
+{
+    between(1, MAX_HOPS, n as u64)
+}

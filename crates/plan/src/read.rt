@@ -1,0 +1,208 @@
+// A whole field: tests 2 to 5.
+
+use crate::Fault;
+use crate::Field;
+use crate::Flow;
+use crate::Head;
+use crate::Header;
+use crate::Port;
+use crate::Reading;
+use crate::limits::blocking_ok;
+use crate::limits::count_ok;
+use crate::limits::flow_ok;
+use crate::limits::guard_ok;
+use crate::limits::hops_ok;
+use crate::limits::length_ok;
+use crate::limits::period_ok;
+use crate::limits::port_ok;
+use crate::limits::rate_ok;
+use crate::limits::top_ok;
+use crate::number::be16;
+use crate::number::be32;
+use crate::route::FLOW_SIZE;
+use crate::route::hops_in;
+use crate::route::route_in_range;
+use crate::split::HEAD_SIZE;
+use crate::split::field_value;
+use crate::split::split_head;
+ghost use mathlib.Core.Path.{_≡_};
+ghost use mathlib.Core.Bool.{_&&_};
+ghost use Rattle.cqf.specs.Limits.{guardOk, topOk, portOk, rateOk, lengthOk, blockingOk, flowOk, periodOk, countOk};
+ghost use Rattle.plan.specs.Field.{headerIn, portInValue, flowIn, fieldIn, fieldAt};
+ghost use Rattle.plan.specs.Answer.{readingOf};
+
+const HEADER_TAG: u8 = 1;
+
+const PORT_TAG: u8 = 2;
+
+const FLOW_TAG: u8 = 3;
+
+const HEADER_SIZE: usize = 8;
+
+const PORT_SIZE: usize = 8;
+
+fn header_in_range(x: Header) -> bool
+    ensures { λ r. ⌜ r ≡ (guardOk (x .guard) && topOk (x .top)) ⌝ }
+{
+    if !guard_ok(x.guard) {
+        return false;
+    }
+    top_ok(x.top)
+}
+
+fn port_in_range(x: Port) -> bool
+    ensures { λ r. ⌜ r ≡ (portOk (x .number) && rateOk (x .rate) && blockingOk (x .blocking)) ⌝ }
+{
+    if !port_ok(x.number) {
+        return false;
+    }
+    if !rate_ok(x.rate) {
+        return false;
+    }
+    blocking_ok(x.blocking)
+}
+
+// The numbers of a flow, without its route.
+fn flow_in_range(x: Flow) -> bool
+    ensures { λ r. ⌜ r ≡ (flowOk (x .number) && periodOk (x .period) && countOk (x .count) && lengthOk (x .length)) ⌝ }
+{
+    if !flow_ok(x.number) {
+        return false;
+    }
+    if !period_ok(x.period) {
+        return false;
+    }
+    if !count_ok(x.count) {
+        return false;
+    }
+    length_ok(x.length)
+}
+
+fn header_of(value: &[u8], at: usize, next: usize) -> Reading
+    ensures { λ r. ⌜ readingOf r ≡ headerIn (now (value .entry)) at next ⌝ }
+{
+    if value.len() != HEADER_SIZE {
+        return Reading::Refused {
+            fault: Fault::WrongLength,
+            offset: at,
+        };
+    }
+    let x = Header {
+        guard: be32(value, 0),
+        top: be32(value, 4),
+    };
+    if !header_in_range(x) {
+        return Reading::Refused {
+            fault: Fault::OutOfRange,
+            offset: at,
+        };
+    }
+    Reading::Field {
+        field: Field::Header(x),
+        next,
+    }
+}
+
+fn port_of(value: &[u8], at: usize, next: usize) -> Reading
+    ensures { λ r. ⌜ readingOf r ≡ portInValue (now (value .entry)) at next ⌝ }
+{
+    if value.len() != PORT_SIZE {
+        return Reading::Refused {
+            fault: Fault::WrongLength,
+            offset: at,
+        };
+    }
+    let x = Port {
+        number: be16(value, 0),
+        rate: be32(value, 2),
+        blocking: be16(value, 6),
+    };
+    if !port_in_range(x) {
+        return Reading::Refused {
+            fault: Fault::OutOfRange,
+            offset: at,
+        };
+    }
+    Reading::Field {
+        field: Field::Port(x),
+        next,
+    }
+}
+
+fn flow_of(value: &[u8], at: usize, next: usize) -> Reading
+    ensures { λ r. ⌜ readingOf r ≡ flowIn (now (value .entry)) at next ⌝ }
+{
+    let size = value.len();
+    let hops = hops_in(size);
+    if !hops_ok(hops) {
+        return Reading::Refused {
+            fault: Fault::WrongLength,
+            offset: at,
+        };
+    }
+    if size != FLOW_SIZE + 2 * hops {
+        return Reading::Refused {
+            fault: Fault::WrongLength,
+            offset: at,
+        };
+    }
+    let x = Flow {
+        number: be16(value, 0),
+        period: be32(value, 2),
+        count: be16(value, 6),
+        length: be16(value, 8),
+        hops: hops as u8,
+    };
+    if !flow_in_range(x) {
+        return Reading::Refused {
+            fault: Fault::OutOfRange,
+            offset: at,
+        };
+    }
+    if !route_in_range(value) {
+        return Reading::Refused {
+            fault: Fault::OutOfRange,
+            offset: at,
+        };
+    }
+    Reading::Field {
+        field: Field::Flow(x),
+        next,
+    }
+}
+
+// The field by its tag, with its value: tests 3, 4 and 5.
+fn field_of(tag: u8, value: &[u8], at: usize, next: usize) -> Reading
+    ensures { λ r. ⌜ readingOf r ≡ fieldIn tag (now (value .entry)) at next ⌝ }
+{
+    if tag == HEADER_TAG {
+        return header_of(value, at, next);
+    }
+    if tag == PORT_TAG {
+        return port_of(value, at, next);
+    }
+    if tag == FLOW_TAG {
+        return flow_of(value, at, next);
+    }
+    Reading::Refused {
+        fault: Fault::UnknownTag,
+        offset: at,
+    }
+}
+
+// The field at this offset, with the offset after it, or the first of tests 2 to 5 that refuses it.
+pub fn read_field(plan: &[u8], at: usize) -> Reading
+    ensures { λ r. ⌜ readingOf r ≡ fieldAt (now (plan .entry)) at ⌝ }
+{
+    match split_head(plan, at) {
+        Head::Whole { tag, size } => {
+            let next = at + HEAD_SIZE + size;
+            let value = field_value(plan, at);
+            field_of(tag, value, at, next)
+        }
+        Head::Cut => Reading::Refused {
+            fault: Fault::Truncated,
+            offset: at,
+        },
+    }
+}

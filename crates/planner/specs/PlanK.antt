@@ -1,0 +1,67 @@
+-- Plan K of document 01 from its 52 bytes, and the rows marked P: one statement over one list.
+use mathlib.Core.Path.{_≡_, refl}
+use mathlib.Core.List.{List, [], _∷_, map}
+use Prim.Native.Nat.{ℕ}
+use lib.IntN.{ℤ, pos, negsuc}
+use Rattle.cqf.specs.Bounded.{sumTo, countTo, anyTo, allTo, lowest, elem, distinct, every, row}
+use Rattle.cqf.specs.Plan.{Plan, noPlan, wellFormed, portSound, flowSound}
+use Rattle.cqf.specs.Condition.{bitsOf, wireBits, blockingBits, ceilDiv, frames, demand, window, capacity, workload, slack, crossed, fails, failing, lowestFailing, admissible}
+use Rattle.cqf.specs.Worked.{planK}
+use Rattle.plan.specs.Bytes.{number2, number4, sizeAt, wholeAt, valueAt, numbers2}
+use Rattle.plan.specs.Field.{routeIn, headerIn, portInValue, flowIn, fieldIn, fieldAt, repeats}
+use Rattle.plan.specs.Draft.{blank, taken, loops, store, added}
+use Rattle.plan.specs.Reading.{stepAt, namesAbsent, absentFrom, closing, readFrom, readPlan, accepted}
+use Rattle.planner.specs.Outcome.{Answer, result, refusal, loadAnswer, loadLeaves, checkAnswer, slackAnswer}
+use Rattle.planner.specs.Calls.{load, afterFrom, after}
+
+pub bytesK : List ℕ
+bytesK =
+    0x01 ∷ 0x00 ∷ 0x08 ∷ 0x00 ∷ 0x00 ∷ 0x03 ∷ 0xe8 ∷ 0x00 ∷ 0x0f ∷ 0x42 ∷ 0x40
+    ∷ 0x02 ∷ 0x00 ∷ 0x08 ∷ 0x00 ∷ 0x01 ∷ 0x00 ∷ 0x00 ∷ 0x00 ∷ 0x64 ∷ 0x00 ∷ 0x00
+    ∷ 0x03 ∷ 0x00 ∷ 0x0c ∷ 0x00 ∷ 0x01 ∷ 0x00 ∷ 0x01 ∷ 0x86 ∷ 0xa0 ∷ 0x00 ∷ 0x01 ∷ 0x00 ∷ 0xe6 ∷ 0x00 ∷ 0x01
+    ∷ 0x03 ∷ 0x00 ∷ 0x0c ∷ 0x00 ∷ 0x02 ∷ 0x00 ∷ 0x01 ∷ 0xad ∷ 0xb0 ∷ 0x00 ∷ 0x01 ∷ 0x02 ∷ 0x5d ∷ 0x00 ∷ 0x01
+    ∷ []
+
+-- what the plain question and the spare of port 1 answer at a duration
+pub record Row : Type 0 where
+  pub duration : ℕ
+  pub checked : Answer (Unit {0})
+  pub spare : Answer ℤ
+
+abbrev at : ℕ → Answer (Unit {0}) → Answer ℤ → Row
+at T checked spare = record { duration = T; checked = checked; spare = spare }
+
+abbrev fails-one : Answer (Unit {0})
+fails-one = refusal 21 (1 ∷ 1 ∷ [])
+
+rows : List Row
+rows =
+    at 71999 fails-one (result (negsuc 99))
+    ∷ at 72000 (result tt) (result (pos 0))
+    ∷ at 100000 (result tt) (result (pos 2800000))
+    ∷ at 110000 (result tt) (result (pos 1800000))
+    ∷ at 110001 fails-one (result (negsuc 3199899))
+    ∷ at 120000 fails-one (result (negsuc 2199999))
+    ∷ at 141999 fails-one (result (negsuc 99))
+    ∷ at 142000 (result tt) (result (pos 0))
+    ∷ at 1000 fails-one (result (negsuc 6999999))
+    ∷ at 0 (refusal 10 (0 ∷ [])) (refusal 10 (0 ∷ []))
+    ∷ at 1000001 (refusal 10 (0 ∷ [])) (refusal 10 (0 ∷ []))
+    ∷ []
+
+-- K is accepted, with one port and two flows, and its tables are planK
+readK : readPlan bytesK ≡ accepted planK 1 2
+unfolding bytesK planK noPlan readPlan readFrom blank stepAt fieldAt fieldIn headerIn portInValue flowIn number2 number4 sizeAt wholeAt valueAt numbers2 routeIn repeats every distinct elem taken loops store added closing absentFrom namesAbsent
+readK = refl
+
+-- every row, of the planner that holds the plan in K's bytes
+rowsOfK
+    : map (λ (r : Row). at (r .duration) (checkAnswer (after (load bytesK ∷ [])) (r .duration)) (slackAnswer (after (load bytesK ∷ [])) 1 (r .duration))) rows
+    ≡ rows
+unfolding bytesK rows after afterFrom loadLeaves noPlan readPlan readFrom blank stepAt fieldAt fieldIn headerIn portInValue flowIn number2 number4 sizeAt wholeAt valueAt numbers2 routeIn repeats every distinct elem taken loops store added closing absentFrom namesAbsent checkAnswer slackAnswer wellFormed portSound flowSound allTo anyTo row admissible failing lowestFailing lowest countTo fails crossed capacity window workload blockingBits demand sumTo frames ceilDiv wireBits bitsOf slack
+rowsOfK = refl
+
+-- a field cut short is 2 at its tag, whatever the tag
+cutShort : loadAnswer (0x04 ∷ 0x00 ∷ 0x01 ∷ []) ≡ refusal 2 (0 ∷ [])
+unfolding loadAnswer readPlan readFrom blank stepAt fieldAt fieldIn headerIn portInValue flowIn number2 number4 sizeAt wholeAt valueAt numbers2 routeIn every
+cutShort = refl

@@ -1,0 +1,106 @@
+-- The search for the margin-safe duration: what the loop over the ports keeps, and what it gives where it is left.
+use mathlib.Core.Path.{_≡_, refl, ap, subst, _∙_}
+use mathlib.Core.Bool.{Bool, true, false, cond}
+use mathlib.Core.List.{List}
+use Prim.Native.Nat.{ℕ, suc, max, _+_, _-_, _≤_, _<_}
+use native.Mathlib.Decide.{ℕ-discrete}
+use native.Mathlib.Omega.{arith}
+use lib.ListN.{getD}
+use lib.Dec.{ltb}
+use borrow.Author.Tests.{ltb-true, lt-ltb}
+use Rattle.cqf.specs.Limits.{portSlots}
+use Rattle.cqf.specs.Plan.{Plan, rateOf, blockingOf}
+use Rattle.cqf.specs.Condition.{demand, fails, marginSafe}
+use Rattle.cqf.specs.laws.Need.{need, needFor}
+use Rattle.cqf.specs.laws.Search.{Descended, need-fails, descent-stop, descent-next}
+use Rattle.planner.specs.Need.{needBy}
+use Rattle.planner.specs.laws.PortNeed.{need-by, need-by-some}
+use Rattle.planner.specs.laws.Scratch.{Filled, filled-bits}
+
+-- no port below q needs more than most, which is from 1 to below, one below the duration reached
+pub record Fitting (p : Plan) (out : List ℕ) (below most q : ℕ) : Type 0 where
+  pub filled : Filled p out below
+  pub descended : Descended p (suc below)
+  pub from : 1 ≤ most
+  pub within : most ≤ below
+  pub slots : q ≤ portSlots
+  pub fits : (k : ℕ) → k < q → 0 < demand p k below → need p k below ≤ most
+
+-- the loop over the ports was left: after the last of them, or at the first that fails
+pub data Left (p : Plan) (below most : ℕ) : Type 0 where
+  none : most ≤ below → 1 ≤ most → ((q : ℕ) → q < portSlots → 0 < demand p q below → need p q below ≤ most) → Left p below most
+  first : (q : ℕ) → q < portSlots → fails p below q ≡ true → below < most → Left p below most
+
+-- one below a duration above 1 that the search has reached
+pub one-below : {p : Plan} (t : ℕ) → Descended p t → (t ≡ 1 → ⊥) → t ≡ suc (t - 1)
+one-below t s ne = omega (arith, s .first)
+
+pub below-top : {p : Plan} (t : ℕ) → Descended p t → t - 1 ≤ p .top
+below-top t s = omega (arith, s .within)
+
+pub fitting-start
+    : {p : Plan} {out : List ℕ} {t : ℕ}
+    → Filled p out (t - 1)
+    → Descended p t
+    → (t ≡ 1 → ⊥)
+    → Fitting p out (t - 1) 1 0
+fitting-start {p} {t = t} f s ne =
+    record {
+      filled = f;
+      descended = subst (Descended p) (one-below t s ne) s;
+      from = omega arith;
+      within = omega (arith, s .first);
+      slots = omega arith;
+      fits = λ k h. absurd (omega arith);
+    }
+
+module _ {p : Plan} {out : List ℕ} {below most q : ℕ} (s : Fitting p out below most q) where
+  pub fitting-all : {last : ℕ} → portSlots ≤ q → last ≡ most → Left p below last
+  fitting-all l e = none (omega (arith, s .within)) (omega (arith, s .from)) (λ k h d. omega (arith, s .fits k (omega (arith, l)) d))
+
+  -- the port at q, with what it needs
+  module _
+      (slot : q < portSlots)
+      (r : ℕ)
+      (e : r ≡ needBy (p .guard) (rateOf p q) (blockingOf p q) (getD out q 0))
+    where
+      tested : r ≡ needBy (p .guard) (rateOf p q) (blockingOf p q) (demand p q below)
+      tested = e ∙ ap (needBy (p .guard) (rateOf p q) (blockingOf p q)) (filled-bits (s .filled) q slot)
+
+      -- a port with a demand needs r, and one that needs some has a demand
+      busy : 0 < demand p q below → r ≡ need p q below
+      busy l = tested ∙ need-by p q (demand p q below) l
+
+      some : 0 < r → 0 < demand p q below
+      some l = need-by-some (p .guard) (rateOf p q) (blockingOf p q) (demand p q below) (rw tested at l)
+
+      pub fitting-next : (next : ℕ) → next ≡ max most r → next ≤ below → Fitting p out below next (q + 1)
+      fitting-next next m l =
+          record {
+            filled = s .filled;
+            descended = s .descended;
+            from = omega (arith, s .from);
+            within = l;
+            slots = omega arith;
+            fits = λ k h d. go k (ℕ-discrete k q) h d;
+          }
+        where
+          go : (k : ℕ) → Dec (k ≡ q) → k < q + 1 → 0 < demand p k below → need p k below ≤ next
+          go k (yes same) h d =
+              let at-q : 0 < demand p q below = rw same at d in
+              rw same (omega (arith, busy at-q))
+          go k (no other) h d = omega (arith, s .fits k (omega arith) d)
+
+      pub fitting-until : (next : ℕ) → next ≡ max most r → below < next → Left p below next
+      fitting-until next m l =
+          let more : below < r = omega (arith, s .within) in
+          let has = some (omega arith) in
+          first q slot (need-fails p (s .filled .formed) below q has (omega (arith, busy has))) l
+
+  pub left-stop : {last : ℕ} → Left p below last → below < last → marginSafe p ≡ suc below
+  left-stop (none h f fits) l = absurd (omega arith)
+  left-stop (first k slot e h) l = descent-stop p (s .filled .formed) below k (omega (arith, s .from, s .within)) (s .descended) slot e
+
+  pub left-down : {last : ℕ} → Left p below last → last ≤ below → Descended p last
+  left-down {last} (none h f fits) l = descent-next p (s .filled .formed) below last (s .descended) f l fits
+  left-down (first k slot e h) l = absurd (omega arith)

@@ -1,0 +1,34 @@
+-- What a port needs, from its numbers and from the plan.
+use mathlib.Core.Path.{_≡_, refl, sym, ap, _∙_}
+use mathlib.Core.Bool.{Bool, true, false, cond, _&&_, false≢true}
+use Prim.Native.Nat.{ℕ, _+_, _*_, _^_, _≤_, _<_, zero-le}
+use native.Mathlib.Omega.{arith}
+use lib.Dec.{eqb, ltb}
+use borrow.Author.Tests.{lt-ltb, ltb-true}
+use Rattle.cqf.specs.Plan.{Plan, rateOf, blockingOf}
+use Rattle.cqf.specs.Condition.{bitsOf}
+use Rattle.cqf.specs.laws.Need.{needFor}
+use Rattle.planner.specs.Failing.{workloadOf, mostDemand}
+use Rattle.planner.specs.Need.{needBy}
+
+-- the work of a demand is far below 2 ^ 64
+pub work-fits : (blocking bits : ℕ) → blocking < 2 ^ 16 → bits ≤ mostDemand → workloadOf blocking bits < 2 ^ 60
+unfolding bitsOf
+work-fits blocking bits l few = go (eqb blocking 0)
+  where
+    go : (x : Bool) → 1000 * (bits + cond x 0 (bitsOf blocking)) < 2 ^ 60
+    go true = omega arith
+    go false = omega arith
+
+-- what a port with a demand needs
+pub need-by : (p : Plan) (q bits : ℕ) → 0 < bits → needBy (p .guard) (rateOf p q) (blockingOf p q) bits ≡ needFor p q bits
+unfolding needFor
+need-by p q bits l = rw (lt-ltb 0 bits l)
+
+-- one without needs nothing
+pub need-by-some : (guard rate blocking bits : ℕ) → 0 < needBy guard rate blocking bits → 0 < bits
+need-by-some guard rate blocking bits l = ltb-true 0 bits (go (ltb 0 bits) _ l)
+  where
+    go : (x : Bool) (n : ℕ) → 0 < cond x n 0 → x ≡ true
+    go true n h = refl
+    go false n h = absurd (omega arith)

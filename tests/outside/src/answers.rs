@@ -1,0 +1,74 @@
+//! The plain data that goes over the C interface, used by the model too.
+
+#[repr(C)]
+#[derive(Clone, Copy, PartialEq, Eq, Debug)]
+pub struct Answer {
+    pub refusal: u32,
+    pub first: u64,
+    pub second: u64,
+}
+
+#[repr(C)]
+#[derive(Clone, Copy, PartialEq, Eq, Debug)]
+pub struct Slacked {
+    pub refusal: u32,
+    pub slack: i64,
+}
+
+#[repr(C)]
+#[derive(Clone, Copy, PartialEq, Eq, Debug)]
+pub struct FieldRead {
+    pub refusal: u32,
+    pub tag: u32,
+    pub offset: u64,
+    pub numbers: [u64; 5],
+}
+
+/// The tables of a planner, laid out as the C header says.
+#[repr(C)]
+#[derive(Clone, PartialEq, Eq)]
+pub struct Planner {
+    pub guard: u32,
+    pub top: u32,
+    pub rates: [u32; 64],
+    pub blockings: [u16; 64],
+    pub periods: [u32; 256],
+    pub counts: [u16; 256],
+    pub lengths: [u16; 256],
+    pub hops: [u8; 256],
+    pub routes: [u8; 4096],
+}
+
+pub const PLANNER_BYTES: usize = 6792;
+const _: () = assert!(std::mem::size_of::<Planner>() == PLANNER_BYTES);
+
+impl Planner {
+    pub fn zero() -> Planner {
+        Planner::from_bytes([0; PLANNER_BYTES])
+    }
+
+    /// Plain integers without padding, so every row of bytes is a planner.
+    pub fn from_bytes(bytes: [u8; PLANNER_BYTES]) -> Planner {
+        unsafe { std::mem::transmute(bytes) }
+    }
+
+    pub fn to_bytes(&self) -> [u8; PLANNER_BYTES] {
+        unsafe { std::mem::transmute(self.clone()) }
+    }
+}
+
+impl Answer {
+    pub fn new(refusal: u32, first: u64, second: u64) -> Answer {
+        Answer { refusal, first, second }
+    }
+
+    pub fn refused(refusal: u32) -> Answer {
+        Answer::new(refusal, 0, 0)
+    }
+}
+
+impl Slacked {
+    pub fn refused(refusal: u32) -> Slacked {
+        Slacked { refusal, slack: 0 }
+    }
+}

@@ -1,0 +1,55 @@
+//! The C interface of the planner. A Rust slice is never null, an empty one neither.
+
+use crate::answers::{Answer, FieldRead, Planner, Slacked};
+
+#[repr(C)]
+struct Loaded {
+    planner: Planner,
+    refusal: u32,
+    first: u64,
+    second: u64,
+}
+
+extern "C" {
+    fn cp_empty() -> Planner;
+    fn cp_load(planner: Planner, plan: *const u8, length: usize) -> Loaded;
+    fn cp_check(planner: Planner, duration: u64) -> Answer;
+    fn cp_slack(planner: Planner, port: u64, duration: u64) -> Slacked;
+    fn cp_least(planner: Planner, scratch: *mut u64, length: usize) -> Answer;
+    fn cp_margin_safe(planner: Planner, scratch: *mut u64, length: usize) -> Answer;
+    fn cp_field(plan: *const u8, length: usize, offset: usize) -> FieldRead;
+    fn cp_repeats(value: *const u8, length: usize) -> u8;
+}
+
+pub fn empty() -> Planner {
+    unsafe { cp_empty() }
+}
+
+pub fn load(planner: &Planner, plan: &[u8]) -> (Planner, Answer) {
+    let loaded = unsafe { cp_load(planner.clone(), plan.as_ptr(), plan.len()) };
+    (loaded.planner, Answer::new(loaded.refusal, loaded.first, loaded.second))
+}
+
+pub fn check(planner: &Planner, duration: u64) -> Answer {
+    unsafe { cp_check(planner.clone(), duration) }
+}
+
+pub fn slack(planner: &Planner, port: u64, duration: u64) -> Slacked {
+    unsafe { cp_slack(planner.clone(), port, duration) }
+}
+
+pub fn least(planner: &Planner, scratch: &mut [u64]) -> Answer {
+    unsafe { cp_least(planner.clone(), scratch.as_mut_ptr(), scratch.len()) }
+}
+
+pub fn margin_safe(planner: &Planner, scratch: &mut [u64]) -> Answer {
+    unsafe { cp_margin_safe(planner.clone(), scratch.as_mut_ptr(), scratch.len()) }
+}
+
+pub fn field(plan: &[u8], offset: usize) -> FieldRead {
+    unsafe { cp_field(plan.as_ptr(), plan.len(), offset) }
+}
+
+pub fn repeats(value: &[u8]) -> u8 {
+    unsafe { cp_repeats(value.as_ptr(), value.len()) }
+}

@@ -1,0 +1,108 @@
+//! Plans by chance, from a seed: good ones of several kinds.
+
+pub mod damage;
+pub mod fit;
+pub mod kinds;
+
+use crate::rng::Rng;
+
+/// A field of a plan, before it becomes bytes.
+#[derive(Clone, Debug, PartialEq)]
+pub enum Piece {
+    Header { guard: u32, top: u32 },
+    Port { number: u16, rate: u32, blocker: u16 },
+    Flow { number: u16, period: u32, count: u16, length: u16, route: Vec<u16> },
+    Raw(Vec<u8>),
+}
+
+impl Piece {
+    pub fn bytes(&self) -> Vec<u8> {
+        let mut bytes = Vec::new();
+        match self {
+            Piece::Header { guard, top } => {
+                bytes.extend([1, 0, 8]);
+                bytes.extend(guard.to_be_bytes());
+                bytes.extend(top.to_be_bytes());
+            }
+            Piece::Port { number, rate, blocker } => {
+                bytes.extend([2, 0, 8]);
+                bytes.extend(number.to_be_bytes());
+                bytes.extend(rate.to_be_bytes());
+                bytes.extend(blocker.to_be_bytes());
+            }
+            Piece::Flow { number, period, count, length, route } => {
+                bytes.push(3);
+                bytes.extend((10 + 2 * route.len() as u16).to_be_bytes());
+                bytes.extend(number.to_be_bytes());
+                bytes.extend(period.to_be_bytes());
+                bytes.extend(count.to_be_bytes());
+                bytes.extend(length.to_be_bytes());
+                bytes.extend(route.iter().flat_map(|port| port.to_be_bytes()));
+            }
+            Piece::Raw(raw) => bytes.extend(raw),
+        }
+        bytes
+    }
+}
+
+pub fn encode(pieces: &[Piece]) -> Vec<u8> {
+    pieces.iter().flat_map(Piece::bytes).collect()
+}
+
+pub fn set_top(pieces: &mut [Piece], new: u64) {
+    for piece in pieces {
+        if let Piece::Header { top, .. } = piece {
+            *top = new as u32;
+        }
+    }
+}
+
+pub fn set_guard(pieces: &mut [Piece], new: u64) {
+    for piece in pieces {
+        if let Piece::Header { guard, .. } = piece {
+            *guard = new as u32;
+        }
+    }
+}
+
+/// How many times a demand rises up to top.
+fn rises(pieces: &[Piece], top: u64) -> u64 {
+    let of_flow = |piece: &Piece| match piece {
+        Piece::Flow { period, .. } => top / u64::from(*period) + 1,
+        _ => 0,
+    };
+    pieces.iter().map(of_flow).sum()
+}
+
+/// Top comes down until the plan can be walked in fair time.
+pub fn bound(pieces: &mut [Piece], limit: u64) {
+    let mut top = pieces.iter().find_map(|piece| match piece {
+        Piece::Header { top, .. } => Some(u64::from(*top)),
+        _ => None,
+    });
+    while let Some(now) = top.filter(|now| *now > 1 && rises(pieces, *now) > limit) {
+        top = Some(now / 2);
+        set_top(pieces, now / 2);
+    }
+}
+
+/// A good plan of any kind, its fields mostly out of order.
+pub fn plan(rng: &mut Rng) -> Vec<Piece> {
+    let mut pieces = match rng.below(16) {
+        0..=4 => kinds::small(rng),
+        5..=8 => kinds::gaps(rng),
+        9..=10 => kinds::tight(rng),
+        11..=12 => kinds::wide(rng),
+        13..=14 => kinds::edges(rng),
+        _ => kinds::full(rng),
+    };
+    let limit = if rng.chance(1, 40) { 400_000 } else { 6_000 };
+    bound(&mut pieces, limit);
+    if rng.chance(3, 5) {
+        fit::fit(rng, &mut pieces);
+    }
+    if rng.chance(3, 4) {
+        rng.shuffle(&mut pieces);
+    }
+    pieces
+}

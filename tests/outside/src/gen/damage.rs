@@ -1,0 +1,186 @@
+//! Damaged plans: every refusal from 1 to 9, alone and several at once.
+
+use super::{encode, Piece};
+use crate::rng::Rng;
+
+fn any_of(rng: &mut Rng, pieces: &[Piece], wanted: fn(&Piece) -> bool) -> Option<usize> {
+    let places: Vec<usize> = (0..pieces.len()).filter(|place| wanted(&pieces[*place])).collect();
+    (!places.is_empty()).then(|| rng.pick(&places))
+}
+
+fn is_flow(piece: &Piece) -> bool {
+    matches!(piece, Piece::Flow { .. })
+}
+
+fn is_port(piece: &Piece) -> bool {
+    matches!(piece, Piece::Port { .. })
+}
+
+fn is_header(piece: &Piece) -> bool {
+    matches!(piece, Piece::Header { .. })
+}
+
+/// One number just past an end of its range, or far past it.
+fn past_an_end(rng: &mut Rng, pieces: &mut [Piece]) {
+    let place = rng.index(pieces.len());
+    match &mut pieces[place] {
+        Piece::Header { guard, top } => match rng.below(2) {
+            0 => *guard = rng.pick(&[1_000_001, 1 << 24, u32::MAX]),
+            _ => *top = rng.pick(&[0, 100_000_001, u32::MAX]),
+        },
+        Piece::Port { number, rate, blocker } => match rng.below(3) {
+            0 => *number = rng.pick(&[0, 65, 256, 257, u16::MAX]),
+            1 => *rate = rng.pick(&[0, 100_001, 1 << 17, u32::MAX]),
+            _ => *blocker = rng.pick(&[1, 63, 2001, u16::MAX]),
+        },
+        Piece::Flow { number, period, count, length, route } => match rng.below(5) {
+            0 => *number = rng.pick(&[0, 257, 512, u16::MAX]),
+            1 => *period = rng.pick(&[0, 999, 100_000_001, u32::MAX]),
+            2 => *count = rng.pick(&[0, 65, 257, u16::MAX]),
+            3 => *length = rng.pick(&[0, 63, 2001, u16::MAX]),
+            _ => {
+                let hop = rng.index(route.len());
+                route[hop] = rng.pick(&[0, 65, 256, 257, 320, u16::MAX]);
+            }
+        },
+        Piece::Raw(_) => {}
+    }
+}
+
+fn again(rng: &mut Rng, pieces: &mut Vec<Piece>) {
+    let mut copy = pieces[rng.index(pieces.len())].clone();
+    match &mut copy {
+        Piece::Header { top, .. } if rng.chance(1, 2) => *top = rng.range(1, 100_000_000) as u32,
+        Piece::Port { rate, .. } if rng.chance(1, 2) => *rate = rng.range(1, 100_000) as u32,
+        Piece::Flow { period, .. } if rng.chance(1, 2) => *period = rng.range(1_000, 100_000_000) as u32,
+        _ => {}
+    }
+    let place = rng.index(pieces.len() + 1);
+    pieces.insert(place, copy);
+}
+
+/// A port twice in a route, next to itself or not.
+fn twice(rng: &mut Rng, pieces: &mut [Piece]) {
+    let Some(place) = any_of(rng, pieces, is_flow) else { return };
+    if let Piece::Flow { route, .. } = &mut pieces[place] {
+        let hop = rng.index(route.len());
+        let port = route[hop];
+        if route.len() < 16 {
+            let at = if rng.chance(1, 2) { hop } else { rng.index(route.len() + 1) };
+            route.insert(at, port);
+        } else {
+            let other = (hop + rng.range(1, 15) as usize) % 16;
+            route[other] = port;
+        }
+    }
+}
+
+fn without(rng: &mut Rng, pieces: &mut Vec<Piece>) {
+    match rng.below(4) {
+        0 => pieces.retain(|piece| !is_header(piece)),
+        1 => pieces.retain(|piece| !is_flow(piece)),
+        2 => pieces.retain(|piece| !is_port(piece)),
+        _ => {
+            if let Some(place) = any_of(rng, pieces, is_port) {
+                pieces.remove(place);
+            }
+        }
+    }
+    if pieces.is_empty() {
+        pieces.push(Piece::Raw(vec![3]));
+    }
+}
+
+/// A route over a port that the plan may lack.
+fn astray(rng: &mut Rng, pieces: &mut [Piece]) {
+    let Some(place) = any_of(rng, pieces, is_flow) else { return };
+    if let Piece::Flow { route, .. } = &mut pieces[place] {
+        let free: Vec<u16> = (1..=64).filter(|port| !route.contains(port)).collect();
+        let hop = rng.index(route.len());
+        route[hop] = rng.pick(&free);
+    }
+}
+
+/// A field of unknown tag, or of a length that its tag does not allow.
+fn odd_field(rng: &mut Rng, pieces: &mut Vec<Piece>) {
+    let known = rng.chance(1, 2);
+    let tag = if known { rng.range(1, 3) as u8 } else { rng.pick(&[0, 4, 5, 16, 0x81, 255]) };
+    let length = rng.pick(&[0, 1, 7, 8, 9, 10, 11, 12, 13, 41, 42, 43, 44, 64, 256, 264, 300]);
+    let mut raw = vec![tag, (length / 256) as u8, (length % 256) as u8];
+    raw.extend((0..length).map(|_| rng.pick(&[0, 0, 1, 4, 200])));
+    let place = rng.index(pieces.len() + 1);
+    pieces.insert(place, Piece::Raw(raw));
+}
+
+/// The length in a field's head changed, its value as it was.
+fn odd_length(rng: &mut Rng, pieces: &mut [Piece]) {
+    let place = rng.index(pieces.len());
+    let mut raw = pieces[place].bytes();
+    if raw.len() > 2 {
+        match rng.below(4) {
+            0 => raw[2] = raw[2].wrapping_add(1),
+            1 => raw[2] = raw[2].wrapping_sub(1),
+            2 => raw[2] = raw[2].wrapping_add(2),
+            _ => raw[1] = rng.pick(&[1, 2, 255]),
+        }
+    }
+    pieces[place] = Piece::Raw(raw);
+}
+
+fn flip(rng: &mut Rng, bytes: &mut [u8]) {
+    let place = rng.index(bytes.len());
+    bytes[place] = match rng.below(3) {
+        0 => bytes[place] ^ (1 << rng.below(8)),
+        1 => rng.next() as u8,
+        _ => rng.pick(&[0, 1, 2, 3, 4, 255]),
+    };
+}
+
+/// A plan with one to three faults, rarely with none.
+pub fn damaged(rng: &mut Rng, good: &[Piece]) -> Vec<u8> {
+    let mut pieces = good.to_vec();
+    for _ in 0..rng.pick(&[1, 1, 1, 2, 2, 3]) {
+        match rng.below(10) {
+            0..=2 => past_an_end(rng, &mut pieces),
+            3 => again(rng, &mut pieces),
+            4 => twice(rng, &mut pieces),
+            5 => without(rng, &mut pieces),
+            6 => astray(rng, &mut pieces),
+            7 => odd_field(rng, &mut pieces),
+            8 => odd_length(rng, &mut pieces),
+            _ => rng.shuffle(&mut pieces),
+        }
+    }
+    let mut bytes = encode(&pieces);
+    match rng.below(6) {
+        0 => flip(rng, &mut bytes),
+        1 => bytes.truncate(rng.index(bytes.len() + 1)),
+        2 if rng.chance(1, 3) => bytes.extend((0..rng.range(1, 40)).map(|_| rng.below(5) as u8)),
+        _ => {}
+    }
+    bytes
+}
+
+/// A plan made to have a given size, up to and past the largest.
+pub fn sized(rng: &mut Rng, good: &[Piece], size: usize) -> Vec<u8> {
+    let mut bytes = encode(good);
+    let filler = good[rng.index(good.len())].bytes();
+    while bytes.len() < size {
+        match rng.below(3) {
+            0 => bytes.extend(&filler),
+            1 => bytes.push(rng.below(6) as u8),
+            _ => bytes.extend([3, 0x40, 0x00]),
+        }
+    }
+    bytes.truncate(size);
+    bytes
+}
+
+/// A last field that fills the plan up to a size, of a tag or length that is refused.
+pub fn topped_up(good: &[Piece], tag: u8, size: usize) -> Vec<u8> {
+    let mut bytes = encode(good);
+    let length = size.saturating_sub(bytes.len() + 3);
+    bytes.extend([tag, (length / 256) as u8, (length % 256) as u8]);
+    bytes.resize(bytes.len() + length, 0);
+    bytes
+}

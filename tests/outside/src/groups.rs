@@ -1,0 +1,102 @@
+//! The named groups of comparisons, and what they share.
+
+pub mod fields;
+pub mod foreign;
+pub mod known;
+pub mod loads;
+pub mod model;
+pub mod order;
+pub mod questions;
+pub mod rows;
+pub mod runs;
+pub mod searches;
+
+use crate::answers::Planner;
+use crate::calls;
+use crate::model::spans::{search, spans, Search, Span};
+use crate::model::{self as judge, Plan};
+use crate::report::Tally;
+use crate::rng::Rng;
+
+pub const LENGTHS: [usize; 5] = [0, 63, 64, 65, 100];
+
+/// Durations worth asking: the ends, the guard bands, points where a demand rises.
+pub fn durations(plan: &Plan, rng: &mut Rng) -> Vec<u64> {
+    let mut asked = vec![0, 1, 2, plan.top - 1, plan.top, plan.top + 1, u64::MAX, u64::MAX - 1];
+    let twice = 2 * plan.guard;
+    asked.extend([twice.saturating_sub(1), twice, twice + 1, plan.guard, 100_000_000, 100_000_001]);
+    asked.extend([1 << 32, (1 << 32) + 1, (1 << 32) + plan.top, 1 << 63, u64::from(u32::MAX)]);
+    let periods: Vec<u64> = plan.flows.values().map(|flow| flow.period).collect();
+    for _ in 0..8 {
+        let period = rng.pick(&periods);
+        let rise = period * rng.range(0, plan.top / period);
+        asked.extend([rise.saturating_sub(1), rise, rise + 1]);
+        asked.push(rng.range(1, plan.top));
+    }
+    asked
+}
+
+/// The ends of some spans and their neighbours.
+pub fn span_ends(spans: &[Span], rng: &mut Rng) -> Vec<u64> {
+    let mut asked = Vec::new();
+    for _ in 0..spans.len().min(4) {
+        let (from, to) = rng.pick(spans);
+        asked.extend([from - 1, from, to, to + 1]);
+    }
+    asked
+}
+
+/// A few ports: the ends, present ones, ones that look alike in fewer bits.
+pub fn some_ports(plan: &Plan, rng: &mut Rng) -> Vec<u64> {
+    let present: Vec<u64> = plan.ports.keys().copied().collect();
+    let one = rng.pick(&present);
+    vec![0, 1, 64, 65, u64::MAX, one, rng.pick(&present), rng.range(1, 64), one + 256, one + (1 << 16), one + (1 << 32)]
+}
+
+pub fn ask_check(tally: &mut Tally, planner: &Planner, plan: Option<&Plan>, duration: u64) {
+    let want = judge::check(plan, duration);
+    tally.saw("check", want.refusal);
+    tally.same(format_args!("cp_check({duration})"), calls::check(planner, duration), want);
+}
+
+pub fn ask_slack(tally: &mut Tally, planner: &Planner, plan: Option<&Plan>, port: u64, duration: u64) {
+    let want = judge::slack(plan, port, duration);
+    tally.saw("slack", want.refusal);
+    tally.same(format_args!("cp_slack({port}, {duration})"), calls::slack(planner, port, duration), want);
+}
+
+/// Both searches with a patterned scratch of one length.
+pub fn ask_searches(tally: &mut Tally, planner: &Planner, held: Option<(&Plan, &[Span])>, length: usize, rng: &mut Rng) {
+    let pattern: Vec<u64> = (0..length).map(|_| rng.next()).collect();
+    let mut scratch = pattern.clone();
+    let (answer, after) = search(held, Search::Least, &pattern);
+    tally.saw("least", answer.refusal);
+    tally.same(format_args!("cp_least(scratch of {length})"), calls::least(planner, &mut scratch), answer);
+    tally.same(format_args!("scratch after cp_least({length})"), &scratch, &after);
+    let mut scratch = pattern.clone();
+    let (answer, after) = search(held, Search::MarginSafe, &pattern);
+    tally.saw("margin_safe", answer.refusal);
+    tally.same(format_args!("cp_margin_safe(scratch of {length})"), calls::margin_safe(planner, &mut scratch), answer);
+    tally.same(format_args!("scratch after cp_margin_safe({length})"), &scratch, &after);
+}
+
+/// Every kind of question, some of each.
+pub fn ask_all(tally: &mut Tally, planner: &Planner, plan: Option<&Plan>, rng: &mut Rng) {
+    let found = plan.map(spans);
+    let mut asked = vec![0, 1, 1_000, 100_000_000, u64::MAX];
+    let mut ports = vec![0, 1, 2, 64, 65, u64::MAX];
+    if let Some(plan) = plan {
+        asked.extend(durations(plan, rng));
+        asked.extend(span_ends(found.as_deref().unwrap_or(&[]), rng));
+        ports.extend(some_ports(plan, rng));
+    }
+    for _ in 0..10 {
+        let (port, duration) = (rng.pick(&ports), rng.pick(&asked));
+        ask_check(tally, planner, plan, duration);
+        ask_slack(tally, planner, plan, port, duration);
+    }
+    let length = rng.pick(&LENGTHS);
+    for length in [length, 64] {
+        ask_searches(tally, planner, plan.zip(found.as_deref()), length, rng);
+    }
+}

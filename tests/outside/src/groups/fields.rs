@@ -1,0 +1,104 @@
+//! cp_field at many offsets of good and damaged plans, and cp_repeats.
+
+use crate::calls;
+use crate::gen::{self, damage::damaged, encode};
+use crate::model::read::{field_read, value_repeats};
+use crate::report::Tally;
+use crate::rng::Rng;
+
+fn ask(tally: &mut Tally, plan: &[u8], offset: usize) {
+    let want = field_read(plan, offset);
+    tally.saw("field", want.refusal);
+    tally.same(format_args!("cp_field(offset {offset})"), calls::field(plan, offset), want);
+}
+
+/// Every field start, every offset of short plans, and offsets past the end.
+fn offsets(plan: &[u8], rng: &mut Rng) -> Vec<usize> {
+    let end = plan.len();
+    let mut asked = vec![0, end, end + 1, end + 2, end + 3, end + 65_536, 1 << 32];
+    asked.extend([usize::MAX, usize::MAX - 1, usize::MAX - 2, usize::MAX - 3, usize::MAX / 2, usize::MAX / 2 + 1]);
+    asked.extend((1..=4).map(|back| end.saturating_sub(back)));
+    if end <= 200 {
+        asked.extend(0..end);
+    }
+    let mut start = 0;
+    while start < end {
+        asked.push(start);
+        let read = field_read(plan, start);
+        if read.refusal != 0 {
+            break;
+        }
+        start = read.offset as usize;
+    }
+    asked.extend((0..10).map(|_| rng.index(end + 4)));
+    asked
+}
+
+/// Values of flow fields with routes of any numbers. A route has whole numbers of 2 bytes and at most 16 of them.
+fn routes(tally: &mut Tally, rng: &mut Rng) {
+    let hops = rng.range(0, 16) as usize;
+    let mut value: Vec<u8> = (0..10).map(|_| rng.next() as u8).collect();
+    let ports = rng.numbers(16, 64);
+    let mut route: Vec<u16> = ports[..hops].to_vec();
+    if hops > 1 {
+        let (one, other) = (rng.index(hops), rng.index(hops));
+        match rng.below(4) {
+            0 => route[one] = route[other],
+            1 => route[hops - 1] = route[0],
+            2 => route[one] = route[(one + 1) % hops],
+            _ => {}
+        }
+    }
+    value.extend(route.iter().flat_map(|port| port.to_be_bytes()));
+    tally.case(0, &value);
+    let want = u8::from(value_repeats(&value));
+    tally.saw("repeats", u32::from(want));
+    tally.same(format_args!("cp_repeats"), calls::repeats(&value), want);
+}
+
+/// Any other row of bytes: no flow field has it as value, so only 0 or 1 is asked for.
+fn any_value(tally: &mut Tally, rng: &mut Rng) {
+    let length = rng.pick(&[0, 1, 2, 9, 10, 11, 13, 43, 44, 45, 300, 70_000]);
+    let value: Vec<u8> = (0..length).map(|_| rng.below(3) as u8).collect();
+    tally.case(0, &value);
+    tally.same(format_args!("cp_repeats of any row is 0 or 1"), calls::repeats(&value) <= 1, true);
+    if length < 12 {
+        tally.same(format_args!("cp_repeats of a row without ports"), calls::repeats(&value), 0);
+    }
+}
+
+fn long_rows(tally: &mut Tally) {
+    let mut rng = tally.rng(u64::MAX);
+    for length in [0, 1, 2, 3, 16_384, 16_385, 70_000] {
+        for tag in 0..5 {
+            let mut plan = vec![0; length];
+            if length > 2 {
+                plan[..3].copy_from_slice(&[tag, 0xFF, 0xFF]);
+            }
+            tally.case(0, &plan[..length.min(16)]);
+            for offset in offsets(&plan, &mut rng) {
+                ask(tally, &plan, offset);
+            }
+        }
+    }
+}
+
+pub fn run(tally: &mut Tally) {
+    long_rows(tally);
+    for case in 0..tally.cases {
+        let mut rng = tally.rng(case);
+        let good = gen::plan(&mut rng);
+        for plan in [encode(&good), damaged(&mut rng, &good)] {
+            tally.case(case, &plan);
+            for offset in offsets(&plan, &mut rng) {
+                ask(tally, &plan, offset);
+            }
+        }
+        for _ in 0..20 {
+            routes(tally, &mut rng);
+        }
+        any_value(tally, &mut rng);
+    }
+    tally.must_have_seen("field", &[0, 2, 3, 4, 5]);
+    tally.must_have_seen("repeats", &[0, 1]);
+}

@@ -1,0 +1,131 @@
+//! Planners that no call made: 20 to every question, unless a load could have left the same tables.
+
+use super::{ask_all, loads::one_load};
+use crate::answers::{Planner, PLANNER_BYTES};
+use crate::calls;
+use crate::gen::{self, damage, encode};
+use crate::model::spans::effort;
+use crate::model::tables::plan_of;
+use crate::report::Tally;
+use crate::rng::Rng;
+
+fn random_bytes(rng: &mut Rng) -> Planner {
+    let mut bytes = [0; PLANNER_BYTES];
+    let mask = rng.pick(&[0xFF, 0x7F, 0x0F, 0x01]);
+    for byte in &mut bytes {
+        *byte = rng.next() as u8 & mask;
+    }
+    Planner::from_bytes(bytes)
+}
+
+/// Slots in use, so that damage mostly hits something.
+fn slot(rng: &mut Rng, used: &[usize], all: usize) -> usize {
+    if used.is_empty() || rng.chance(1, 3) {
+        return rng.index(all);
+    }
+    rng.pick(used)
+}
+
+fn damage_port(rng: &mut Rng, tables: &mut Planner) {
+    let used: Vec<usize> = (0..64).filter(|slot| tables.rates[*slot] != 0).collect();
+    let slot = slot(rng, &used, 64);
+    match rng.below(2) {
+        0 => tables.rates[slot] = rng.pick(&[0, 1, 2, 99_999, 100_000, 100_001, 1 << 31, u32::MAX]),
+        _ => tables.blockings[slot] = rng.pick(&[0, 1, 63, 64, 65, 1999, 2000, 2001, u16::MAX]),
+    }
+}
+
+fn damage_flow(rng: &mut Rng, tables: &mut Planner) {
+    let used: Vec<usize> = (0..256).filter(|slot| tables.hops[*slot] != 0).collect();
+    let slot = slot(rng, &used, 256);
+    let hops = usize::from(tables.hops[slot]).clamp(1, 16);
+    let route = slot * 16;
+    match rng.below(8) {
+        0 => tables.periods[slot] = rng.pick(&[0, 1, 999, 1_000, 99_999_999, 100_000_000, 100_000_001, u32::MAX]),
+        1 => tables.counts[slot] = rng.pick(&[0, 1, 2, 63, 64, 65, 256, u16::MAX]),
+        2 => tables.lengths[slot] = rng.pick(&[0, 1, 63, 64, 65, 1999, 2000, 2001, u16::MAX]),
+        3 => tables.hops[slot] = rng.pick(&[0, 1, 2, 15, 16, 17, 128, 255]),
+        4 => tables.routes[route + rng.index(hops)] = rng.pick(&[0, 1, 63, 64, 65, 128, 255]),
+        5 => tables.routes[route + rng.index(hops)] = tables.routes[route + rng.index(hops)],
+        6 => tables.routes[route + rng.index(hops)] = rng.range(1, 64) as u8,
+        _ => tables.routes[route + rng.index(16)] = rng.next() as u8,
+    }
+}
+
+/// A slot emptied: wholly, or all but one of its numbers.
+fn empty_flow(rng: &mut Rng, tables: &mut Planner) {
+    let used: Vec<usize> = (0..256).filter(|slot| tables.hops[*slot] != 0).collect();
+    let slot = slot(rng, &used, 256);
+    let keep = rng.below(7);
+    tables.periods[slot] *= u32::from(keep == 0);
+    tables.counts[slot] *= u16::from(keep == 1);
+    tables.lengths[slot] *= u16::from(keep == 2);
+    tables.hops[slot] *= u8::from(keep == 3);
+}
+
+/// Bytes that no question may look at.
+fn stir_unused(rng: &mut Rng, tables: &mut Planner) {
+    for slot in 0..256 {
+        for hop in usize::from(tables.hops[slot]).min(16)..16 {
+            tables.routes[slot * 16 + hop] = rng.next() as u8;
+        }
+    }
+}
+
+fn damage_one(rng: &mut Rng, tables: &mut Planner) {
+    match rng.below(16) {
+        0 => tables.guard = rng.pick(&[0, 1, 999_999, 1_000_000, 1_000_001, 1 << 31, u32::MAX]),
+        1 => tables.top = rng.pick(&[0, 1, 2, 50_000, 99_999_999, 100_000_000, 100_000_001, u32::MAX]),
+        2..=4 => damage_port(rng, tables),
+        5..=11 => damage_flow(rng, tables),
+        12 => empty_flow(rng, tables),
+        13 => {
+            let mut bytes = tables.to_bytes();
+            bytes[rng.index(PLANNER_BYTES)] ^= 1 << rng.below(8);
+            *tables = Planner::from_bytes(bytes);
+        }
+        _ => stir_unused(rng, tables),
+    }
+}
+
+/// Every question, and loads on top of such a planner.
+fn ask(tally: &mut Tally, case: u64, tables: &Planner, rng: &mut Rng) {
+    tally.case(case, &tables.to_bytes());
+    let told = plan_of(tables);
+    tally.saw("tables", u32::from(told.is_none()) * 20);
+    if told.as_ref().is_none_or(|plan| effort(plan) < 40_000) {
+        ask_all(tally, tables, told.as_ref(), rng);
+    }
+    if rng.chance(1, 4) {
+        let good = gen::plan(rng);
+        let bytes = if rng.chance(1, 2) { encode(&good) } else { damage::damaged(rng, &good) };
+        let after = one_load(tally, tables, &bytes);
+        let held = plan_of(&after);
+        if held.as_ref().is_none_or(|plan| effort(plan) < 40_000) {
+            ask_all(tally, &after, held.as_ref(), rng);
+        }
+    }
+}
+
+pub fn run(tally: &mut Tally) {
+    let mut rng = tally.rng(u64::MAX);
+    tally.case(0, &calls::empty().to_bytes());
+    tally.same(format_args!("the empty planner tells no plan"), plan_of(&calls::empty()).is_none(), true);
+    ask(tally, 0, &Planner::zero(), &mut rng);
+    ask(tally, 0, &Planner::from_bytes([255; PLANNER_BYTES]), &mut rng);
+    for case in 0..tally.cases {
+        let mut rng = tally.rng(case);
+        if rng.chance(1, 10) {
+            let tables = random_bytes(&mut rng);
+            ask(tally, case, &tables, &mut rng);
+            continue;
+        }
+        let bytes = encode(&gen::plan(&mut rng));
+        let mut tables = calls::load(&calls::empty(), &bytes).0;
+        for _ in 0..rng.range(1, 3) {
+            damage_one(&mut rng, &mut tables);
+            ask(tally, case, &tables, &mut rng);
+        }
+    }
+    tally.must_have_seen("tables", &[0, 20]);
+}

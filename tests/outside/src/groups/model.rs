@@ -1,0 +1,54 @@
+//! The model against itself: K's rows, spans against a scan, tables against bytes.
+
+use super::known;
+use crate::answers::Answer;
+use crate::gen::{self, encode};
+use crate::model::read::read;
+use crate::model::spans::{scanned, search, spans, Search};
+use crate::model::{check, slack, Plan};
+use crate::report::Tally;
+
+fn finds(tally: &mut Tally, plan: &Plan, least: u64, safe: u64) {
+    let found = spans(plan);
+    let held = Some((plan, &found[..]));
+    let scratch = [0; 64];
+    tally.same(format_args!("model: least"), search(held, Search::Least, &scratch).0, Answer::new(0, least, 0));
+    tally.same(format_args!("model: safe"), search(held, Search::MarginSafe, &scratch).0, Answer::new(0, safe, 0));
+}
+
+fn known_plans(tally: &mut Tally) {
+    tally.case(0, &known::K);
+    let plan = read(&known::K).expect("K is a plan");
+    known::rows(tally, |duration| check(Some(&plan), duration), |duration| slack(Some(&plan), 1, duration));
+    finds(tally, &plan, 72_000, 142_000);
+    finds(tally, &read(&known::with_blocker()).expect("a plan"), 422_000, 472_000);
+    finds(tally, &read(&known::with_port_2()).expect("a plan"), 72_000, 142_000);
+    tally.same(format_args!("model: K by a scan"), scanned(&plan), spans(&plan));
+    tally.same(format_args!("model: 04 0001"), read(&[4, 0, 1]).err(), Some((2, 0)));
+}
+
+pub fn run(tally: &mut Tally) {
+    known_plans(tally);
+    let mut gaps = 0;
+    for case in 0..tally.cases {
+        let mut rng = tally.rng(case);
+        let mut pieces = gen::plan(&mut rng);
+        let top = rng.spread(1, 60_000);
+        gen::set_top(&mut pieces, top);
+        if rng.chance(1, 2) {
+            let guard = rng.range(0, top / 8);
+            gen::set_guard(&mut pieces, guard);
+        }
+        let bytes = encode(&pieces);
+        tally.case(case, &bytes);
+        let plan = read(&bytes).expect("a good plan");
+        if plan.flows.len() * plan.top as usize > 400_000 {
+            continue;
+        }
+        let found = spans(&plan);
+        gaps += usize::from(found.len() > 1);
+        tally.same(format_args!("spans by breakpoints, and by a scan"), found, scanned(&plan));
+    }
+    tally.case(0, &[]);
+    tally.same(format_args!("some plans have gaps"), gaps > 0 || tally.cases < 50, true);
+}

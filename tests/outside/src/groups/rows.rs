@@ -1,0 +1,41 @@
+//! Rows of loads, good and bad, on one planner, with questions between them.
+
+use super::{ask_all, loads::one_load};
+use crate::calls;
+use crate::gen::{self, damage, encode};
+use crate::model::read::read;
+use crate::model::Plan;
+use crate::report::Tally;
+
+pub fn run(tally: &mut Tally) {
+    for case in 0..tally.cases {
+        let mut rng = tally.rng(case);
+        let mut planner = calls::empty();
+        let mut held: Option<Plan> = None;
+        tally.case(case, &[]);
+        ask_all(tally, &planner, None, &mut rng);
+        let good = gen::plan(&mut rng);
+        for _ in 0..rng.range(2, 8) {
+            let other = gen::plan(&mut rng);
+            let bytes = match rng.below(8) {
+                0..=2 => encode(&other),
+                3 => damage::damaged(&mut rng, &good),
+                4 => damage::sized(&mut rng, &good, 16_385),
+                5 => Vec::new(),
+                _ => damage::damaged(&mut rng, &other),
+            };
+            tally.case(case, &bytes);
+            planner = one_load(tally, &planner, &bytes);
+            if let Ok(plan) = read(&bytes) {
+                held = Some(plan);
+            }
+            let before = planner.to_bytes();
+            ask_all(tally, &planner, held.as_ref(), &mut rng);
+            tally.same(format_args!("questions leave the planner alone"), planner.to_bytes() == before, true);
+        }
+    }
+    tally.must_have_seen("check", &[0, 10, 20, 21]);
+    tally.must_have_seen("slack", &[0, 10, 20, 24]);
+    tally.must_have_seen("least", &[0, 11, 20, 22]);
+    tally.must_have_seen("margin_safe", &[0, 11, 20, 23]);
+}

@@ -1,0 +1,100 @@
+//! Runs of frames: each 21 has a bad emission, and no emission is bad where a duration is accepted.
+
+use super::{durations, span_ends};
+use crate::answers::Planner;
+use crate::calls;
+use crate::gen::{self, encode, fit::fit, kinds};
+use crate::model::read::read;
+use crate::model::spans::spans;
+use crate::model::Plan;
+use crate::report::Tally;
+use crate::rng::Rng;
+use crate::simulate::{gathered_at, keeps_contract, random, Emission, Outcome, Run};
+
+const FRAMES: u64 = 60_000;
+
+/// Frames that a gathered emission has at most.
+fn weight(plan: &Plan, duration: u64) -> u64 {
+    plan.flows.values().map(|flow| flow.count * (duration / flow.period + 1)).sum()
+}
+
+fn left_unsent(tally: &mut Tally, plan: &Plan, duration: u64, emission: &Emission) -> bool {
+    tally.same(format_args!("the emission keeps the contract"), keeps_contract(plan, emission), true);
+    matches!(Run::new(plan, duration, emission).follow(), Outcome::Unsent { .. })
+}
+
+/// Each failing port has an emission that leaves a frame unsent.
+fn refused(tally: &mut Tally, plan: &Plan, planner: &Planner, duration: u64, lowest: u64, failing: u64) {
+    let mut bad = Vec::new();
+    for port in 1..=64 {
+        let spare = calls::slack(planner, port, duration);
+        if spare.refusal == 0 && spare.slack < 0 {
+            bad.push(port);
+            let emission = gathered_at(plan, port, duration);
+            let unsent = left_unsent(tally, plan, duration, &emission);
+            tally.same(format_args!("21 at {duration}: port {port} leaves a frame unsent"), unsent, true);
+        }
+    }
+    let told = (bad.first().copied(), bad.len() as u64);
+    tally.same(format_args!("21 at {duration}: failing ports"), (Some(lowest), failing), told);
+}
+
+fn all_leave(tally: &mut Tally, plan: &Plan, duration: u64, emission: &Emission) {
+    tally.same(format_args!("the emission keeps the contract"), keeps_contract(plan, emission), true);
+    match Run::new(plan, duration, emission).follow() {
+        Outcome::Unsent { cycle, port } => {
+            let call = format_args!("accepted at {duration}: frame unsent at port {port} in cycle {cycle} of {emission:?}");
+            tally.same(call, false, true);
+        }
+        Outcome::AllSent(left) => {
+            let frames: usize = emission.values().map(Vec::len).sum();
+            tally.same(format_args!("accepted at {duration}: frames that left"), left.len(), frames);
+            let hops = |flow: u64| plan.flows[&flow].route.len() as u64;
+            let timely = left.iter().all(|(flow, own, last)| *last == own + hops(*flow));
+            tally.same(format_args!("accepted at {duration}: each left in the cycle due"), timely, true);
+        }
+    }
+}
+
+fn accepted(tally: &mut Tally, plan: &Plan, duration: u64, rng: &mut Rng) {
+    for port in plan.ports.keys() {
+        all_leave(tally, plan, duration, &gathered_at(plan, *port, duration));
+    }
+    for _ in 0..4 {
+        let frames = rng.pick(&[3, 20, 200]);
+        all_leave(tally, plan, duration, &random(plan, duration, frames, rng));
+    }
+}
+
+pub fn run(tally: &mut Tally) {
+    for case in 0..tally.cases {
+        let mut rng = tally.rng(case);
+        let mut pieces = match rng.below(4) {
+            0 => kinds::gaps(&mut rng),
+            1 => kinds::tight(&mut rng),
+            _ => kinds::small(&mut rng),
+        };
+        gen::bound(&mut pieces, 3_000);
+        if rng.chance(2, 3) {
+            fit(&mut rng, &mut pieces);
+        }
+        let bytes = encode(&pieces);
+        tally.case(case, &bytes);
+        let plan = read(&bytes).expect("a good plan");
+        let planner = calls::load(&calls::empty(), &bytes).0;
+        let mut asked = span_ends(&spans(&plan), &mut rng);
+        asked.extend(durations(&plan, &mut rng));
+        rng.shuffle(&mut asked);
+        asked.retain(|duration| *duration <= plan.top && weight(&plan, *duration) < FRAMES);
+        for duration in asked.into_iter().take(12) {
+            let answer = calls::check(&planner, duration);
+            tally.saw("check", answer.refusal);
+            match answer.refusal {
+                0 => accepted(tally, &plan, duration, &mut rng),
+                21 => refused(tally, &plan, &planner, duration, answer.first, answer.second),
+                other => tally.same(format_args!("cp_check({duration})"), (other, duration), (10, 0)),
+            }
+        }
+    }
+    tally.must_have_seen("check", &[0, 21]);
+}

@@ -1,0 +1,79 @@
+//! The two searches, with scratches of several lengths and tops in and around gaps.
+
+use super::{ask_searches, LENGTHS};
+use crate::calls;
+use crate::gen::{self, encode, Piece};
+use crate::model::read::read;
+use crate::model::spans::{spans, Span};
+use crate::report::Tally;
+use crate::rng::Rng;
+
+fn ask_lengths(tally: &mut Tally, case: u64, pieces: &[Piece], rng: &mut Rng) -> Vec<Span> {
+    let bytes = encode(pieces);
+    tally.case(case, &bytes);
+    let plan = read(&bytes).expect("a good plan");
+    let found = spans(&plan);
+    let planner = calls::load(&calls::empty(), &bytes).0;
+    for length in LENGTHS {
+        ask_searches(tally, &planner, Some((&plan, &found)), length, rng);
+    }
+    found
+}
+
+/// Tops at the ends of a span, next to them, and inside the gap after it.
+fn tops(spans: &[Span], rng: &mut Rng) -> Vec<u64> {
+    if spans.len() < 2 {
+        return spans.iter().flat_map(|span| [span.0, span.0 - 1, span.0 + 1]).filter(|top| *top > 0).collect();
+    }
+    let place = rng.index(spans.len() - 1);
+    let (span, next) = (spans[place], spans[place + 1]);
+    let inside = rng.range(span.1 + 1, next.0 - 1);
+    let mut tops = vec![span.0, span.1, span.1 + 1, inside, next.0 - 1, next.0, next.1];
+    if span.0 > 1 {
+        tops.push(span.0 - 1);
+    }
+    tops
+}
+
+/// One more port, crossed by one more flow whose demand rises just at a duration: no other port is touched.
+fn with_side_port(pieces: &[Piece], duration: u64, rng: &mut Rng) -> Option<Vec<Piece>> {
+    let period = u32::try_from(duration - 1).ok().filter(|period| *period >= 1_000)?;
+    let taken = |wanted: u16, port: bool| {
+        pieces.iter().any(|piece| match piece {
+            Piece::Port { number, .. } => port && *number == wanted,
+            Piece::Flow { number, .. } => !port && *number == wanted,
+            _ => false,
+        })
+    };
+    let number = rng.numbers(64, 64).into_iter().find(|number| !taken(*number, true))?;
+    let flow = rng.numbers(256, 256).into_iter().find(|number| !taken(*number, false))?;
+    let mut more = pieces.to_vec();
+    more.push(Piece::Port { number, rate: 100_000, blocker: 0 });
+    more.push(Piece::Flow { number: flow, period, count: 1, length: 64, route: vec![number] });
+    Some(more)
+}
+
+pub fn run(tally: &mut Tally) {
+    for length in LENGTHS {
+        let mut rng = tally.rng(length as u64);
+        ask_searches(tally, &calls::empty(), None, length, &mut rng);
+    }
+    for case in 0..tally.cases {
+        let mut rng = tally.rng(case);
+        let mut pieces = gen::plan(&mut rng);
+        let found = ask_lengths(tally, case, &pieces, &mut rng);
+        tally.saw("spans, 2 for more", found.len().min(2) as u32);
+        for duration in found.first().into_iter().chain(found.last()).map(|span| span.0) {
+            if let Some(more) = with_side_port(&pieces, duration, &mut rng) {
+                ask_lengths(tally, case, &more, &mut rng);
+            }
+        }
+        for top in tops(&found, &mut rng).into_iter().chain([1, 2]) {
+            gen::set_top(&mut pieces, top);
+            ask_lengths(tally, case, &pieces, &mut rng);
+        }
+    }
+    tally.must_have_seen("spans, 2 for more", &[0, 1, 2]);
+    tally.must_have_seen("least", &[0, 11, 20, 22]);
+    tally.must_have_seen("margin_safe", &[0, 11, 20, 23]);
+}

@@ -1,0 +1,125 @@
+//! Document 01 once more: plans as maps, the condition, the plain question and the spare.
+
+pub mod read;
+pub mod spans;
+pub mod tables;
+
+use crate::answers::{Answer, Slacked};
+use std::collections::BTreeMap;
+
+#[derive(Clone, Debug, PartialEq, Eq)]
+pub struct Port {
+    pub rate: u64,
+    pub blocker: u64,
+}
+
+#[derive(Clone, Debug, PartialEq, Eq, PartialOrd, Ord)]
+pub struct Flow {
+    pub period: u64,
+    pub count: u64,
+    pub length: u64,
+    pub route: Vec<u64>,
+}
+
+#[derive(Clone, Debug, PartialEq, Eq)]
+pub struct Plan {
+    pub guard: u64,
+    pub top: u64,
+    pub ports: BTreeMap<u64, Port>,
+    pub flows: BTreeMap<u64, Flow>,
+}
+
+pub fn wire_bits(length: u64) -> u64 {
+    (length + 8 + 12) * 8
+}
+
+pub fn blocker_bits(blocker: u64) -> u64 {
+    match blocker {
+        0 => 0,
+        length => wire_bits(length),
+    }
+}
+
+impl Flow {
+    pub fn burst_bits(&self) -> u64 {
+        self.count * wire_bits(self.length)
+    }
+
+    /// Wire bits that this flow brings to each of its ports at a duration.
+    pub fn bits_at(&self, duration: u64) -> u64 {
+        let mut rounds = duration / self.period;
+        if duration % self.period != 0 {
+            rounds += 1;
+        }
+        rounds * self.burst_bits()
+    }
+}
+
+impl Plan {
+    pub fn crossed(&self, port: u64) -> bool {
+        self.flows.values().any(|flow| flow.route.contains(&port))
+    }
+
+    pub fn window(&self, duration: u64) -> u64 {
+        duration.saturating_sub(2 * self.guard)
+    }
+
+    /// Demand of every port that a flow crosses.
+    pub fn demands(&self, duration: u64) -> BTreeMap<u64, u64> {
+        let mut demands = BTreeMap::new();
+        for flow in self.flows.values() {
+            let bits = flow.bits_at(duration);
+            for port in &flow.route {
+                *demands.entry(*port).or_insert(0) += bits;
+            }
+        }
+        demands
+    }
+
+    fn spare(&self, port: u64, demand: u64, duration: u64) -> i128 {
+        let Port { rate, blocker } = self.ports[&port];
+        let offered = i128::from(rate) * i128::from(self.window(duration));
+        offered - 1000 * (i128::from(demand) + i128::from(blocker_bits(blocker)))
+    }
+
+    /// Failing ports at a duration, rising.
+    pub fn failing(&self, duration: u64) -> Vec<u64> {
+        let demands = self.demands(duration);
+        let fails = |(port, demand): (u64, u64)| (self.spare(port, demand, duration) < 0).then_some(port);
+        demands.into_iter().filter_map(fails).collect()
+    }
+
+    pub fn refuse_failing(&self, refusal: u32, duration: u64) -> Answer {
+        let failing = self.failing(duration);
+        Answer::new(refusal, failing[0], failing.len() as u64)
+    }
+
+    pub fn in_reach(&self, duration: u64) -> bool {
+        (1..=self.top).contains(&duration)
+    }
+}
+
+/// The plain question.
+pub fn check(held: Option<&Plan>, duration: u64) -> Answer {
+    let Some(plan) = held else { return Answer::refused(20) };
+    if !plan.in_reach(duration) {
+        return Answer::refused(10);
+    }
+    if plan.failing(duration).is_empty() {
+        return Answer::new(0, 0, 0);
+    }
+    plan.refuse_failing(21, duration)
+}
+
+/// The spare of a port.
+pub fn slack(held: Option<&Plan>, port: u64, duration: u64) -> Slacked {
+    let Some(plan) = held else { return Slacked::refused(20) };
+    if !plan.in_reach(duration) {
+        return Slacked::refused(10);
+    }
+    if !plan.crossed(port) {
+        return Slacked::refused(24);
+    }
+    let spare = plan.spare(port, plan.demands(duration)[&port], duration);
+    Slacked { refusal: 0, slack: i64::try_from(spare).expect("a spare fits 64 bits") }
+}

@@ -1,0 +1,171 @@
+//! Reading a plan's bytes, with refusals 1 to 9.
+
+use super::{Flow, Plan, Port};
+use crate::answers::{Answer, FieldRead};
+use std::collections::{BTreeMap, BTreeSet};
+
+#[derive(Clone, Debug)]
+pub enum Field {
+    Header { guard: u64, top: u64 },
+    Port { number: u64, port: Port },
+    Flow { number: u64, flow: Flow },
+}
+
+fn number(bytes: &[u8]) -> u64 {
+    bytes.iter().fold(0, |sum, byte| sum * 256 + u64::from(*byte))
+}
+
+fn length_allowed(tag: u8, length: usize) -> bool {
+    match tag {
+        1 | 2 => length == 8,
+        _ => (1..=16).any(|hops| length == 10 + 2 * hops),
+    }
+}
+
+fn blocker_allowed(blocker: u64) -> bool {
+    blocker == 0 || (64..=2000).contains(&blocker)
+}
+
+/// The numbers of a value, or none where one is out of range (test 5).
+fn numbers_of(tag: u8, value: &[u8]) -> Option<Field> {
+    let (field, fits) = match tag {
+        1 => {
+            let (guard, top) = (number(&value[..4]), number(&value[4..]));
+            (Field::Header { guard, top }, guard <= 1_000_000 && (1..=100_000_000).contains(&top))
+        }
+        2 => {
+            let (own, rate, blocker) = (number(&value[..2]), number(&value[2..6]), number(&value[6..]));
+            let fits = (1..=64).contains(&own) && (1..=100_000).contains(&rate) && blocker_allowed(blocker);
+            (Field::Port { number: own, port: Port { rate, blocker } }, fits)
+        }
+        _ => {
+            let own = number(&value[..2]);
+            let flow = Flow {
+                period: number(&value[2..6]),
+                count: number(&value[6..8]),
+                length: number(&value[8..10]),
+                route: value[10..].chunks(2).map(number).collect(),
+            };
+            let fits = (1..=256).contains(&own) && flow_fits(&flow);
+            (Field::Flow { number: own, flow }, fits)
+        }
+    };
+    fits.then_some(field)
+}
+
+fn flow_fits(flow: &Flow) -> bool {
+    (1_000..=100_000_000).contains(&flow.period)
+        && (1..=64).contains(&flow.count)
+        && (64..=2000).contains(&flow.length)
+        && flow.route.iter().all(|port| (1..=64).contains(port))
+}
+
+/// The field at an offset and the offset after it, by tests 2 to 5.
+pub fn field_at(plan: &[u8], offset: usize) -> Result<(Field, usize), u32> {
+    let rest = plan.get(offset..).unwrap_or(&[]);
+    let [tag, high, low, after @ ..] = rest else { return Err(2) };
+    let length = number(&[*high, *low]) as usize;
+    let Some(value) = after.get(..length) else { return Err(2) };
+    if !(1..=3).contains(tag) {
+        return Err(3);
+    }
+    if !length_allowed(*tag, length) {
+        return Err(4);
+    }
+    let field = numbers_of(*tag, value).ok_or(5u32)?;
+    Ok((field, offset + 3 + length))
+}
+
+/// What cp_field must answer.
+pub fn field_read(plan: &[u8], offset: usize) -> FieldRead {
+    let (field, after) = match field_at(plan, offset) {
+        Err(refusal) => return FieldRead { refusal, tag: 0, offset: offset as u64, numbers: [0; 5] },
+        Ok(found) => found,
+    };
+    let (tag, numbers) = match field {
+        Field::Header { guard, top } => (1, [guard, top, 0, 0, 0]),
+        Field::Port { number, port } => (2, [number, port.rate, port.blocker, 0, 0]),
+        Field::Flow { number, flow } => (3, [number, flow.period, flow.count, flow.length, flow.route.len() as u64]),
+    };
+    FieldRead { refusal: 0, tag, offset: after as u64, numbers }
+}
+
+pub fn repeats(route: &[u64]) -> bool {
+    route.iter().collect::<BTreeSet<_>>().len() < route.len()
+}
+
+/// What cp_repeats must answer for the value of a flow field.
+pub fn value_repeats(value: &[u8]) -> bool {
+    let route: Vec<u64> = value.get(10..).unwrap_or(&[]).chunks_exact(2).map(number).collect();
+    repeats(&route)
+}
+
+#[derive(Default)]
+struct Gathered {
+    header: Option<(u64, u64)>,
+    ports: BTreeMap<u64, Port>,
+    flows: BTreeMap<u64, Flow>,
+    tags: BTreeMap<usize, u64>,
+}
+
+impl Gathered {
+    /// Tests 6 and 7, then the field is kept.
+    fn take(&mut self, field: Field, offset: usize) -> Result<(), u32> {
+        let again = match &field {
+            Field::Header { .. } => self.header.is_some(),
+            Field::Port { number, .. } => self.ports.contains_key(number),
+            Field::Flow { number, .. } => self.flows.contains_key(number),
+        };
+        if again {
+            return Err(6);
+        }
+        match field {
+            Field::Header { guard, top } => self.header = Some((guard, top)),
+            Field::Port { number, port } => {
+                self.ports.insert(number, port);
+            }
+            Field::Flow { flow, .. } if repeats(&flow.route) => return Err(7),
+            Field::Flow { number, flow } => {
+                self.flows.insert(number, flow);
+                self.tags.insert(offset, number);
+            }
+        }
+        Ok(())
+    }
+
+    /// Tests 8 and 9.
+    fn close(self, plan_length: usize) -> Result<Plan, (u32, usize)> {
+        let Some((guard, top)) = self.header else { return Err((8, plan_length)) };
+        if self.flows.is_empty() {
+            return Err((8, plan_length));
+        }
+        let astray = |flow: &Flow| flow.route.iter().any(|port| !self.ports.contains_key(port));
+        if let Some((offset, _)) = self.tags.iter().find(|(_, number)| astray(&self.flows[number])) {
+            return Err((9, *offset));
+        }
+        Ok(Plan { guard, top, ports: self.ports, flows: self.flows })
+    }
+}
+
+/// A plan from its bytes, or the refusal and its place.
+pub fn read(plan: &[u8]) -> Result<Plan, (u32, usize)> {
+    if plan.is_empty() || plan.len() > 16_384 {
+        return Err((1, 0));
+    }
+    let mut gathered = Gathered::default();
+    let mut offset = 0;
+    while offset < plan.len() {
+        let (field, after) = field_at(plan, offset).map_err(|refusal| (refusal, offset))?;
+        gathered.take(field, offset).map_err(|refusal| (refusal, offset))?;
+        offset = after;
+    }
+    gathered.close(plan.len())
+}
+
+/// What the load must answer.
+pub fn load_answer(outcome: &Result<Plan, (u32, usize)>) -> Answer {
+    match outcome {
+        Ok(plan) => Answer::new(0, plan.ports.len() as u64, plan.flows.len() as u64),
+        Err((refusal, place)) => Answer::new(*refusal, *place as u64, 0),
+    }
+}

@@ -1,0 +1,80 @@
+//! Planner values: which ones a load could have made, and the plan that such a one tells.
+
+use super::{read::repeats, Flow, Plan, Port};
+use crate::answers::Planner;
+use std::collections::BTreeMap;
+
+fn ports_of(tables: &Planner) -> Option<BTreeMap<u64, Port>> {
+    let mut ports = BTreeMap::new();
+    for slot in 0..64 {
+        let (rate, blocker) = (u64::from(tables.rates[slot]), u64::from(tables.blockings[slot]));
+        if (rate, blocker) == (0, 0) {
+            continue;
+        }
+        let fits = (1..=100_000).contains(&rate) && (blocker == 0 || (64..=2000).contains(&blocker));
+        if !fits {
+            return None;
+        }
+        ports.insert(slot as u64 + 1, Port { rate, blocker });
+    }
+    Some(ports)
+}
+
+/// The flow of a slot: none for a value no load leaves, an empty one for an absent flow.
+fn flow_of(tables: &Planner, slot: usize, ports: &BTreeMap<u64, Port>) -> Option<Option<Flow>> {
+    let hops = usize::from(tables.hops[slot]);
+    let period = u64::from(tables.periods[slot]);
+    let (count, length) = (u64::from(tables.counts[slot]), u64::from(tables.lengths[slot]));
+    if (hops, period, count, length) == (0, 0, 0, 0) {
+        return Some(None);
+    }
+    let fits = (1..=16).contains(&hops)
+        && (1_000..=100_000_000).contains(&period)
+        && (1..=64).contains(&count)
+        && (64..=2000).contains(&length);
+    if !fits {
+        return None;
+    }
+    let route: Vec<u64> = tables.routes[slot * 16..][..hops].iter().map(|port| u64::from(*port)).collect();
+    let sound = !repeats(&route) && route.iter().all(|port| ports.contains_key(port));
+    sound.then_some(Some(Flow { period, count, length, route }))
+}
+
+/// The plan in a planner's tables, or none where no load makes such tables.
+pub fn plan_of(tables: &Planner) -> Option<Plan> {
+    let (guard, top) = (u64::from(tables.guard), u64::from(tables.top));
+    if guard > 1_000_000 || !(1..=100_000_000).contains(&top) {
+        return None;
+    }
+    let ports = ports_of(tables)?;
+    let mut flows = BTreeMap::new();
+    for slot in 0..256 {
+        if let Some(flow) = flow_of(tables, slot, &ports)? {
+            flows.insert(slot as u64 + 1, flow);
+        }
+    }
+    (!flows.is_empty()).then_some(Plan { guard, top, ports, flows })
+}
+
+/// The tables of a plan, for runs without the library.
+#[cfg(feature = "model-only")]
+pub fn tables_of(plan: &Plan) -> Planner {
+    let mut tables = Planner::zero();
+    tables.guard = plan.guard as u32;
+    tables.top = plan.top as u32;
+    for (number, port) in &plan.ports {
+        tables.rates[*number as usize - 1] = port.rate as u32;
+        tables.blockings[*number as usize - 1] = port.blocker as u16;
+    }
+    for (number, flow) in &plan.flows {
+        let slot = *number as usize - 1;
+        tables.periods[slot] = flow.period as u32;
+        tables.counts[slot] = flow.count as u16;
+        tables.lengths[slot] = flow.length as u16;
+        tables.hops[slot] = flow.route.len() as u8;
+        for (hop, port) in flow.route.iter().enumerate() {
+            tables.routes[slot * 16 + hop] = *port as u8;
+        }
+    }
+    tables
+}

@@ -1,0 +1,169 @@
+//! Runs of frames through ports with two queues each, one filling while the other empties.
+
+use crate::model::{wire_bits, Plan};
+use crate::rng::Rng;
+use std::collections::BTreeMap;
+
+/// Instants of each flow's frames, never falling.
+pub type Emission = BTreeMap<u64, Vec<u64>>;
+
+#[derive(Clone, Copy, Debug)]
+struct Frame {
+    flow: u64,
+    instant: u64,
+    hop: usize,
+}
+
+#[derive(Debug)]
+pub enum Outcome {
+    Unsent { cycle: u64, port: u64 },
+    /// Of every frame: flow, cycle of its instant, cycle in which it left its last port.
+    AllSent(Vec<(u64, u64, u64)>),
+}
+
+#[derive(Default)]
+struct Queues {
+    filling: Vec<Frame>,
+    emptying: Vec<Frame>,
+}
+
+pub struct Run<'a> {
+    plan: &'a Plan,
+    duration: u64,
+    queues: BTreeMap<u64, Queues>,
+    waiting: Vec<Frame>,
+    left: Vec<(u64, u64, u64)>,
+}
+
+pub fn keeps_contract(plan: &Plan, emission: &Emission) -> bool {
+    emission.iter().all(|(number, instants)| {
+        let flow = &plan.flows[number];
+        let count = flow.count as usize;
+        let rising = instants.windows(2).all(|pair| pair[0] <= pair[1]);
+        rising && instants.iter().zip(instants.iter().skip(count)).all(|(one, later)| later - one >= flow.period)
+    })
+}
+
+impl<'a> Run<'a> {
+    pub fn new(plan: &'a Plan, duration: u64, emission: &Emission) -> Run<'a> {
+        let mut waiting = Vec::new();
+        for (flow, instants) in emission {
+            waiting.extend(instants.iter().map(|instant| Frame { flow: *flow, instant: *instant, hop: 0 }));
+        }
+        waiting.sort_by_key(|frame| std::cmp::Reverse(frame.instant));
+        let queues = plan.ports.keys().map(|port| (*port, Queues::default())).collect();
+        Run { plan, duration, queues, waiting, left: Vec::new() }
+    }
+
+    fn port_of(&self, frame: &Frame) -> u64 {
+        self.plan.flows[&frame.flow].route[frame.hop]
+    }
+
+    fn receive(&mut self, frame: Frame) {
+        let port = self.port_of(&frame);
+        self.queues.get_mut(&port).expect("a known port").filling.push(frame);
+    }
+
+    /// Whether a port gets all of its emptying queue out in one cycle.
+    fn clears(&self, port: u64) -> bool {
+        let frames = self.queues[&port].emptying.iter();
+        let bits: u64 = frames.map(|frame| wire_bits(self.plan.flows[&frame.flow].length)).sum();
+        let mut taken = bits;
+        if self.plan.ports[&port].blocker != 0 {
+            taken += wire_bits(self.plan.ports[&port].blocker);
+        }
+        let start = self.plan.guard;
+        let window = if self.duration < 2 * start { 0 } else { self.duration - 2 * start };
+        bits == 0 || 1000 * taken <= self.plan.ports[&port].rate * window
+    }
+
+    /// One cycle: queues swap, ports send, sources emit. The port that leaves a frame unsent, if one does.
+    fn cycle(&mut self, now: u64) -> Option<u64> {
+        for queues in self.queues.values_mut() {
+            std::mem::swap(&mut queues.filling, &mut queues.emptying);
+        }
+        let ports: Vec<u64> = self.queues.keys().copied().collect();
+        for port in &ports {
+            if !self.clears(*port) {
+                return Some(*port);
+            }
+        }
+        for port in &ports {
+            for frame in std::mem::take(&mut self.queues.get_mut(port).expect("a known port").emptying) {
+                self.pass_on(frame, now);
+            }
+        }
+        while self.waiting.last().is_some_and(|frame| frame.instant / self.duration == now) {
+            let frame = self.waiting.pop().expect("one waits");
+            self.receive(frame);
+        }
+        None
+    }
+
+    fn pass_on(&mut self, mut frame: Frame, now: u64) {
+        frame.hop += 1;
+        if frame.hop == self.plan.flows[&frame.flow].route.len() {
+            self.left.push((frame.flow, frame.instant / self.duration, now));
+        } else {
+            self.receive(frame);
+        }
+    }
+
+    pub fn follow(mut self) -> Outcome {
+        let mut now = 0;
+        loop {
+            let idle = self.queues.values().all(|queues| queues.filling.is_empty());
+            match self.waiting.last() {
+                None if idle => return Outcome::AllSent(self.left),
+                Some(next) if idle => now = next.instant / self.duration,
+                _ => {}
+            }
+            if let Some(port) = self.cycle(now) {
+                return Outcome::Unsent { cycle: now, port };
+            }
+            now += 1;
+        }
+    }
+}
+
+/// All flows of a port send as much as they may, so that it comes together there in one cycle.
+pub fn gathered_at(plan: &Plan, port: u64, duration: u64) -> Emission {
+    let mut emission = Emission::new();
+    for (number, flow) in &plan.flows {
+        let Some(hop) = flow.route.iter().position(|passed| *passed == port) else { continue };
+        let start = (16 - hop as u64) * duration;
+        let mut instants = Vec::new();
+        let mut instant = start;
+        while instant < start + duration {
+            instants.extend((0..flow.count).map(|_| instant));
+            instant += flow.period;
+        }
+        emission.insert(*number, instants);
+    }
+    emission
+}
+
+/// A random emission inside the contract, mostly as early as the contract lets it.
+pub fn random(plan: &Plan, duration: u64, frames: usize, rng: &mut Rng) -> Emission {
+    let mut emission = Emission::new();
+    for (number, flow) in &plan.flows {
+        if rng.chance(1, 8) {
+            continue;
+        }
+        let count = flow.count as usize;
+        let hurry = rng.range(0, 8);
+        let mut instants: Vec<u64> = vec![rng.below(3 * duration)];
+        for k in 1..=rng.index(frames) {
+            let soonest = if k < count { 0 } else { instants[k - count] + flow.period };
+            let mut instant = soonest.max(instants[k - 1]);
+            if rng.chance(hurry, 16) {
+                instant += rng.below(duration.max(flow.period) + 1);
+            } else if rng.chance(1, 8) {
+                instant = (instant / duration + 1) * duration;
+            }
+            instants.push(instant);
+        }
+        emission.insert(*number, instants);
+    }
+    emission
+}
