@@ -9,12 +9,20 @@ ghost use Rattle.cqf.specs.Limits.{portSlots, maxTop, portOk};
 ghost use Rattle.cqf.specs.Condition.{bitsOf, ceilDiv, demand};
 ghost use Rattle.planner.specs.Columns.{columns, FlowColumns, FlowsReady, Marked};
 
+// The periods that begin within a duration: the quotient rounded up.
+fn periods_begun(duration: u32, period: u32) -> u32
+    requires { ⌜ (1 ≤ period) × (period ≤ maxTop) × (duration ≤ maxTop) ⌝ }
+    ensures { λ r. ⌜ r ≡ ceilDiv duration period ⌝ }
+{
+    (duration + (period - 1)) / period
+}
+
 // The wire bits of the frames that a flow brings.
 fn flow_bits(period: u32, count: u16, bytes: u16, duration: u32) -> u64
     requires { ⌜ (1000 ≤ period) × (period ≤ maxTop) × (count ≤ 64) × (bytes ≤ 2000) × (duration ≤ maxTop) ⌝ }
     ensures { λ r. ⌜ r ≡ count * ceilDiv duration period * bitsOf bytes ⌝ }
 {
-    let begun = (duration + (period - 1)) / period;
+    let begun = periods_begun(duration, period);
     (count as u64) * (begun as u64) * (8 * (bytes as u64 + 20))
 }
 

@@ -57,7 +57,7 @@ module _ (c : tie.After-failing-set) where
       ∙ failing-set p (formed past) (begin past .args .duration) (past .before .if2 .left)
 
 formed-requires : tie.Need-formed-requires
-formed-requires c κs = search needs
+formed-requires c κs = tt
 
 returns : tie.Need-returns
 returns c =
@@ -81,7 +81,7 @@ port-demands-requires : tie.Need-port-demands-requires
 port-demands-requires c κs = (formed c, fits c)
 
 window-requires : tie.Need-window-requires
-window-requires c κs = search needs
+window-requires c κs = tt
 
 slice-aggregate-failing-set : tie.Need-slice-aggregate-failing-set
 slice-aggregate-failing-set c = search needs
@@ -104,7 +104,7 @@ returns-4 c =
     told (held (begin at)) _ _ (sym (check-good (held (begin at)) _ (formed at) (at .before .if2 .left) (high at) good))
 
 failing-ports-requires : tie.Need-failing-ports-requires
-failing-ports-requires c κs = search needs
+failing-ports-requires c κs = tt
 
 returns-5 : tie.Need-returns-5
 returns-5 c =

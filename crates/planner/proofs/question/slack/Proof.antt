@@ -64,7 +64,7 @@ module _ (c : tie.After-port-demands) where
       omega (arith, bits-are, demand-most p (slot-ready p (formed past)) (begin past .args .duration) (fits past) slot)
 
 formed-requires : tie.Need-formed-requires
-formed-requires c κs = search needs
+formed-requires c κs = tt
 
 returns : tie.Need-returns
 returns c = sym (slack-none (held (c .before .before)) _ _ (sym (c .before .formed .ensures) ∙ not-true _ (c .if1 .taken)))
@@ -111,7 +111,7 @@ returns-6 c =
     (none ∙ ap (ltb 0) (sym (bits-are demands) ∙ c .if6 .taken)))
 
 window-requires : tie.Need-window-requires
-window-requires c κs = search needs
+window-requires c κs = tt
 
 mul-port-slack : tie.Need-mul-port-slack
 mul-port-slack c = omega (arith, small (c .before .before))
