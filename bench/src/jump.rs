@@ -1,4 +1,5 @@
 //! Both searches by jumps, on the planner's own tables. One pass over flows and hops per round.
+//! CHECKED says whether the sum over the hops tests its index, as plain Rust does; the form test makes it needless.
 
 use crate::answers::{Answer, Planner};
 
@@ -57,7 +58,7 @@ pub fn well_formed(planner: &Planner) -> bool {
 }
 
 /// Every port's demand at a duration of 1 or more; 0 for a port not crossed.
-pub fn demands(planner: &Planner, duration: u64, scratch: &mut [u64; PORTS]) {
+pub fn demands<const CHECKED: bool>(planner: &Planner, duration: u64, scratch: &mut [u64; PORTS]) {
     scratch.fill(0);
     for slot in 0..FLOWS {
         let hops = planner.hops[slot] as usize;
@@ -67,7 +68,12 @@ pub fn demands(planner: &Planner, duration: u64, scratch: &mut [u64; PORTS]) {
         let rounds = (duration as u32).div_ceil(planner.periods[slot]);
         let bits = rounds as u64 * planner.counts[slot] as u64 * wire_bits(planner.lengths[slot]);
         for &port in &planner.routes[slot * MAX_HOPS..slot * MAX_HOPS + hops] {
-            scratch[port as usize - 1] += bits;
+            if CHECKED {
+                scratch[port as usize - 1] += bits;
+            } else {
+                // The form test found every hop of a route between 1 and 64.
+                unsafe { *scratch.get_unchecked_mut(port as usize - 1) += bits };
+            }
         }
     }
 }
@@ -104,7 +110,7 @@ fn first_failing(planner: &Planner, duration: u64, scratch: &[u64; PORTS]) -> Op
 }
 
 /// The least duration, and the passes it took.
-pub fn least(planner: &Planner, scratch: &mut [u64]) -> (Answer, u64) {
+pub fn least<const CHECKED: bool>(planner: &Planner, scratch: &mut [u64]) -> (Answer, u64) {
     if !well_formed(planner) {
         return (Answer::refused(20), 0);
     }
@@ -112,12 +118,12 @@ pub fn least(planner: &Planner, scratch: &mut [u64]) -> (Answer, u64) {
     let top = planner.top as u64;
     let (mut duration, mut passes) = (1, 0);
     loop {
-        demands(planner, duration, scratch);
+        demands::<CHECKED>(planner, duration, scratch);
         passes += 1;
         let Some(slot) = first_failing(planner, duration, scratch) else { break };
         duration = need(planner, slot, scratch[slot]);
         if duration > top {
-            demands(planner, top, scratch);
+            demands::<CHECKED>(planner, top, scratch);
             return (told(22, failing(planner, top, scratch)), passes + 1);
         }
     }
@@ -125,23 +131,23 @@ pub fn least(planner: &Planner, scratch: &mut [u64]) -> (Answer, u64) {
 }
 
 /// The margin-safe duration, and the passes it took.
-pub fn margin_safe(planner: &Planner, scratch: &mut [u64]) -> (Answer, u64) {
+pub fn margin_safe<const CHECKED: bool>(planner: &Planner, scratch: &mut [u64]) -> (Answer, u64) {
     if !well_formed(planner) {
         return (Answer::refused(20), 0);
     }
     let Some(scratch) = scratch.first_chunk_mut::<PORTS>() else { return (Answer::refused(11), 0) };
     let mut duration = planner.top as u64;
-    demands(planner, duration, scratch);
+    demands::<CHECKED>(planner, duration, scratch);
     let set = failing(planner, duration, scratch);
     if set != 0 {
         return (told(23, set), 1);
     }
     let mut passes = 1;
     while duration > 1 {
-        demands(planner, duration - 1, scratch);
+        demands::<CHECKED>(planner, duration - 1, scratch);
         passes += 1;
         if first_failing(planner, duration - 1, scratch).is_some() {
-            demands(planner, duration, scratch);
+            demands::<CHECKED>(planner, duration, scratch);
             passes += 1;
             break;
         }

@@ -18,15 +18,15 @@ use std::hint::black_box;
 type Outcome = (Option<Answer>, u64);
 
 #[inline(never)]
-extern "C" fn jump_least(planner: Planner, scratch: &mut [u64; 64], passes: &mut u64) -> Answer {
-    let (answer, taken) = jump::least(&planner, scratch);
+extern "C" fn jump_least<const CHECKED: bool>(planner: Planner, scratch: &mut [u64; 64], passes: &mut u64) -> Answer {
+    let (answer, taken) = jump::least::<CHECKED>(&planner, scratch);
     *passes = taken;
     answer
 }
 
 #[inline(never)]
-extern "C" fn jump_safe(planner: Planner, scratch: &mut [u64; 64], passes: &mut u64) -> Answer {
-    let (answer, taken) = jump::margin_safe(&planner, scratch);
+extern "C" fn jump_safe<const CHECKED: bool>(planner: Planner, scratch: &mut [u64; 64], passes: &mut u64) -> Answer {
+    let (answer, taken) = jump::margin_safe::<CHECKED>(&planner, scratch);
     *passes = taken;
     answer
 }
@@ -39,8 +39,10 @@ fn measured(part: &str, planner: &Planner, scratch: &mut [u64; 64], most: u64) -
     match part {
         "least" => (Some(ffi::least(planner, scratch)), 0),
         "safe" => (Some(ffi::margin_safe(planner, scratch)), 0),
-        "jump-least" => (Some(jump_least(planner.clone(), scratch, &mut passes)), passes),
-        "jump-safe" => (Some(jump_safe(planner.clone(), scratch, &mut passes)), passes),
+        "jump-least" => (Some(jump_least::<true>(planner.clone(), scratch, &mut passes)), passes),
+        "jump-safe" => (Some(jump_safe::<true>(planner.clone(), scratch, &mut passes)), passes),
+        "bare-least" => (Some(jump_least::<false>(planner.clone(), scratch, &mut passes)), passes),
+        "bare-safe" => (Some(jump_safe::<false>(planner.clone(), scratch, &mut passes)), passes),
         "scan-least" => scan::least(planner, scratch, most),
         "scan-safe" => scan::margin_safe(planner, scratch, most),
         "nothing" => (None, 0),
@@ -52,11 +54,11 @@ fn measured(part: &str, planner: &Planner, scratch: &mut [u64; 64], most: u64) -
 fn whole(part: &str, planner: &Planner) -> u64 {
     let (mut scratch, top) = ([0; 64], planner.top as u64);
     match part {
-        "scan-least" => match jump::least(planner, &mut scratch).0 {
+        "scan-least" => match jump::least::<true>(planner, &mut scratch).0 {
             Answer { refusal: 0, first, .. } => first,
             _ => top,
         },
-        _ => match jump::margin_safe(planner, &mut scratch).0 {
+        _ => match jump::margin_safe::<true>(planner, &mut scratch).0 {
             Answer { refusal: 0, first, .. } => top - first + 1 + u64::from(first > 1),
             _ => 1,
         },

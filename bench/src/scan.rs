@@ -10,7 +10,7 @@ pub fn least(planner: &Planner, scratch: &mut [u64; 64], most: u64) -> (Option<A
     }
     let top = planner.top as u64;
     for duration in 1..=top.min(most) {
-        demands(planner, duration, scratch);
+        demands::<true>(planner, duration, scratch);
         if failing(planner, duration, scratch) == 0 {
             return (Some(Answer::new(0, duration, 0)), duration);
         }
@@ -27,14 +27,14 @@ pub fn margin_safe(planner: &Planner, scratch: &mut [u64; 64], most: u64) -> (Op
     let top = planner.top as u64;
     let mut tried = 0;
     for duration in (1..=top).rev().take(most as usize) {
-        demands(planner, duration, scratch);
+        demands::<true>(planner, duration, scratch);
         tried += 1;
         let set = failing(planner, duration, scratch);
         if set != 0 && duration == top {
             return (Some(told(23, set)), tried);
         }
         if set != 0 {
-            demands(planner, duration + 1, scratch);
+            demands::<true>(planner, duration + 1, scratch);
             return (Some(Answer::new(0, duration + 1, 0)), tried);
         }
     }

@@ -5,7 +5,6 @@ pub mod Answer
 pub mod Loading
 pub mod Demand3
 pub mod SameAnswers
-pub mod PlanK
 pub mod laws
 pub mod Theorem
 pub mod Columns

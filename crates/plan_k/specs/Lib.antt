@@ -1,0 +1,2 @@
+-- Plan K of document 01, worked out by the definitions.
+pub mod PlanK
