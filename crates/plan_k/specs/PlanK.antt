@@ -1,6 +1,7 @@
 -- Plan K of document 01 from its 52 bytes, and the rows marked P: one statement over one list.
 use mathlib.Core.Path.{_≡_, refl}
 use mathlib.Core.List.{List, [], _∷_, map}
+use mathlib.Core.Option.{some}
 use Prim.Native.Nat.{ℕ}
 use lib.IntN.{ℤ, pos, negsuc}
 use Rattle.cqf.specs.Bounded.{sumTo, countTo, anyTo, allTo, lowest, elem, distinct, every, row}
@@ -12,7 +13,7 @@ use Rattle.plan.specs.Field.{routeIn, headerIn, portInValue, flowIn, fieldIn, f
 use Rattle.plan.specs.Draft.{blank, taken, loops, store, added}
 use Rattle.plan.specs.Reading.{stepAt, namesAbsent, absentFrom, closing, readFrom, readPlan, accepted}
 use Rattle.planner.specs.Outcome.{Answer, result, refusal, loadAnswer, loadLeaves, checkAnswer, slackAnswer}
-use Rattle.planner.specs.Calls.{load, afterFrom, after}
+use Rattle.planner.specs.Calls.{load, afterFrom, after, heldFrom, heldBytes}
 
 pub bytesK : List ℕ
 bytesK =
@@ -53,6 +54,11 @@ rows =
 readK : readPlan bytesK ≡ accepted planK 1 2
 unfolding bytesK planK noPlan readPlan readFrom blank stepAt fieldAt fieldIn headerIn portInValue flowIn number2 number4 sizeAt wholeAt valueAt numbers2 routeIn repeats every distinct elem taken loops store added closing absentFrom namesAbsent
 readK = refl
+
+-- K is the plan held after its load
+heldK : heldBytes (load bytesK ∷ []) ≡ some bytesK
+unfolding bytesK noPlan heldBytes heldFrom readPlan readFrom blank stepAt fieldAt fieldIn headerIn portInValue flowIn number2 number4 sizeAt wholeAt valueAt numbers2 routeIn repeats every distinct elem taken loops store added closing absentFrom namesAbsent
+heldK = refl
 
 -- every row, of the planner that holds the plan in K's bytes
 rowsOfK

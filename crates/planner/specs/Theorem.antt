@@ -13,6 +13,7 @@ use Rattle.cqf.specs.Condition.{admissible, failing, lowestFailing}
 use Rattle.cqf.specs.LargeEnough.{LargeEnough}
 use Rattle.cqf.specs.Theorem.{large-enough}
 use Rattle.plan.specs.FieldOrder.{SameFields}
+use Rattle.plan.specs.Reading.{accepted, readPlan}
 use Rattle.plan.specs.laws.Order.{field-order}
 use Rattle.plan.specs.laws.Sound.{accepted-formed}
 use Rattle.planner.specs.Outcome.{Answer, result, refusal, failingAt, checkAnswer, slackAnswer, leastAnswer, leastLeaves, marginSafeAnswer, marginSafeLeaves}
@@ -62,12 +63,22 @@ plain-means p T h = go (admissible p T) refl
           on-time = λ r. let z : _≡_ {A = ℕ} 0 1 = cc in absurd (omega arith);
         }
 
+-- the large-enough-cycle theorem for every plan that the rules accept
+pub accepted-large-enough
+    : (s : List ℕ) (p : Plan) (ports flows : ℕ)
+    → readPlan s ≡ accepted p ports flows
+    → (T : ℕ)
+    → 1 ≤ T
+    → T ≤ p .top
+    → LargeEnough p T
+accepted-large-enough s p ports flows reads T low high = large-enough p (accepted-formed s p ports flows reads) T low
+
 -- demand 3, of the plain question's own answer
 pub demand3 : (tables : Plan) (T : ℕ) → Demand3 tables T (checkAnswer tables T)
 demand3 tables T calls bytes p ports flows left held reads low high =
     let formed : wellFormed p ≡ true = accepted-formed bytes p ports flows reads in
     let same : tables ≡ p = left ∙ after-held calls bytes held p ports flows reads in
-    rw (same, check-plain p T formed low high) (plain-means p T (large-enough p formed T low))
+    rw (same, check-plain p T formed low high) (plain-means p T (accepted-large-enough bytes p ports flows reads T low high))
 
 -- two rows of calls whose last accepted plans have the same fields, in any order, leave planners that answer alike
 pub order-free
