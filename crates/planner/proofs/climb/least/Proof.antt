@@ -32,7 +32,7 @@ again-long
 again-long c = ap length (take-at (c .climb .last .1 .0) _ 64 (work-long c)) ∙ work-long c
 
 formed-requires : tie.Need-formed-requires
-formed-requires c κs = search needs
+formed-requires c κs = tt
 
 returns : tie.Need-returns
 returns c = least-ends _ _ (ends-no-plan 22 _ _ _ (sym (c .before .formed .ensures) ∙ not-true _ (c .if1 .taken)))
@@ -41,7 +41,7 @@ returns-2 : tie.Need-returns-2
 returns-2 c = least-ends _ _ (ends-short 22 _ _ _ (formed-past (c .before)) (c .if2 .taken))
 
 slice-relend-prefix-climb : tie.Need-slice-relend-prefix-climb
-slice-relend-prefix-climb c = search needs
+slice-relend-prefix-climb c = c .if2 .left
 
 slice-aggregate-climb : tie.Need-slice-aggregate-climb
 slice-aggregate-climb c = sym (part-long c)

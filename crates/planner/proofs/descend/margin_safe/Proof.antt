@@ -30,7 +30,7 @@ again-long
 again-long c = ap length (take-at (c .descend .last .1 .0) _ 64 (work-long c)) ∙ work-long c
 
 formed-requires : tie.Need-formed-requires
-formed-requires c κs = search needs
+formed-requires c κs = tt
 
 returns : tie.Need-returns
 returns c = margin-safe-ends _ _ (ends-no-plan 23 _ _ _ (sym (c .before .formed .ensures) ∙ not-true _ (c .if1 .taken)))
@@ -39,7 +39,7 @@ returns-2 : tie.Need-returns-2
 returns-2 c = margin-safe-ends _ _ (ends-short 23 _ _ _ (formed-past (c .before)) (c .if2 .taken))
 
 slice-relend-prefix-descend : tie.Need-slice-relend-prefix-descend
-slice-relend-prefix-descend c = search needs
+slice-relend-prefix-descend c = c .if2 .left
 
 slice-aggregate-descend : tie.Need-slice-aggregate-descend
 slice-aggregate-descend c = sym (part-long c)

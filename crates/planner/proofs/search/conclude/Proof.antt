@@ -18,7 +18,7 @@ refused-requires c κs =
     (s .pre .0, s .pre .1)
 
 same-length : tie.Need-same-length
-same-length c = search needs
+same-length c = c .before .before .refused .kept .1 .0
 
 returns : tie.Need-returns
 returns c =
@@ -34,7 +34,7 @@ demands-requires c κs =
     (search needs, (record { slot = slot-ready _ formed }, (omega (arith, top-most _ formed, i .if1 .left), i .before .before .pre .1)))
 
 same-length-2 : tie.Need-same-length-2
-same-length-2 c = search needs
+same-length-2 c = c .before .before .demands .kept .1 .1 .1 .1 .1 .1 .0
 
 returns-2 : tie.Need-returns-2
 returns-2 c =

@@ -34,7 +34,7 @@ failing-set-requires c κs =
     ((search needs, search needs, filled-length f), (omega (arith, c .before .before .before .before .before .before .window .ensures, filled-short f), filled-most f))
 
 failing-ports-requires : tie.Need-failing-ports-requires
-failing-ports-requires c κs = search needs
+failing-ports-requires c κs = tt
 
 same-length : tie.Need-same-length
 same-length c =
