@@ -6,10 +6,12 @@ use super::failing::port_fails;
 use super::failing::window;
 use super::formed::formed;
 use super::need::need;
-use super::search::conclude;
+use super::search::refused;
 ghost use mathlib.Core.Path.{_≡_};
 ghost use mathlib.Core.Bool.{true};
+ghost use Prim.Native.Nat.{_≤_};
 ghost use lib.ListN.{length};
+ghost use Rattle.cqf.specs.Bounded.{tabulate};
 ghost use Rattle.cqf.specs.Limits.{portSlots};
 ghost use Rattle.cqf.specs.Plan.{wellFormed};
 ghost use Rattle.cqf.specs.Condition;
@@ -17,10 +19,11 @@ ghost use Rattle.planner.specs.Answer.{planOf, searchOf};
 ghost use Rattle.planner.specs.Outcome.{leastAnswer, leastLeaves};
 
 // The least admissible duration, or one above top where there is none. No duration below t is admissible, and a port that fails
-// at t fails up to what it needs there.
+// at t fails up to what it needs there. Where there is one, out is left with the demands at it.
 fn climb(planner: Planner, out: &mut [u64]) -> u64
     requires { ⌜ (wellFormed (planOf planner) ≡ true) × (length (now out) ≡ portSlots) ⌝ }
     ensures { λ r. ⌜ r ≡ Condition.least (planOf planner) ⌝ }
+    ensures { λ r. ⌜ (r ≤ planner .top → now (out .exit) ≡ tabulate portSlots (λ q. Condition.demand (planOf planner) q r)) ⌝ }
 {
     let guard = planner.guard;
     let top = planner.top as u64;
@@ -70,5 +73,9 @@ pub fn least(planner: Planner, scratch: &mut [u64]) -> SearchAnswer
         return SearchAnswer::ShortScratch;
     }
     let found = climb(planner, &mut scratch[..64]);
-    conclude(planner, found, &mut scratch[..64])
+    let top = planner.top as u64;
+    if found <= top {
+        return SearchAnswer::Duration(found);
+    }
+    refused(planner, &mut scratch[..64])
 }

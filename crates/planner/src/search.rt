@@ -1,4 +1,4 @@
-// How both searches end. Neither goes by single ns: see climb.rt and descend.rt.
+// How a search ends. Neither goes by single ns: see climb.rt and descend.rt.
 use super::Planner;
 use super::SearchAnswer;
 use super::demand::demands;
@@ -17,25 +17,13 @@ ghost use Rattle.cqf.specs.Condition.{demand};
 ghost use Rattle.planner.specs.Answer.{planOf, searchOf};
 ghost use Rattle.planner.specs.Outcome.{result, failingAt};
 
-// The answer of a search that found this duration, above top where there is none, with the demands at it or at top.
-pub(crate) fn conclude(planner: Planner, found: u64, out: &mut [u64]) -> SearchAnswer
+// The refusal of a search that found none: the ports that fail at top, with the demands there.
+pub(crate) fn refused(planner: Planner, out: &mut [u64]) -> SearchAnswer
     requires { ⌜ (wellFormed (planOf planner) ≡ true) × (length (now out) ≡ portSlots) ⌝ }
-    ensures { λ r. ⌜ ((number : ℕ) → searchOf number r ≡ cond (leb found (planner .top)) (result found) (failingAt number (planOf planner) (planner .top))) ⌝ }
-    ensures { λ r. ⌜ now (out .exit) ≡ tabulate portSlots (λ q. demand (planOf planner) q (cond (leb found (planner .top)) found (planner .top))) ⌝ }
+    ensures { λ r. ⌜ ((number : ℕ) → searchOf number r ≡ failingAt number (planOf planner) (planner .top)) ⌝ }
+    ensures { λ r. ⌜ now (out .exit) ≡ tabulate portSlots (λ q. demand (planOf planner) q (planner .top)) ⌝ }
 {
     let top = planner.top as u64;
-    if found <= top {
-        demands(
-            &planner.periods,
-            &planner.counts,
-            &planner.lengths,
-            &planner.hops,
-            &planner.routes,
-            found,
-            &mut out[..],
-        );
-        return SearchAnswer::Duration(found);
-    }
     demands(
         &planner.periods,
         &planner.counts,
@@ -52,4 +40,26 @@ pub(crate) fn conclude(planner: Planner, found: u64, out: &mut [u64]) -> SearchA
         port: ports.port,
         count: ports.count,
     }
+}
+
+// The answer of a search that found this duration, above top where there is none, with the demands at it or at top.
+pub(crate) fn conclude(planner: Planner, found: u64, out: &mut [u64]) -> SearchAnswer
+    requires { ⌜ (wellFormed (planOf planner) ≡ true) × (length (now out) ≡ portSlots) ⌝ }
+    ensures { λ r. ⌜ ((number : ℕ) → searchOf number r ≡ cond (leb found (planner .top)) (result found) (failingAt number (planOf planner) (planner .top))) ⌝ }
+    ensures { λ r. ⌜ now (out .exit) ≡ tabulate portSlots (λ q. demand (planOf planner) q (cond (leb found (planner .top)) found (planner .top))) ⌝ }
+{
+    let top = planner.top as u64;
+    if top < found {
+        return refused(planner, &mut out[..]);
+    }
+    demands(
+        &planner.periods,
+        &planner.counts,
+        &planner.lengths,
+        &planner.hops,
+        &planner.routes,
+        found,
+        &mut out[..],
+    );
+    SearchAnswer::Duration(found)
 }

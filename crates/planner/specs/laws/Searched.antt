@@ -1,5 +1,5 @@
 -- The outcome of a search, case by case.
-use mathlib.Core.Path.{_≡_, ap, ap₂, subst, _∙_}
+use mathlib.Core.Path.{_≡_, sym, ap, ap₂, subst, _∙_}
 use mathlib.Core.Bool.{true, false, cond}
 use mathlib.Core.List.{List, [], _∷_, _++_}
 use Prim.Native.Nat.{ℕ, suc, _-_, _*_, _≤_, _<_}
@@ -44,6 +44,21 @@ ends-short number p found scratch e l = (rw (e, lt-leb _ _ l), rw (e, lt-leb _ _
 
 -- where the duration that it looks for was found, the first numbers are replaced, and those past them are kept
 pub ends-found
+    : (number : ℕ) (p : Plan) (scratch : List ℕ) {wanted found : ℕ} {answer : Answer ℕ} {out : List ℕ}
+    → wellFormed p ≡ true
+    → portSlots ≤ length scratch
+    → found ≡ wanted
+    → answer ≡ answerOf number p found
+    → out ≡ tabulate portSlots (λ q. demand p q (durationOf p found))
+    → Ends number p wanted scratch answer (out ++ drop portSlots scratch)
+ends-found number p scratch {answer = answer} {out = out} e l is a d =
+    subst
+    (λ (n : ℕ). Ends number p n scratch answer (out ++ drop portSlots scratch))
+    is
+    (rw (e, le-leb _ _ l) a, rw (e, le-leb _ _ l) (ap (λ (o : List ℕ). o ++ drop portSlots scratch) d))
+
+-- the same where the first numbers were replaced before
+pub ends-found-again
     : (number : ℕ) (p : Plan) (scratch work : List ℕ) {wanted found : ℕ} {answer : Answer ℕ} {out : List ℕ}
     → wellFormed p ≡ true
     → portSlots ≤ length scratch
@@ -52,48 +67,55 @@ pub ends-found
     → answer ≡ answerOf number p found
     → out ≡ tabulate portSlots (λ q. demand p q (durationOf p found))
     → Ends number p wanted scratch answer (out ++ drop portSlots (work ++ drop portSlots scratch))
-ends-found number p scratch work {answer = answer} {out = out} e l w is a d =
+ends-found-again number p scratch work {wanted = wanted} {answer = answer} {out = out} e l w is a d =
     subst
-    (λ (n : ℕ). Ends number p n scratch answer (out ++ drop portSlots (work ++ drop portSlots scratch)))
-    is
-    (rw (e, le-leb _ _ l) a, rw (e, le-leb _ _ l, drop-at work (drop portSlots scratch) portSlots w) (ap (λ (o : List ℕ). o ++ drop portSlots scratch) d))
+    (λ (rest : List ℕ). Ends number p wanted scratch answer (out ++ rest))
+    (sym (drop-at work (drop portSlots scratch) portSlots w))
+    (ends-found number p scratch e l is a d)
 
 -- a duration up to top is the result, with the demands at it
 pub found-within : (number : ℕ) (p : Plan) {found : ℕ} → found ≤ p .top → result found ≡ answerOf number p found
 found-within number p l = rw (le-leb _ _ l)
 
 pub demands-within
-    : {p : Plan} {out : List ℕ} {found : ℕ}
-    → Filled p out found
+    : (p : Plan) {out : List ℕ} {found : ℕ}
+    → found ≤ p .top
+    → out ≡ tabulate portSlots (λ q. demand p q found)
     → out ≡ tabulate portSlots (λ q. demand p q (durationOf p found))
-demands-within f = simp (le-leb _ _ (f .within)) (f .demands)
+demands-within p l d = simp (le-leb _ _ l) d
 
--- above top there is none: the ports that fail at top, with the demands there
+-- above top there is none: the refusal, with the demands at top
 pub found-above
-    : (number : ℕ) {p : Plan} {out : List ℕ} {found span set port count : ℕ}
+    : (number : ℕ) (p : Plan) {found : ℕ} {answer : Answer ℕ}
     → p .top < found
+    → answer ≡ failingAt number p (p .top)
+    → answer ≡ answerOf number p found
+found-above number p l e = rw (lt-leb _ _ l) e
+
+pub demands-above
+    : (p : Plan) {out : List ℕ} {found : ℕ}
+    → p .top < found
+    → out ≡ tabulate portSlots (λ q. demand p q (p .top))
+    → out ≡ tabulate portSlots (λ q. demand p q (durationOf p found))
+demands-above p l d = simp (lt-leb _ _ l) d
+
+-- the refusal names the ports that fail at top
+pub refused-at-top
+    : (number : ℕ) {p : Plan} {out : List ℕ} {span set port count : ℕ}
     → Filled p out (p .top)
     → span ≡ p .top - 2 * p .guard
     → set ≡ setTo portSlots (failsIn (p .rates) (p .blockings) span out)
     → port ≡ suc (trailingZeros 64 set)
     → count ≡ ones set
-    → refusal number (port ∷ count ∷ []) ≡ answerOf number p found
-found-above number {p} {out} {found} {span} {set} l f w e lowest many =
-    rw (lt-leb _ _ l)
-    (ap₂ (λ (a b : ℕ). refusal number (a ∷ b ∷ [])) (lowest ∙ set-lowest-failing p (p .top) is) (many ∙ set-failing p (p .top) is))
+    → _≡_ {A = Answer ℕ} (refusal number (port ∷ count ∷ [])) (failingAt number p (p .top))
+refused-at-top number {p} {out} {span} {set} f w e lowest many =
+    ap₂ (λ (a b : ℕ). refusal number (a ∷ b ∷ [])) (lowest ∙ set-lowest-failing p (p .top) is) (many ∙ set-failing p (p .top) is)
   where
     is : set ≡ setTo portSlots (fails p (p .top))
     is =
         e
         ∙ ap₂ (λ (w : ℕ) (l : List ℕ). setTo portSlots (failsIn (p .rates) (p .blockings) w l)) w (f .demands)
         ∙ failing-set p (f .formed) (p .top) (top-positive p (f .formed))
-
-pub demands-above
-    : {p : Plan} {out : List ℕ} {found : ℕ}
-    → p .top < found
-    → Filled p out (p .top)
-    → out ≡ tabulate portSlots (λ q. demand p q (durationOf p found))
-demands-above l f = simp (lt-leb _ _ l) (f .demands)
 
 pub least-ends
     : (p : Plan) (scratch : List ℕ) {answer : Answer ℕ} {exit : List ℕ}

@@ -129,7 +129,9 @@ same-length : tie.Need-same-length Inv-ports μ-ports Inv-loop μ-loop
 same-length c = filled-length (c .before .before .ports .inv .0 .filled) ∙ sym (c .before .before .before .before .before .before .before .before .before .before .before .before .before .before .before .before .before .before .before .before .before .pre .1)
 
 returns : tie.Need-returns Inv-ports μ-ports Inv-loop μ-loop
-returns c = sym (left-none (c .before .before .ports .inv .0) (left-ports (c .before)) (c .if2 .taken))
+returns c =
+    let s = c .before .before .ports .inv .0 in
+    (sym (left-none s (left-ports (c .before)) (c .if2 .taken)), λ l. s .filled .demands)
 
 same-length-2 : tie.Need-same-length-2 Inv-ports μ-ports Inv-loop μ-loop
 same-length-2 c = filled-length (c .before .before .before .ports .inv .0 .filled) ∙ sym (c .before .before .before .before .before .before .before .before .before .before .before .before .before .before .before .before .before .before .before .before .before .before .pre .1)
@@ -137,7 +139,7 @@ same-length-2 c = filled-length (c .before .before .before .ports .inv .0 .fille
 returns-2 : tie.Need-returns-2 Inv-ports μ-ports Inv-loop μ-loop
 returns-2 c =
     let l = c .before .before in
-    add-one _ ∙ sym (left-over (l .before .ports .inv .0) (left-ports l) (c .before .if2 .left) (c .if3 .taken))
+    (add-one _ ∙ sym (left-over (l .before .ports .inv .0) (left-ports l) (c .before .if2 .left) (c .if3 .taken)), λ h. absurd (omega arith))
 
 pub climb-spec : {M : Type 1} → statement M
 climb-spec =

@@ -1,15 +1,17 @@
--- `planner::climb::least` meets its contract: the cases of the outcome. The first 64 numbers of the scratch are lent on twice.
+-- `planner::climb::least` meets its contract: the cases of the outcome. The first 64 numbers of the scratch are lent on once more where there is none.
 use mathlib.Core.Path.{_≡_, sym, ap, _∙_}
 use mathlib.Core.Bool.{true}
 use mathlib.Core.List.{_++_}
 use lib.ListN.{length, take, drop}
 use lib.Seq.{length-take-le, take-at}
+use native.Mathlib.Omega.{arith}
 use borrow.Author.Needs.{needs}
 use borrow.Author.Tests.{not-true, not-false}
 use Rattle.cqf.specs.Limits.{portSlots}
 use Rattle.cqf.specs.Plan.{wellFormed}
+use Rattle.cqf.specs.laws.Ranges.{top-most}
 use Rattle.planner.specs.Answer.{planOf}
-use Rattle.planner.specs.laws.Searched.{ends-no-plan, ends-short, ends-found, least-ends}
+use Rattle.planner.specs.laws.Searched.{ends-no-plan, ends-short, ends-found, ends-found-again, found-within, demands-within, found-above, demands-above, least-ends}
 use Rattle.planner.proofs.climb.least.Statement.{statement}
 use Rattle.planner.proofs.climb.least.Tie as tie
 
@@ -30,7 +32,7 @@ again-long
 again-long c = ap length (take-at (c .climb .last .1 .0) _ 64 (work-long c)) ∙ work-long c
 
 formed-requires : tie.Need-formed-requires
-formed-requires c κs = search needs
+formed-requires c κs = tt
 
 returns : tie.Need-returns
 returns c = least-ends _ _ (ends-no-plan 22 _ _ _ (sym (c .before .formed .ensures) ∙ not-true _ (c .if1 .taken)))
@@ -39,7 +41,7 @@ returns-2 : tie.Need-returns-2
 returns-2 c = least-ends _ _ (ends-short 22 _ _ _ (formed-past (c .before)) (c .if2 .taken))
 
 slice-relend-prefix-climb : tie.Need-slice-relend-prefix-climb
-slice-relend-prefix-climb c = search needs
+slice-relend-prefix-climb c = c .if2 .left
 
 slice-aggregate-climb : tie.Need-slice-aggregate-climb
 slice-aggregate-climb c = sym (part-long c)
@@ -47,25 +49,42 @@ slice-aggregate-climb c = sym (part-long c)
 climb-requires : tie.Need-climb-requires
 climb-requires c κs = (formed-past (c .before .before), part-long c)
 
-slice-relend-prefix-conclude : tie.Need-slice-relend-prefix-conclude
-slice-relend-prefix-conclude c = search needs
-
-slice-aggregate-conclude : tie.Need-slice-aggregate-conclude
-slice-aggregate-conclude c = sym (again-long (c .before .before .before))
-
-conclude-requires : tie.Need-conclude-requires
-conclude-requires c κs = (formed-past (c .before .before .before .before .before .before), again-long (c .before .before .before))
+cast-top : tie.Need-cast-top
+cast-top c = omega (arith, top-most _ (formed-past (c .before .before .before .before .before .before)))
 
 same-length : tie.Need-same-length
 same-length c = search needs
 
 returns-3 : tie.Need-returns-3
 returns-3 c =
-    let s = c .before .before .before .before .before .before in
-    let e = c .before .before .conclude .ensures in
+    let s = c .before .before .before .before in
+    let e = s .climb .ensures in
     let a = s .before .before .before .before .before .before .args in
-    least-ends (planOf (a .planner)) (a .scratch .now)
-    (ends-found 22 (planOf (a .planner)) (a .scratch .now) (s .climb .last .1 .0) (formed-past (s .before .before .before)) (s .before .before .if2 .left) (work-long s) (s .climb .ensures) (e .0 22) (e .1))
+    let p = planOf (a .planner) in
+    least-ends p (a .scratch .now)
+    (ends-found 22 p (a .scratch .now) (formed-past (s .before .before .before)) (s .before .before .if2 .left) (e .0) (found-within 22 p (c .if3 .taken)) (demands-within p (c .if3 .taken) (e .1 (c .if3 .taken))))
+
+slice-relend-prefix-refused : tie.Need-slice-relend-prefix-refused
+slice-relend-prefix-refused c = search needs
+
+slice-aggregate-refused : tie.Need-slice-aggregate-refused
+slice-aggregate-refused c = sym (again-long (c .before .before .before .before .before))
+
+refused-requires : tie.Need-refused-requires
+refused-requires c κs = (formed-past (c .before .before .before .before .before .before .before .before), again-long (c .before .before .before .before .before))
+
+same-length-2 : tie.Need-same-length-2
+same-length-2 c = search needs
+
+returns-4 : tie.Need-returns-4
+returns-4 c =
+    let above = c .before .before .before .before .if3 .left in
+    let s = c .before .before .before .before .before .before .before .before in
+    let e = c .before .before .refused .ensures in
+    let a = s .before .before .before .before .before .before .args in
+    let p = planOf (a .planner) in
+    least-ends p (a .scratch .now)
+    (ends-found-again 22 p (a .scratch .now) (s .climb .last .1 .0) (formed-past (s .before .before .before)) (s .before .before .if2 .left) (work-long s) (s .climb .ensures .0) (found-above 22 p above (e .0 22)) (demands-above p above (e .1)))
 
 pub least-spec : {M : Type 1} → statement M
 least-spec =
@@ -77,8 +96,11 @@ least-spec =
     slice-relend-prefix-climb
     slice-aggregate-climb
     climb-requires
-    slice-relend-prefix-conclude
-    slice-aggregate-conclude
-    conclude-requires
+    cast-top
     same-length
-    returns-3)
+    returns-3
+    slice-relend-prefix-refused
+    slice-aggregate-refused
+    refused-requires
+    same-length-2
+    returns-4)

@@ -9,7 +9,7 @@ use borrow.Author.Tests.{not-true, not-false}
 use Rattle.cqf.specs.Limits.{portSlots}
 use Rattle.cqf.specs.Plan.{wellFormed}
 use Rattle.planner.specs.Answer.{planOf}
-use Rattle.planner.specs.laws.Searched.{ends-no-plan, ends-short, ends-found, margin-safe-ends}
+use Rattle.planner.specs.laws.Searched.{ends-no-plan, ends-short, ends-found-again, margin-safe-ends}
 use Rattle.planner.proofs.descend.margin_safe.Statement.{statement}
 use Rattle.planner.proofs.descend.margin_safe.Tie as tie
 
@@ -30,7 +30,7 @@ again-long
 again-long c = ap length (take-at (c .descend .last .1 .0) _ 64 (work-long c)) ∙ work-long c
 
 formed-requires : tie.Need-formed-requires
-formed-requires c κs = search needs
+formed-requires c κs = tt
 
 returns : tie.Need-returns
 returns c = margin-safe-ends _ _ (ends-no-plan 23 _ _ _ (sym (c .before .formed .ensures) ∙ not-true _ (c .if1 .taken)))
@@ -39,7 +39,7 @@ returns-2 : tie.Need-returns-2
 returns-2 c = margin-safe-ends _ _ (ends-short 23 _ _ _ (formed-past (c .before)) (c .if2 .taken))
 
 slice-relend-prefix-descend : tie.Need-slice-relend-prefix-descend
-slice-relend-prefix-descend c = search needs
+slice-relend-prefix-descend c = c .if2 .left
 
 slice-aggregate-descend : tie.Need-slice-aggregate-descend
 slice-aggregate-descend c = sym (part-long c)
@@ -65,7 +65,7 @@ returns-3 c =
     let e = c .before .before .conclude .ensures in
     let a = s .before .before .before .before .before .before .args in
     margin-safe-ends (planOf (a .planner)) (a .scratch .now)
-    (ends-found 23 (planOf (a .planner)) (a .scratch .now) (s .descend .last .1 .0) (formed-past (s .before .before .before)) (s .before .before .if2 .left) (work-long s) (s .descend .ensures) (e .0 23) (e .1))
+    (ends-found-again 23 (planOf (a .planner)) (a .scratch .now) (s .descend .last .1 .0) (formed-past (s .before .before .before)) (s .before .before .if2 .left) (work-long s) (s .descend .ensures) (e .0 23) (e .1))
 
 pub margin-safe-spec : {M : Type 1} → statement M
 margin-safe-spec =
