@@ -5,7 +5,6 @@ pub mod Formed
 pub mod Bounds
 pub mod Route
 pub mod Slot
-pub mod Tests
 pub mod Tabulate
 pub mod Ceil
 pub mod Arrivals

@@ -1,5 +1,4 @@
 -- Laws of the definitions: numbers in bytes, heads, values, routes; the walk over the fields and what an accepted plan is.
-pub mod Tests
 pub mod Whole
 pub mod Lists
 pub mod Route
@@ -16,9 +15,8 @@ pub mod Commute
 pub mod Stored
 pub mod Order
 pub mod Within
-pub mod Every
 pub mod Found
 pub mod Steps
 pub mod Absent
 pub mod Closing
-pub mod Sized
+pub mod PlanLength

@@ -1,13 +1,11 @@
 -- The theorems over rows of calls. Demand 3: the answer of the plain question to a duration of the held plan means what it says
 -- of every emission and its whole run. And the order of a plan's fields changes no answer.
 use mathlib.Core.Path.{_≡_, refl, sym, ap, _∙_}
-use mathlib.Core.List.{List, [], _∷_}
+use mathlib.Core.List.{List}
 use mathlib.Core.Option.{some}
 use mathlib.Core.Bool.{Bool, true, false, cond, true≢false}
-use Prim.Native.Nat.{ℕ, _≤_}
+use Prim.Native.Nat.{ℕ}
 use native.Mathlib.Omega.{arith}
-use borrow.Author.Tests.{le-leb}
-use Rattle.cqf.specs.Bounded.{within}
 use Rattle.cqf.specs.Plan.{Plan, wellFormed}
 use Rattle.cqf.specs.Condition.{admissible, failing, lowestFailing}
 use Rattle.cqf.specs.LargeEnough.{LargeEnough}
@@ -16,28 +14,15 @@ use Rattle.plan.specs.FieldOrder.{SameFields}
 use Rattle.plan.specs.Reading.{accepted, readPlan}
 use Rattle.plan.specs.laws.Order.{field-order}
 use Rattle.plan.specs.laws.Sound.{accepted-formed}
-use Rattle.planner.specs.Outcome.{Answer, result, refusal, failingAt, checkAnswer, slackAnswer, leastAnswer, leastLeaves, marginSafeAnswer, marginSafeLeaves}
+use Rattle.planner.specs.Outcome.{result, failingAt, checkAnswer, slackAnswer, leastAnswer, leastLeaves, marginSafeAnswer, marginSafeLeaves}
 use Rattle.planner.specs.Demand3.{Means, Demand3}
 use Rattle.planner.specs.SameAnswers.{SameAnswers}
 use Rattle.planner.specs.Calls.{Call, after, heldBytes}
+use Rattle.planner.specs.laws.Answers.{verdict, check-within}
 use Rattle.planner.specs.laws.Rows.{after-held, after-loaded}
 
--- the plain question of a well-formed plan, at a duration from 1 to its top
-abbrev plainAnswer : Plan → ℕ → Answer (Unit {0})
-plainAnswer p T = cond (admissible p T) (result tt) (failingAt 21 p T)
-
--- two tests that hold are passed: 20, then 10
-both-pass : {A : Type 0} (a b : Bool) (x y z : A) → a ≡ true → b ≡ true → cond a (cond b x y) z ≡ x
-both-pass a b x y z e d = rw (e, d)
-
-check-plain : (p : Plan) (T : ℕ) → wellFormed p ≡ true → 1 ≤ T → T ≤ p .top → checkAnswer p T ≡ plainAnswer p T
-unfolding checkAnswer
-check-plain p T formed low high =
-    let ranged : within 1 (p .top) T ≡ true = rw (le-leb 1 T low, le-leb T (p .top) high) in
-    both-pass (wellFormed p) (within 1 (p .top) T) (plainAnswer p T) (refusal 10 (0 ∷ [])) (refusal 20 (0 ∷ [])) formed ranged
-
--- its answer means what the theorem says
-plain-means : (p : Plan) (T : ℕ) → LargeEnough p T → Means p T (plainAnswer p T)
+-- the verdict of the plain question means what the theorem says
+plain-means : (p : Plan) (T : ℕ) → LargeEnough p T → Means p T (verdict p T)
 plain-means p T h = go (admissible p T) refl
   where
     go : (b : Bool) → admissible p T ≡ b → Means p T (cond b (result tt) (failingAt 21 p T))
@@ -78,7 +63,7 @@ pub demand3 : (tables : Plan) (T : ℕ) → Demand3 tables T (checkAnswer tables
 demand3 tables T calls bytes p ports flows left held reads low high =
     let formed : wellFormed p ≡ true = accepted-formed bytes p ports flows reads in
     let same : tables ≡ p = left ∙ after-held calls bytes held p ports flows reads in
-    rw (same, check-plain p T formed low high) (plain-means p T (accepted-large-enough bytes p ports flows reads T low high))
+    rw (same, check-within p T formed low high) (plain-means p T (accepted-large-enough bytes p ports flows reads T low high))
 
 -- two rows of calls whose last accepted plans have the same fields, in any order, leave planners that answer alike
 pub order-free

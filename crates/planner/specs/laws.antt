@@ -1,7 +1,6 @@
 -- Laws of the calls.
 pub mod Rows
 pub mod Copy
-pub mod Ports
 pub mod Load
 pub mod Marks
 pub mod Sums

@@ -1,6 +1,6 @@
 -- Laws of the division rounded up: how many periods cover a duration.
 use Prim.Native.Nat.{ℕ, zero, suc, pred, _+_, _*_, _≤_, _<_}
-use native.Mathlib.Nat.{suc-mul, le-mul-of-pos-right, div-zero, lt-div-mul-add, le-div-iff-mul-le, div-lt-iff-lt-mul, le-trans, le-of-suc-le-suc}
+use native.Mathlib.Nat.{suc-mul, div-zero, lt-div-mul-add, le-div-iff-mul-le, div-lt-iff-lt-mul, le-trans, le-of-suc-le-suc}
 use native.Mathlib.Omega.{arith}
 use Rattle.cqf.specs.Condition.{ceilDiv}
 
@@ -33,7 +33,3 @@ ceil-mono zero {T} {U} l = omega (arith, div-zero (T + pred zero))
 ceil-mono (suc P) {T} {U} l =
     let h : 0 < suc P = omega arith in
     ceil-least T (ceilDiv U (suc P)) h (le-trans l (ceil-covers U h))
-
--- no more periods than ns
-pub ceil-le-self : (T : ℕ) {P : ℕ} → 0 < P → ceilDiv T P ≤ T
-ceil-le-self T {P} h = ceil-least T T h (le-mul-of-pos-right T h)

@@ -4,12 +4,24 @@ use mathlib.Core.Logic.{_⊎_, inl, inr}
 use mathlib.Core.Bool.{Bool, true, _&&_, false≢true, and-eq-true-iff}
 use Prim.Native.Nat.{ℕ, _≤_, _<_}
 use native.Mathlib.Omega.{arith}
-use lib.Dec.{eqb}
 use borrow.Author.Tests.{eqb-true, ltb-true, leb-true, lt-ltb}
-use Rattle.cqf.specs.Bounded.{elem, distinct, every, row}
-use Rattle.cqf.specs.Limits.{portSlots, flowSlots, maxHops, periodOk, countOk, lengthOk, hopsOk}
+use Rattle.cqf.specs.Bounded.{elem, distinct, every, row, allTo, anyTo}
+use Rattle.cqf.specs.Limits.{portSlots, flowSlots, maxHops, guardOk, topOk}
 use Rattle.cqf.specs.Plan.{Plan, periodOf, countOf, lengthOf, hopsOf, routeOf, present, crosses, portIn, portSound, flowSound, wellFormed}
 use Rattle.cqf.specs.laws.Bounded.{or-cases, allTo-at}
+use Rattle.cqf.specs.laws.Slot.{emptyAt, heldAt}
+
+-- a plan is well formed as its five tests say
+pub formed-by
+    : (p : Plan) {top guard ports flows some : Bool}
+    → topOk (p .top) ≡ top
+    → guardOk (p .guard) ≡ guard
+    → allTo portSlots (portSound p) ≡ ports
+    → allTo flowSlots (flowSound p) ≡ flows
+    → anyTo flowSlots (present p) ≡ some
+    → wellFormed p ≡ top && guard && ports && flows && some
+unfolding wellFormed
+formed-by p e1 e2 e3 e4 e5 = λ i. e1 i && e2 i && e3 i && e4 i && e5 i
 
 -- a slot without a flow
 pub record Empty (p : Plan) (f : ℕ) : Type 0 where
@@ -24,9 +36,7 @@ pub record Held (p : Plan) (f : ℕ) : Type 0 where
   pub period-most : periodOf p f ≤ 100000000
   pub count-least : 1 ≤ countOf p f
   pub count-most : countOf p f ≤ 64
-  pub bytes-least : 64 ≤ lengthOf p f
   pub bytes-most : lengthOf p f ≤ 2000
-  pub hops-least : 1 ≤ hopsOf p f
   pub hops-most : hopsOf p f ≤ maxHops
   pub in-plan : every (portIn (p .rates)) (routeOf p f) ≡ true
   pub once : distinct (routeOf p f) ≡ true
@@ -35,21 +45,8 @@ pub record Held (p : Plan) (f : ℕ) : Type 0 where
 pub held-period : (p : Plan) (f : ℕ) → Held p f → 0 < periodOf p f
 held-period p f flow = omega (arith, flow .period-least)
 
--- the two tests of a slot, either of which makes it sound
-abbrev emptyTest : Plan → ℕ → Bool
-emptyTest p f = eqb (periodOf p f) 0 && eqb (countOf p f) 0 && eqb (lengthOf p f) 0 && eqb (hopsOf p f) 0
-
-abbrev heldTest : Plan → ℕ → Bool
-heldTest p f =
-    periodOk (periodOf p f)
-    && countOk (countOf p f)
-    && lengthOk (lengthOf p f)
-    && hopsOk (hopsOf p f)
-    && every (portIn (p .rates)) (routeOf p f)
-    && distinct (routeOf p f)
-
--- what each test says
-empty : (p : Plan) (f : ℕ) → emptyTest p f ≡ true → Empty p f
+-- what each test of a slot says
+empty : (p : Plan) (f : ℕ) → emptyAt p f ≡ true → Empty p f
 empty p f h =
     let t = simp and-eq-true-iff at h in
     record {
@@ -59,7 +56,7 @@ empty p f h =
       hops = eqb-true _ _ (t .1);
     }
 
-held : (p : Plan) (f : ℕ) → heldTest p f ≡ true → Held p f
+held : (p : Plan) (f : ℕ) → heldAt (p .rates) p f ≡ true → Held p f
 held p f h =
     let t = simp and-eq-true-iff at h in
     record {
@@ -67,9 +64,7 @@ held p f h =
       period-most = leb-true _ _ (t .0 .0 .0 .0 .0 .1);
       count-least = leb-true _ _ (t .0 .0 .0 .0 .1 .0);
       count-most = leb-true _ _ (t .0 .0 .0 .0 .1 .1);
-      bytes-least = leb-true _ _ (t .0 .0 .0 .1 .0);
       bytes-most = leb-true _ _ (t .0 .0 .0 .1 .1);
-      hops-least = leb-true _ _ (t .0 .0 .1 .0);
       hops-most = leb-true _ _ (t .0 .0 .1 .1);
       in-plan = t .0 .1;
       once = t .1;
@@ -89,7 +84,7 @@ module _ (p : Plan) (formed : wellFormed p ≡ true) where
   pub slot-cases : (f : ℕ) → f < flowSlots → Empty p f ⊎ Held p f
   unfolding flowSound
   slot-cases f l =
-      or-cases (emptyTest p f) (heldTest p f) (flows-sound f l) (λ h. inl (empty p f h)) (λ h. inr (held p f h))
+      or-cases (emptyAt p f) (heldAt (p .rates) p f) (flows-sound f l) (λ h. inl (empty p f h)) (λ h. inr (held p f h))
 
   -- a flow that is present is in its range
   pub present-slot : (f : ℕ) → present p f ≡ true → f < flowSlots

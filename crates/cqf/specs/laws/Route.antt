@@ -88,7 +88,8 @@ route-test b l at (suc h) =
 
 -- the tests of a port number that a route names
 module _ (rates : List ℕ) (n : ℕ) where
-  rate-at : 0 < n → getD (0 ∷ rates) n 0 ≡ getD rates (n - 1) 0
+  -- port n, from 1 on, stands in slot n - 1
+  pub rate-at : 0 < n → getD (0 ∷ rates) n 0 ≡ getD rates (n - 1) 0
   rate-at some = go n some
     where
       go : (n : ℕ) → 0 < n → getD (0 ∷ rates) n 0 ≡ getD rates (n - 1) 0

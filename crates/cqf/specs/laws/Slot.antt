@@ -1,12 +1,25 @@
--- The test of a flow's slot, number by number.
+-- The two tests of a flow's slot, either of which makes it sound, and the slot's soundness number by number.
 use mathlib.Core.Path.{_≡_}
 use mathlib.Core.Bool.{Bool, true, false, _&&_, or-false, and-eq-true-iff}
+use mathlib.Core.List.{List}
 use Prim.Native.Nat.{ℕ, _≤_}
 use lib.Dec.{eqb}
 use borrow.Author.Tests.{ne-eqb, leb-true}
 use Rattle.cqf.specs.Bounded.{distinct, every}
 use Rattle.cqf.specs.Limits.{maxHops, periodOk, countOk, lengthOk, hopsOk}
 use Rattle.cqf.specs.Plan.{Plan, periodOf, countOf, lengthOf, hopsOf, routeOf, portIn, flowSound}
+
+-- slot f is empty
+abbrev pub emptyAt : Plan → ℕ → Bool
+emptyAt p f = eqb (periodOf p f) 0 && eqb (countOf p f) 0 && eqb (lengthOf p f) 0 && eqb (hopsOf p f) 0
+
+-- the four numbers of its flow are in range
+abbrev pub ranged : Plan → ℕ → Bool
+ranged p f = periodOk (periodOf p f) && countOk (countOf p f) && lengthOk (lengthOf p f) && hopsOk (hopsOf p f)
+
+-- it holds a flow in range over distinct ports with these rates
+abbrev pub heldAt : List ℕ → Plan → ℕ → Bool
+heldAt rates p f = ranged p f && every (portIn rates) (routeOf p f) && distinct (routeOf p f)
 
 module _ (p : Plan) (f : ℕ) where
   -- an empty slot has only 0
@@ -22,27 +35,23 @@ module _ (p : Plan) (f : ℕ) where
   unfolding flowSound
   slot-hops e d c = rw (e, d, c) (or-false (eqb (hopsOf p f) 0))
 
-  -- the four numbers of a flow are in range
-  abbrev pub ranged : Bool
-  ranged = periodOk (periodOf p f) && countOk (countOf p f) && lengthOk (lengthOf p f) && hopsOk (hopsOf p f)
-
   -- any other slot is as sound as its range and its route
   sound-by
       : (r : Bool)
-      → ranged ≡ r
+      → ranged p f ≡ r
       → (periodOf p f ≡ 0 → ⊥)
       → flowSound p f ≡ (r && every (portIn (p .rates)) (routeOf p f) && distinct (routeOf p f))
   unfolding flowSound
   sound-by r e ne = rw (ne-eqb (periodOf p f) 0 ne, e)
 
-  pub slot-range : (periodOf p f ≡ 0 → ⊥) → ranged ≡ false → flowSound p f ≡ false
+  pub slot-range : (periodOf p f ≡ 0 → ⊥) → ranged p f ≡ false → flowSound p f ≡ false
   slot-range ne e = sound-by false e ne
 
   pub slot-route
       : (periodOf p f ≡ 0 → ⊥)
-      → ranged ≡ true
+      → ranged p f ≡ true
       → flowSound p f ≡ every (portIn (p .rates)) (routeOf p f) && distinct (routeOf p f)
   slot-route ne e = sound-by true e ne
 
-  pub ranged-hops : ranged ≡ true → hopsOf p f ≤ maxHops
+  pub ranged-hops : ranged p f ≡ true → hopsOf p f ≤ maxHops
   ranged-hops e = let t = simp and-eq-true-iff at e in leb-true (hopsOf p f) maxHops (t .1 .1)

@@ -16,7 +16,7 @@ use Rattle.plan.specs.Field.{Field, header, port, flow, routeIn}
 use Rattle.plan.specs.Draft.{Draft, taken, store, added, portsIn, flowsIn}
 use Rattle.plan.specs.laws.Passes.{FlowPasses, Passes}
 use Rattle.plan.specs.laws.Route.{route-length}
-use Rattle.plan.specs.laws.Slots.{within-least, within-most, slot-fits}
+use Rattle.plan.specs.laws.Within.{within-low, within-high, slot-below}
 use Rattle.plan.specs.laws.Stores.{sets-comm}
 use Rattle.plan.specs.laws.Tables.{Sized}
 
@@ -69,7 +69,7 @@ pub fresh-apart
     → taken (store p x v) y ≡ false
     → Apart x y
 unfolding taken store
-fresh-apart p tag tag′ v w (header g t) (header g′ t′) s k m e = above t (within-least _ _ t (k .top-ok)) e
+fresh-apart p tag tag′ v w (header g t) (header g′ t′) s k m e = above t (within-low _ _ t (k .ok .top)) e
 fresh-apart p tag tag′ v w (header g t) (port n r b) s k m e = tt
 fresh-apart p tag tag′ v w (header g t) (flow n o c l h) s k m e = tt
 fresh-apart p tag tag′ v w (port n r b) (header g t) s k m e = tt
@@ -77,8 +77,8 @@ fresh-apart p tag tag′ v w (port n r b) (port n′ r′ b′) s k m e = apart
   where
     apart : n - 1 ≢ n′ - 1
     apart same =
-        let fits = slot-fits portSlots n (k .number-ok) in
-        above r (within-least _ _ r (k .rate-ok))
+        let fits = slot-below portSlots n (k .ok .number) in
+        above r (within-low _ _ r (k .ok .rate))
         (rw (← same, getD-set-same (p .rates) (n - 1) r 0 (rw (s .rates) fits)) at e)
 fresh-apart p tag tag′ v w (port n r b) (flow n′ o c l h) s k m e = tt
 fresh-apart p tag tag′ v w (flow n o c l h) (header g t) s k m e = tt
@@ -87,14 +87,14 @@ fresh-apart p tag tag′ v w (flow n o c l h) (flow n′ o′ c′ l′ h′) s 
   where
     apart : n - 1 ≢ n′ - 1
     apart same =
-        let fits = slot-fits flowSlots n (k .number-ok) in
-        above o (omega (arith, within-least _ _ o (k .period-ok)))
+        let fits = slot-below flowSlots n (k .ok .number) in
+        above o (omega (arith, within-low _ _ o (k .ok .period)))
         (rw (← same, getD-set-same (p .periods) (n - 1) o 0 (rw (s .periods) fits)) at e)
 
 -- the route of a flow that passes fits its slot
 short-route : (tag n o c l h : ℕ) (v : List ℕ) → FlowPasses tag v n o c l h → length (routeIn v) ≤ maxHops
 short-route tag n o c l h v k =
-    omega (arith, route-length v, k .hops, within-most _ _ h (k .hops-ok))
+    omega (arith, route-length v, k .hops, within-high _ _ h (k .ok .hops))
 
 -- routes of two slots do not meet
 routes-apart

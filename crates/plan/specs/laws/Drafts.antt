@@ -17,7 +17,8 @@ use Rattle.cqf.specs.Plan.{Plan, noPlan, periodOf, routeOf, present, portIn, po
 use Rattle.plan.specs.Field.{header, port, flow, routeIn}
 use Rattle.plan.specs.Draft.{Draft, blank, store, added}
 use Rattle.plan.specs.laws.Passes.{HeaderPasses, PortPasses, FlowPasses}
-use Rattle.plan.specs.laws.Slots.{within-least, within-most, slot-fits, soundIn, sound-hops, port-kept, flow-kept, port-filled, flow-filled}
+use Rattle.plan.specs.laws.Within.{within-low, within-high, slot-below}
+use Rattle.plan.specs.laws.Slots.{soundIn, sound-hops, port-kept, flow-kept, port-filled, flow-filled}
 use Rattle.plan.specs.laws.Tables
 use Rattle.plan.specs.laws.Tables.{Sized, sized-none, sized-store}
 
@@ -52,8 +53,8 @@ unfolding added store portSound soundIn
 header-sound rates d tag g t v h s =
     record {
       sized = sized-store (d .tables) (header g t) v (s .sized);
-      guard = h .guard-ok;
-      top = rw (h .top-ok) (or-true (eqb t 0));
+      guard = h .ok .guard;
+      top = rw (h .ok .top) (or-true (eqb t 0));
       ports = s .ports;
       flows = s .flows;
       some = rw add-zero (s .some);
@@ -80,13 +81,13 @@ port-sound rates d tag n r b v h s =
     p = d .tables
 
     fits : n - 1 < portSlots
-    fits = slot-fits portSlots n (h .number-ok)
+    fits = slot-below portSlots n (h .ok .number)
 
     slot : (q : ℕ) → q < portSlots → Dec (q ≡ n - 1) → portSound (store p (port n r b) v) q ≡ true
     slot q l (yes e) =
         port-filled (store p (port n r b) v) q
-        (rw (e, getD-set-same (p .rates) (n - 1) r 0 (rw (s .sized .rates) fits)) (h .rate-ok))
-        (rw (e, getD-set-same (p .blockings) (n - 1) b 0 (rw (s .sized .blockings) fits)) (h .blocking-ok))
+        (rw (e, getD-set-same (p .rates) (n - 1) r 0 (rw (s .sized .rates) fits)) (h .ok .rate))
+        (rw (e, getD-set-same (p .blockings) (n - 1) b 0 (rw (s .sized .blockings) fits)) (h .ok .blocking))
     slot q l (no ne) =
         port-kept p (store p (port n r b) v) q
         (getD-set-other (p .rates) (n - 1) q r 0 ne)
@@ -119,10 +120,10 @@ flow-sound rates d tag n t c l h v k once named s =
     o = store p (flow n t c l h) v
 
     fits : n - 1 < flowSlots
-    fits = slot-fits flowSlots n (k .number-ok)
+    fits = slot-below flowSlots n (k .ok .number)
 
     short : h ≤ maxHops
-    short = within-most _ _ h (k .hops-ok)
+    short = within-high _ _ h (k .ok .hops)
 
     period : periodOf o (n - 1) ≡ t
     period = Tables.stored-period p (s .sized) n t c l h v fits
@@ -132,16 +133,16 @@ flow-sound rates d tag n t c l h v k once named s =
 
     here : present o (n - 1) ≡ true
     here =
-        let long : 0 < t = omega (arith, within-least _ _ t (k .period-ok)) in
+        let long : 0 < t = omega (arith, within-low _ _ t (k .ok .period)) in
         rw (lt-ltb (n - 1) flowSlots fits, period, lt-ltb 0 t long)
 
     new : soundIn rates o (n - 1) ≡ true
     new =
         flow-filled rates o (n - 1)
-        (rw period (k .period-ok))
-        (rw (Tables.stored-count p (s .sized) n t c l h v fits) (k .count-ok))
-        (rw (Tables.stored-bytes p (s .sized) n t c l h v fits) (k .bytes-ok))
-        (rw (Tables.stored-hops p (s .sized) n t c l h v fits) (k .hops-ok))
+        (rw period (k .ok .period))
+        (rw (Tables.stored-count p (s .sized) n t c l h v fits) (k .ok .count))
+        (rw (Tables.stored-bytes p (s .sized) n t c l h v fits) (k .ok .length))
+        (rw (Tables.stored-hops p (s .sized) n t c l h v fits) (k .ok .hops))
         (rw route named)
         (rw route once)
 

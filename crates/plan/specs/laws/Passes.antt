@@ -1,7 +1,7 @@
 -- What the tests 2 to 5 leave of a field: where it stands, its numbers and their ranges.
 use mathlib.Core.Path.{_≡_, refl, subst}
 use mathlib.Core.List.{List}
-use mathlib.Core.Bool.{Bool, true, false, cond, _&&_}
+use mathlib.Core.Bool.{Bool, true, false, cond, _&&_, and-eq-true-iff}
 use Prim.Native.Nat.{ℕ, _+_, _*_}
 use native.Mathlib.Omega.{arith}
 use lib.Dec.{eqb}
@@ -11,24 +11,21 @@ use Rattle.cqf.specs.Bounded.{every}
 use Rattle.cqf.specs.Limits.{guardOk, topOk, portOk, rateOk, lengthOk, blockingOk, flowOk, periodOk, countOk, hopsOk}
 use Rattle.plan.specs.Bytes.{number2, number4, headSize, tagAt, sizeAt, wholeAt, valueAt}
 use Rattle.plan.specs.Field.{Field, header, port, flow, FieldRead, field, refused, unless, headerTag, portTag, flowTag, headerSize, portSize, flowSize, hopsIn, routeIn, headerIn, portInValue, flowIn, fieldIn, fieldAt}
-use Rattle.plan.specs.laws.Tests.{and-left, and-right}
+use Rattle.plan.specs.Ranges.{HeaderOk, PortOk, FlowOk}
 
 -- the numbers of a header, a port and a flow are those of the value, in range
 pub record HeaderPasses (tag : ℕ) (v : List ℕ) (g t : ℕ) : Type 0 where
   pub kind : tag ≡ headerTag
   pub guard : g ≡ number4 v 0
   pub top : t ≡ number4 v 4
-  pub guard-ok : guardOk g ≡ true
-  pub top-ok : topOk t ≡ true
+  pub ok : HeaderOk g t
 
 pub record PortPasses (tag : ℕ) (v : List ℕ) (n r b : ℕ) : Type 0 where
   pub kind : tag ≡ portTag
   pub number : n ≡ number2 v 0
   pub rate : r ≡ number4 v 2
   pub blocking : b ≡ number2 v 6
-  pub number-ok : portOk n ≡ true
-  pub rate-ok : rateOk r ≡ true
-  pub blocking-ok : blockingOk b ≡ true
+  pub ok : PortOk n r b
 
 pub record FlowPasses (tag : ℕ) (v : List ℕ) (n p c l h : ℕ) : Type 0 where
   pub kind : tag ≡ flowTag
@@ -37,11 +34,8 @@ pub record FlowPasses (tag : ℕ) (v : List ℕ) (n p c l h : ℕ) : Type 0 wher
   pub count : c ≡ number2 v 6
   pub bytes : l ≡ number2 v 8
   pub hops : h ≡ hopsIn (length v)
-  pub number-ok : flowOk n ≡ true
-  pub period-ok : periodOk p ≡ true
-  pub count-ok : countOk c ≡ true
-  pub bytes-ok : lengthOk l ≡ true
-  pub hops-ok : hopsOk h ≡ true
+  pub ok : FlowOk n p c l h
+  pub ports : every portOk (routeIn v) ≡ true
 
 -- field x is the one of this tag and value
 abbrev pub Passes : ℕ → List ℕ → Field → Type 0
@@ -51,15 +45,19 @@ Passes tag v (flow n p c l h) = FlowPasses tag v n p c l h
 
 -- the parts of a longer conjunction
 and-three : (a b c : Bool) → a && b && c ≡ true → (a ≡ true) × (b ≡ true) × (c ≡ true)
-and-three a b c e = let l = and-left (a && b) c e in (and-left a b l, and-right a b l, and-right (a && b) c e)
+and-three a b c e =
+    let l = and-eq-true-iff (a && b) c .0 e in
+    let m = and-eq-true-iff a b .0 (l .0) in
+    (m .0, m .1, l .1)
 
 and-five
     : (a b c d f : Bool)
     → a && b && c && d && f ≡ true
     → (a ≡ true) × (b ≡ true) × (c ≡ true) × (d ≡ true) × (f ≡ true)
 and-five a b c d f e =
-    let l = and-three a b c (and-left (a && b && c) d (and-left (a && b && c && d) f e)) in
-    (l .0, l .1, l .2, and-right (a && b && c) d (and-left (a && b && c && d) f e), and-right (a && b && c && d) f e)
+    let l = and-three (a && b && c) d f e in
+    let m = and-three a b c (l .0) in
+    (m .0, m .1, m .2, l .1, l .2)
 
 -- a test that let a field pass held
 unless-passes
@@ -87,13 +85,13 @@ module _ (tag : ℕ) (v : List ℕ) (at after : ℕ) {x : Field} {next : ℕ} wh
   header-read k e =
       let a = unless-passes 4 at (eqb (length v) headerSize) _ e in
       let b = unless-passes 5 at (guardOk (number4 v 0) && topOk (number4 v 4)) _ (a .1) in
+      let t = and-eq-true-iff (guardOk (number4 v 0)) (topOk (number4 v 4)) .0 (b .0) in
       read-as tag v after (header (number4 v 0) (number4 v 4))
       (record {
         kind = k;
         guard = refl;
         top = refl;
-        guard-ok = and-left _ _ (b .0);
-        top-ok = and-right (guardOk (number4 v 0)) _ (b .0);
+        ok = record { guard = t .0; top = t .1 };
       })
       (b .1)
 
@@ -109,9 +107,7 @@ module _ (tag : ℕ) (v : List ℕ) (at after : ℕ) {x : Field} {next : ℕ} wh
         number = refl;
         rate = refl;
         blocking = refl;
-        number-ok = t .0;
-        rate-ok = t .1;
-        blocking-ok = t .2;
+        ok = record { number = t .0; rate = t .1; blocking = t .2 };
       })
       (b .1)
 
@@ -133,11 +129,8 @@ module _ (tag : ℕ) (v : List ℕ) (at after : ℕ) {x : Field} {next : ℕ} wh
         count = refl;
         bytes = refl;
         hops = refl;
-        number-ok = t .0;
-        period-ok = t .1;
-        count-ok = t .2;
-        bytes-ok = t .3;
-        hops-ok = and-left _ _ (a .0);
+        ok = record { number = t .0; period = t .1; count = t .2; length = t .3; hops = and-eq-true-iff _ _ .0 (a .0) .0 };
+        ports = t .4;
       })
       (b .1)
 

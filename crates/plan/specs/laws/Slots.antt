@@ -2,40 +2,17 @@
 use mathlib.Core.Path.{_≡_}
 use mathlib.Core.List.{List}
 use mathlib.Core.Bool.{Bool, true, _&&_, _||_, and-eq-true-iff, or-true}
-use Prim.Native.Nat.{ℕ, _-_, _≤_, _<_}
+use Prim.Native.Nat.{ℕ, _≤_}
 use native.Mathlib.Omega.{arith}
-use lib.Dec.{leb, eqb}
+use lib.Dec.{eqb}
 use borrow.Author.Tests.{leb-true, eqb-true}
-use Rattle.cqf.specs.Bounded.{within, every, distinct}
+use Rattle.cqf.specs.Bounded.{every, distinct}
 use Rattle.cqf.specs.Limits.{maxHops, rateOk, blockingOk, lengthOk, periodOk, countOk, hopsOk}
 use Rattle.cqf.specs.Plan.{Plan, rateOf, blockingOf, periodOf, countOf, lengthOf, hopsOf, routeOf, portIn, portSound}
 use Rattle.cqf.specs.laws.Bounded.{or-cases}
-use Rattle.plan.specs.laws.Tests.{and-left, and-right}
-
--- a number in its range is no smaller than the least and no larger than the most
-pub within-least : (least most n : ℕ) → within least most n ≡ true → least ≤ n
-within-least least most n e = leb-true least n (and-left (leb least n) (leb n most) e)
-
-pub within-most : (least most n : ℕ) → within least most n ≡ true → n ≤ most
-within-most least most n e = leb-true n most (and-right (leb least n) (leb n most) e)
-
--- a number from 1 has a slot
-pub slot-fits : (slots n : ℕ) → within 1 slots n ≡ true → n - 1 < slots
-slot-fits slots n e = omega (arith, within-least 1 slots n e, within-most 1 slots n e)
+use Rattle.cqf.specs.laws.Slot.{emptyAt, heldAt}
 
 -- whether slot f is empty, or holds a flow in range over distinct ports with these rates
-abbrev pub emptyAt : Plan → ℕ → Bool
-emptyAt p f = eqb (periodOf p f) 0 && eqb (countOf p f) 0 && eqb (lengthOf p f) 0 && eqb (hopsOf p f) 0
-
-abbrev pub heldAt : List ℕ → Plan → ℕ → Bool
-heldAt rates p f =
-    periodOk (periodOf p f)
-    && countOk (countOf p f)
-    && lengthOk (lengthOf p f)
-    && hopsOk (hopsOf p f)
-    && every (portIn rates) (routeOf p f)
-    && distinct (routeOf p f)
-
 unfoldable pub soundIn : List ℕ → Plan → ℕ → Bool
 soundIn rates p f = emptyAt p f || heldAt rates p f
 
@@ -45,7 +22,7 @@ unfolding soundIn
 sound-hops rates p f e = or-cases (emptyAt p f) (heldAt rates p f) e empty held
   where
     empty : emptyAt p f ≡ true → hopsOf p f ≤ maxHops
-    empty h = omega (arith, eqb-true (hopsOf p f) 0 (and-right (eqb (periodOf p f) 0 && eqb (countOf p f) 0 && eqb (lengthOf p f) 0) _ h))
+    empty h = let t = simp and-eq-true-iff at h in omega (arith, eqb-true (hopsOf p f) 0 (t .1))
 
     held : heldAt rates p f ≡ true → hopsOf p f ≤ maxHops
     held h = let t = simp and-eq-true-iff at h in leb-true _ _ (t .0 .0 .1 .1)

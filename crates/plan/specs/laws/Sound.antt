@@ -4,9 +4,7 @@ use mathlib.Core.Logic.{_⊎_, inl, inr}
 use mathlib.Core.List.{List}
 use mathlib.Core.Bool.{true, false, true≢false}
 use Prim.Native.Nat.{ℕ, _<_}
-use native.Mathlib.Omega.{arith}
 use lib.Dec.{eqb}
-use lib.ListN.{length}
 use borrow.Author.Tests.{eq-eqb, not-false}
 use Rattle.cqf.specs.Bounded.{every, distinct, anyTo}
 use Rattle.cqf.specs.Limits.{portSlots, flowSlots, topOk}
@@ -20,6 +18,7 @@ use Rattle.plan.specs.laws.Passes.{Passes, field-is-whole, field-passes}
 use Rattle.plan.specs.laws.Slots.{soundIn}
 use Rattle.plan.specs.laws.Tables
 use Rattle.plan.specs.laws.Walk.{Reads, done, one, accepted-reads, closing-accepted}
+use Rattle.plan.specs.laws.Absent.{absent-flow}
 use Rattle.plan.specs.laws.Named.{Named, named-front}
 use Rattle.plan.specs.laws.Drafts.{Sound, sound-blank, header-sound, port-sound, flow-sound}
 
@@ -33,8 +32,7 @@ named-route
     → tagAt s at ≡ flowTag
     → namesAbsent s at rates ≡ false
     → every (portIn rates) (routeIn (valueAt s at)) ≡ true
-unfolding namesAbsent
-named-route rates s at kind e = not-false _ (rw (eq-eqb _ _ kind) at e)
+named-route rates s at kind e = not-false _ (sym (absent-flow s at rates kind) ∙ e)
 
 -- a field of the walk keeps the draft sound
 field-sound
@@ -101,6 +99,5 @@ accepted-formed s p m k e =
     let a = accepted-reads s p m k e in
     let c = closing-accepted s (a .final) p m k (a .closes) in
     let rates = a .final .tables .rates in
-    let named : Named rates s 0 = record { bound = length s; enough = omega arith; none-absent = c .none-absent } in
-    let h = walk-sound rates s (a .walk) named (sound-blank rates) in
+    let h = walk-sound rates s (a .walk) (c .none-absent) (sound-blank rates) in
     rw (c .plan) at (sound-formed (a .final) h (c .with-header) (c .with-flow))

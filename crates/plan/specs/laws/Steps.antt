@@ -33,6 +33,41 @@ module _ (s : List ℕ) (at : ℕ) (d : Draft) (x : Field) (m : ℕ) (f : fieldA
   pub step-added : taken (d .tables) x ≡ false → loops x (valueAt s at) ≡ false → stepAt s at d ≡ more m (added d x (valueAt s at))
   step-added e g = passed ∙ rw (e, g)
 
+-- a field that was not refused
+pub record Stepped (s : List ℕ) (at : ℕ) (d : Draft) (next : ℕ) (e : Draft) : Type 0 where
+  pub part : Field
+  pub stands : fieldAt s at ≡ field part next
+  pub fresh : taken (d .tables) part ≡ false
+  pub simple : loops part (valueAt s at) ≡ false
+  pub adds : added d part (valueAt s at) ≡ e
+
+pub step-more : (s : List ℕ) (at : ℕ) (d : Draft) (next : ℕ) (e : Draft) → stepAt s at d ≡ more next e → Stepped s at d next e
+unfolding stepAt
+step-more s at d next e h = go (fieldAt s at) refl h
+  where
+    go : (r : FieldRead) → fieldAt s at ≡ r → fieldStep s at d r ≡ more next e → Stepped s at d next e
+    go (refused number offset) q h = let z : _≡_ {A = ℕ} 0 1 = cc in absurd (omega arith)
+    go (field x after) q h = six (taken (d .tables) x) refl h
+      where
+        seven
+            : taken (d .tables) x ≡ false
+            → (b : Bool)
+            → loops x (valueAt s at) ≡ b
+            → cond b (stop 7 at) (more after (added d x (valueAt s at))) ≡ more next e
+            → Stepped s at d next e
+        seven t true l h = let z : _≡_ {A = ℕ} 0 1 = cc in absurd (omega arith)
+        seven t false l h =
+            let to : after ≡ next = cc in
+            record { part = x; stands = rw (← to) q; fresh = t; simple = l; adds = cc }
+
+        six
+            : (b : Bool)
+            → taken (d .tables) x ≡ b
+            → cond b (stop 6 at) (cond (loops x (valueAt s at)) (stop 7 at) (more after (added d x (valueAt s at)))) ≡ more next e
+            → Stepped s at d next e
+        six true t h = let z : _≡_ {A = ℕ} 0 1 = cc in absurd (omega arith)
+        six false t h = seven t (loops x (valueAt s at)) refl h
+
 -- a step that goes on reaches a later offset within the plan, and has counted one field more at the most
 pub record Onward (s : List ℕ) (at : ℕ) (d : Draft) (next : ℕ) (d′ : Draft) : Type 0 where
   pub forward : at + headSize ≤ next
@@ -51,36 +86,18 @@ flowsIn-one (header g t) = omega arith
 flowsIn-one (port n r b) = omega arith
 flowsIn-one (flow n p c l h) = omega arith
 
-stopped : {n o next : ℕ} {d : Draft} → stop n o ≡ more next d → ⊥
-stopped e = let z : _≡_ {A = ℕ} 0 1 = cc in omega arith
-
-module _ (s : List ℕ) (at : ℕ) (d : Draft) (next : ℕ) (d′ : Draft) where
-  -- by the tests 6 and 7
-  tested : (b₁ b₂ : Bool) (x : Field) (m : ℕ) (v : List ℕ) → fieldAt s at ≡ field x m
-      → cond b₁ (stop 6 at) (cond b₂ (stop 7 at) (more m (added d x v))) ≡ more next d′
-      → Onward s at d next d′
-  unfolding added
-  tested true b₂ x m v f e = absurd (stopped e)
-  tested false true x m v f e = absurd (stopped e)
-  tested false false x m v f e =
-      let en : m ≡ next = cc in
-      let ed : added d x v ≡ d′ = cc in
-      let ep : d .ports + portsIn x ≡ d′ .ports = ap (λ (y : Draft). y .ports) ed in
-      let ef : d .flows + flowsIn x ≡ d′ .flows = ap (λ (y : Draft). y .flows) ed in
-      record {
-        forward = omega (arith, found-forward s at x m f);
-        inside = omega (arith, found-within s at x m f);
-        ports = omega (arith, portsIn-one x);
-        flows = omega (arith, flowsIn-one x);
-      }
-
-  by-field : (r : FieldRead) → fieldAt s at ≡ r → fieldStep s at d r ≡ more next d′ → Onward s at d next d′
-  by-field (refused n o) f e = absurd (stopped e)
-  by-field (field x m) f e = tested (taken (d .tables) x) (loops x (valueAt s at)) x m (valueAt s at) f e
-
-  pub onward : stepAt s at d ≡ more next d′ → Onward s at d next d′
-  unfolding stepAt
-  onward e = by-field (fieldAt s at) refl e
+pub onward : (s : List ℕ) (at : ℕ) (d : Draft) (next : ℕ) (d′ : Draft) → stepAt s at d ≡ more next d′ → Onward s at d next d′
+unfolding added
+onward s at d next d′ e =
+    let t = step-more s at d next d′ e in
+    let ep : d .ports + portsIn (t .part) ≡ d′ .ports = ap (λ (y : Draft). y .ports) (t .adds) in
+    let ef : d .flows + flowsIn (t .part) ≡ d′ .flows = ap (λ (y : Draft). y .flows) (t .adds) in
+    record {
+      forward = found-forward s at (t .part) next (t .stands);
+      inside = found-within s at (t .part) next (t .stands);
+      ports = omega (arith, portsIn-one (t .part));
+      flows = omega (arith, flowsIn-one (t .part));
+    }
 
 module _ (s : List ℕ) (at : ℕ) (d : Draft) where
   -- at the plan's end, whatever number of steps is left

@@ -1,16 +1,14 @@
 -- Laws of a field that the plan holds whole: its head, its value, and what of the plan they are.
 use Prim.Native.Nat.{ℕ, _+_, _≤_, _<_}
-use mathlib.Core.Path.{_≡_, refl, sym, _∙_}
+use mathlib.Core.Path.{_≡_, refl, _∙_}
 use mathlib.Core.List.{List, []}
-use mathlib.Core.Bool.{Bool, true, false, and-false}
+use mathlib.Core.Bool.{Bool, true, false, and-false, and-eq-true-iff}
 use native.Mathlib.Omega.{arith}
 use borrow.Author.Tests.{le-leb, lt-leb, leb-true}
 use lib.Dec.{leb}
-use lib.ListN.{length, length-drop}
-use lib.Seq.{length-take-le, getD-take, getD-drop}
-use Rattle.plan.specs.Bytes.{byteAt, headSize, tagAt, sizeAt, wholeAt, valueAt, partAt}
-use Rattle.plan.specs.Field.{HeadRead, head, cut, headAt}
-use Rattle.plan.specs.laws.Tests.{and-right}
+use lib.ListN.{length}
+use Rattle.plan.specs.Bytes.{headSize, tagAt, sizeAt, wholeAt, valueAt, partAt}
+use Rattle.plan.specs.Field.{head, cut, headAt}
 
 module _ (s : List ℕ) (at : ℕ) where
   -- a field is whole exactly where it ends within the plan
@@ -22,7 +20,7 @@ module _ (s : List ℕ) (at : ℕ) where
 
   pub whole-fits : wholeAt s at ≡ true → at + headSize + sizeAt s at ≤ length s
   unfolding wholeAt
-  whole-fits e = leb-true _ _ (and-right (leb (at + headSize) (length s)) _ e)
+  whole-fits e = leb-true _ _ (and-eq-true-iff (leb (at + headSize) (length s)) _ .0 e .1)
 
   pub not-whole : length s < at + headSize + sizeAt s at → wholeAt s at ≡ false
   unfolding wholeAt
@@ -70,12 +68,3 @@ module _ (s : List ℕ) (at : ℕ) where
   pub part-cut : wholeAt s at ≡ false → partAt s at ≡ []
   unfolding partAt
   part-cut e = rw e
-
-  -- the value of a whole field has as many bytes as its head says: those after the head
-  pub value-length : wholeAt s at ≡ true → length (valueAt s at) ≡ sizeAt s at
-  unfolding valueAt
-  value-length e = length-take-le _ _ (simp length-drop (omega (arith, whole-fits e)))
-
-  pub value-byte : (i : ℕ) → i < sizeAt s at → byteAt (valueAt s at) i ≡ byteAt s (at + headSize + i)
-  unfolding valueAt
-  value-byte i h = getD-take _ _ _ 0 h ∙ getD-drop (at + headSize) s i 0

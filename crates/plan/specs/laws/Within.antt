@@ -2,19 +2,19 @@
 use Prim.Native.Nat.{ℕ, _+_, _-_, _*_, _≤_, _<_}
 use native.Mathlib.Omega.{arith}
 use mathlib.Core.Path.{_≡_}
-use mathlib.Core.Bool.{true}
+use mathlib.Core.Bool.{true, and-eq-true-iff}
 use lib.Dec.{leb}
 use borrow.Author.Tests.{leb-true}
 use Rattle.cqf.specs.Bounded.{within}
 use Rattle.cqf.specs.Limits.{flowSlots, maxHops, flowOk, hopsOk}
-use Rattle.plan.specs.laws.Tests.{and-left, and-right}
 
+-- it is no smaller than the least and no larger than the most
 module _ (lo hi n : ℕ) (e : within lo hi n ≡ true) where
   pub within-low : lo ≤ n
-  within-low = leb-true lo n (and-left (leb lo n) (leb n hi) e)
+  within-low = leb-true lo n (and-eq-true-iff (leb lo n) (leb n hi) .0 e .0)
 
   pub within-high : n ≤ hi
-  within-high = leb-true n hi (and-right (leb lo n) (leb n hi) e)
+  within-high = leb-true n hi (and-eq-true-iff (leb lo n) (leb n hi) .0 e .1)
 
 -- a number from 1 on has its slot in the table
 pub slot-below : (slots n : ℕ) → within 1 slots n ≡ true → n - 1 < slots

@@ -5,7 +5,7 @@ use Rattle.plan.specs.Reading.{readPlan}
 use Rattle.planner.specs.Answer.{planOf}
 use Rattle.planner.specs.Loading.{answerOf}
 use mathlib.Core.Path.{_≡_, sym, ap, _∙_}
-use Rattle.plan.specs.laws.Sized.{read-empty, read-long, read-sized}
+use Rattle.plan.specs.laws.PlanLength.{read-empty, read-long, read-sized}
 use Rattle.planner.specs.laws.Load.{refused-leaves, refused-answer, accepted-leaves, accepted-answer}
 use borrow.Author.Needs.{needs}
 use Rattle.planner.proofs.load.Statement.{statement}

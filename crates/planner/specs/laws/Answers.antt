@@ -27,7 +27,8 @@ module _ {A : Type 0} (p : Plan) (T : ℕ) (answer : Answer A) where
 
 -- the plain question
 module _ (p : Plan) (T : ℕ) where
-  abbrev verdict : Answer (Unit {0})
+  -- what it says of a well-formed plan, at a duration from 1 to its top
+  abbrev pub verdict : Answer (Unit {0})
   verdict = cond (admissible p T) (result tt) (failingAt 21 p T)
 
   check-is : checkAnswer p T ≡ asked p T verdict
@@ -43,8 +44,11 @@ module _ (p : Plan) (T : ℕ) where
   pub check-high : wellFormed p ≡ true → p .top < T → checkAnswer p T ≡ refusal 10 (0 ∷ [])
   check-high e l = check-is ∙ asked-high p T verdict e l
 
+  pub check-within : wellFormed p ≡ true → 1 ≤ T → T ≤ p .top → checkAnswer p T ≡ verdict
+  check-within e low high = check-is ∙ asked-within p T verdict e low high
+
   pub check-good : wellFormed p ≡ true → 1 ≤ T → T ≤ p .top → admissible p T ≡ true → checkAnswer p T ≡ result tt
-  check-good e low high good = check-is ∙ asked-within p T verdict e low high ∙ (rw good)
+  check-good e low high good = check-within e low high ∙ (rw good)
 
   pub check-bad
       : {port count : ℕ}
@@ -55,7 +59,7 @@ module _ (p : Plan) (T : ℕ) where
       → port ≡ lowestFailing p T
       → count ≡ failing p T
       → checkAnswer p T ≡ refusal 21 (port ∷ count ∷ [])
-  check-bad e low high bad port count = check-is ∙ asked-within p T verdict e low high ∙ (rw (bad, port, count))
+  check-bad e low high bad port count = check-within e low high ∙ (rw (bad, port, count))
 
 -- the slack of port n
 module _ (p : Plan) (n T : ℕ) where

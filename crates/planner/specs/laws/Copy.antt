@@ -8,7 +8,7 @@ use lib.ListN.{length, getD, set, take}
 use lib.Seq.{sets, take-suc, length-take-le}
 
 -- one more number at the end is one more store, after the others
-pub sets-snoc : (vs : List ℕ) (l : List ℕ) (at a : ℕ) → sets l at (vs ++ (a ∷ [])) ≡ set (sets l at vs) (at + length vs) a
+sets-snoc : (vs : List ℕ) (l : List ℕ) (at a : ℕ) → sets l at (vs ++ (a ∷ [])) ≡ set (sets l at vs) (at + length vs) a
 sets-snoc [] l at a = ap (λ (k : ℕ). set l k a) (omega arith)
 sets-snoc (v ∷ vs) l at a = sets-snoc vs (set l at v) (suc at) a ∙ ap (λ (k : ℕ). set (sets (set l at v) (suc at) vs) k a) (omega arith)
 

@@ -4,14 +4,14 @@ use mathlib.Core.Path.{_≡_, sym, _∙_}
 use mathlib.Core.Bool.{true, _&&_, and-false}
 use native.Mathlib.Omega.{arith}
 use borrow.Author.Needs.{needs}
-use borrow.Author.Tests.{eq-eqb, ne-eqb, leb-true, not-true, not-false}
-use lib.Dec.{eqb, leb}
+use borrow.Author.Tests.{eq-eqb, ne-eqb, not-true, not-false}
+use lib.Dec.{eqb}
 use lib.ListN.{length}
 use denote.Ref.{now}
 use Rattle.cqf.specs.Limits.{maxHops, flowOk, periodOk, countOk, lengthOk, hopsOk}
 use Rattle.plan.specs.Bytes.{number2, number4}
 use Rattle.plan.specs.Field.{flowSize, hopsIn}
-use Rattle.plan.specs.laws.Tests.{and-right}
+use Rattle.plan.specs.laws.Within.{within-high}
 use Rattle.plan.specs.laws.Tested.{flow-length, flow-range, flow-read}
 use Rattle.plan.proofs.read.flow_of.Statement.{statement}
 use Rattle.plan.proofs.read.flow_of.Tie as tie
@@ -73,7 +73,7 @@ cast-t17 : tie.Need-cast-t17
 cast-t17 c =
     let b = c .before .before .before .before .before in
     let n = b .before .before .hops-in .result in
-    omega (arith, leb-true n maxHops (and-right (leb 1 n) _ (many b)))
+    omega (arith, within-high 1 maxHops n (many b))
 
 flow-in-range-requires : tie.Need-flow-in-range-requires
 flow-in-range-requires c κs = search needs

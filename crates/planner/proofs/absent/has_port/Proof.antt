@@ -4,7 +4,7 @@ use mathlib.Core.Bool.{true}
 use borrow.Author.Tests.{not-true, not-false}
 use Rattle.cqf.specs.Limits.{portOk}
 use Rattle.plan.specs.laws.Within.{within-low, slot-below}
-use Rattle.planner.specs.laws.Ports.{slot-of}
+use Rattle.cqf.specs.laws.Route.{rate-at}
 use borrow.Author.Needs.{needs}
 use Rattle.planner.proofs.absent.has_port.Statement.{statement}
 use Rattle.planner.proofs.absent.has_port.Tie as tie
@@ -32,7 +32,7 @@ array-read-rate : tie.Need-array-read-rate
 array-read-rate c = slot-below 64 _ (in-range c)
 
 returns-2 : tie.Need-returns-2
-returns-2 c = rw (in-range c, slot-of (c .before .before .args .t1) (c .before .before .args .number) (within-low 1 64 _ (in-range c)))
+returns-2 c = rw (in-range c, rate-at (c .before .before .args .t1) (c .before .before .args .number) (within-low 1 64 _ (in-range c)))
 
 pub has-port-spec : {M : Type 1} → statement M
 has-port-spec =

@@ -4,7 +4,7 @@ use mathlib.Core.Bool.{and-false}
 use borrow.Author.Needs.{needs}
 use borrow.Author.Tests.{not-true, not-false}
 use Rattle.cqf.specs.Plan.{portSound, flowSound}
-use Rattle.cqf.specs.laws.Tests.{formed-by}
+use Rattle.cqf.specs.laws.Formed.{formed-by}
 use Rattle.planner.specs.Answer.{planOf}
 use Rattle.planner.proofs.formed.formed.Statement.{statement}
 use Rattle.planner.proofs.formed.formed.Tie as tie

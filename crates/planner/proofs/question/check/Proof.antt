@@ -9,7 +9,7 @@ use borrow.Author.Tests.{not-true, not-false}
 use Rattle.cqf.specs.Limits.{portSlots, maxTop}
 use Rattle.cqf.specs.Plan.{Plan, wellFormed}
 use Rattle.cqf.specs.Condition.{fails}
-use Rattle.cqf.specs.laws.Tests.{formed-top}
+use Rattle.cqf.specs.laws.Ranges.{top-most}
 use Rattle.cqf.specs.laws.Tabulate.{tabulate-length}
 use Rattle.planner.specs.Answer.{planOf}
 use Rattle.planner.specs.Outcome.{Answer, checkAnswer}
@@ -42,7 +42,7 @@ module _ (c : tie.Else3) where
   high = c .if3 .left
 
   fits : begin .args .duration ≤ maxTop
-  fits = omega (arith, formed-top (held begin) formed, high)
+  fits = omega (arith, top-most (held begin) formed, high)
 
 -- the set of failing ports
 module _ (c : tie.After-failing-set) where

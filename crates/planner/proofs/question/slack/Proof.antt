@@ -13,7 +13,7 @@ use mir.ValLaws.{toZ-ofZ}
 use Rattle.cqf.specs.Limits.{portSlots, maxTop}
 use Rattle.cqf.specs.Plan.{Plan, rateOf, blockingOf, wellFormed}
 use Rattle.cqf.specs.Condition.{demand}
-use Rattle.cqf.specs.laws.Tests.{formed-top}
+use Rattle.cqf.specs.laws.Ranges.{top-most}
 use Rattle.cqf.specs.laws.Tabulate.{tabulate-at}
 use Rattle.planner.specs.Answer.{planOf}
 use Rattle.planner.specs.Outcome.{result}
@@ -40,7 +40,7 @@ module _ (c : tie.Else3) where
   high = c .if3 .left
 
   fits : begin .args .duration ≤ maxTop
-  fits = omega (arith, formed-top (held begin) formed, high)
+  fits = omega (arith, top-most (held begin) formed, high)
 
 -- the demand of the port asked for
 module _ (c : tie.After-port-demands) where

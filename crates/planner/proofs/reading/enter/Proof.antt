@@ -6,7 +6,8 @@ use Rattle.plan.specs.Bytes.{valueAt}
 use Rattle.plan.specs.Draft.{taken, loops}
 use Rattle.plan.specs.Answer.{fieldOf}
 use Rattle.plan.specs.laws.Whole.{part-whole}
-use Rattle.plan.specs.laws.Found.{found, found-whole}
+use Rattle.plan.specs.laws.Passes.{field-is-whole}
+use Rattle.plan.specs.laws.Found.{found-numbers, found-route}
 use Rattle.plan.specs.laws.Steps.{step-taken, step-loops, step-added}
 use Rattle.planner.specs.Answer.{planOf}
 use Rattle.planner.specs.Loading.{draftOf}
@@ -24,7 +25,7 @@ value-read : (c : tie.After-field-value) →
     now (c .field-value .result) ≡ valueAt (now (c .before .before .before .before .before .args .plan)) (c .before .before .before .before .before .args .at)
 value-read c =
     let a = c .before .before .before .before .before in
-    c .field-value .ensures ∙ part-whole _ _ (found-whole _ _ (fieldOf (a .args .x)) (a .args .next) (a .pre .2))
+    c .field-value .ensures ∙ part-whole _ _ (field-is-whole _ _ (fieldOf (a .args .x)) (a .args .next) (a .pre .2))
 
 looped : (c : tie.After-is-looping) →
     c .is-looping .result
@@ -33,7 +34,7 @@ looped : (c : tie.After-is-looping) →
 looped c = c .is-looping .ensures ∙ rw (value-read (c .before))
 
 is-taken-requires : tie.Need-is-taken-requires
-is-taken-requires c κs = found _ _ _ _ (c .before .before .pre .2) .numbers
+is-taken-requires c κs = found-numbers _ _ _ _ (c .before .before .pre .2)
 
 returns : tie.Need-returns
 returns c =
@@ -56,8 +57,7 @@ returns-2 c =
 with-added-requires : tie.Need-with-added-requires
 with-added-requires c κs =
     let a = c .before .before .before .before .before .before .before in
-    let f = found _ _ _ _ (a .pre .2) in
-    (a .pre .0, a .pre .1, f .numbers, rw (value-read (c .before .before)) (f .route))
+    (a .pre .0, a .pre .1, found-numbers _ _ _ _ (a .pre .2), rw (value-read (c .before .before)) (found-route _ _ _ _ (a .pre .2)))
 
 returns-3 : tie.Need-returns-3
 returns-3 c =

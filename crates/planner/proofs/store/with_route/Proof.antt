@@ -9,7 +9,7 @@ use Rattle.plan.specs.Field.{routeIn, routePort}
 use mathlib.Core.Bool.{true}
 use Rattle.cqf.specs.Limits.{portOk}
 use Rattle.plan.specs.laws.Within.{within-high}
-use Rattle.plan.specs.laws.Every.{every-at}
+use Rattle.cqf.specs.laws.Lists.{every-at}
 use Rattle.planner.specs.laws.Copy.{sets-take}
 use Rattle.planner.proofs.store.with_route.Statement.{statement}
 use Rattle.planner.proofs.store.with_route.Tie as tie
@@ -30,7 +30,7 @@ module _ (c : tie.After-route-port Inv-loop μ-loop) where
   inside = omega (arith, c .before .before .before .before .pre .1 .hops)
 
   in-range : portOk (c .route-port .result) ≡ true
-  in-range = rw read (every-at portOk _ _ (c .before .before .before .before .pre .1 .ports) inside)
+  in-range = rw read (every-at portOk _ (c .before .before .before .before .pre .1 .ports) _ inside)
 
 loop-holds : tie.Need-loop-holds Inv-loop μ-loop
 loop-holds c = (omega arith, refl)
