@@ -12,6 +12,11 @@ pub or-cases : {C : Type 0} (a b : Bool) → a || b ≡ true → (a ≡ true →
 or-cases true b e left right = left refl
 or-cases false b e left right = right e
 
+-- a number that stands only where a test holds
+pub cond-some : (x : Bool) (n : ℕ) → 0 < cond x n 0 → x ≡ true
+cond-some true n h = refl
+cond-some false n h = absurd (not-suc-le-zero h)
+
 -- a property of the numbers below n + 1: of those below n, and of n
 below : (P : ℕ → Type 0) (n : ℕ) → ((i : ℕ) → i < n → P i) → P n → (i : ℕ) → i < suc n → P i
 below P n h last i l = go (ℕ-discrete i n)

@@ -2,7 +2,7 @@
 use mathlib.Core.Path.{_≡_, refl}
 use mathlib.Core.Bool.{Bool, true, false, cond, _&&_, false≢true, and-eq-true-iff}
 use Prim.Native.Nat.{ℕ, _*_, _≤_, _<_}
-use native.Mathlib.Nat.{mul-pos, not-suc-le-zero, le-trans}
+use native.Mathlib.Nat.{mul-pos, le-trans}
 use native.Mathlib.Omega.{arith}
 use lib.Dec.{eqb, ltb}
 use borrow.Author.Tests.{eqb-true, eqb-false, ltb-true, ltb-false, lt-ltb, le-ltb}
@@ -11,7 +11,7 @@ use Rattle.cqf.specs.Limits.{portSlots, flowSlots}
 use Rattle.cqf.specs.Plan.{Plan, crosses, wellFormed}
 use Rattle.cqf.specs.Condition.{bitsOf, wireBits, frames, demand, capacity, workload, crossed, fails, failing, admissible}
 use Rattle.cqf.specs.Run.{overrunAt}
-use Rattle.cqf.specs.laws.Bounded.{countTo-zero, countTo-pos, sumTo-term, sumTo-pos, anyTo-true, anyTo-some}
+use Rattle.cqf.specs.laws.Bounded.{cond-some, countTo-zero, countTo-pos, sumTo-term, sumTo-pos, anyTo-true, anyTo-some}
 use Rattle.cqf.specs.laws.Formed.{Held, held-period, crosses-held}
 use Rattle.cqf.specs.laws.Ceil.{ceil-positive}
 
@@ -44,11 +44,7 @@ pub demand-crossed : (p : Plan) (q T : ℕ) → 0 < demand p q T → crossed p q
 unfolding demand crossed
 demand-crossed p q T l =
     let s = sumTo-pos flowSlots (λ f. cond (crosses p f q) (frames p f T * wireBits p f q) 0) l in
-    anyTo-some flowSlots (λ f. crosses p f q) (s .0) (s .1) (some (crosses p (s .0) q) _ (s .2))
-  where
-    some : (x : Bool) (n : ℕ) → 0 < cond x n 0 → x ≡ true
-    some true n h = refl
-    some false n h = absurd (not-suc-le-zero h)
+    anyTo-some flowSlots (λ f. crosses p f q) (s .0) (s .1) (cond-some (crosses p (s .0) q) _ (s .2))
 
 -- no port fails at an admissible duration
 pub none-fails : (p : Plan) (T : ℕ) → admissible p T ≡ true → (q : ℕ) → q < portSlots → fails p T q ≡ false

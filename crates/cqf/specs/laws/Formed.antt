@@ -71,11 +71,7 @@ held p f h =
     }
 
 module _ (p : Plan) (formed : wellFormed p ≡ true) where
-  -- each slot is sound
-  pub ports-sound : (q : ℕ) → q < portSlots → portSound p q ≡ true
-  unfolding wellFormed
-  ports-sound = let h = simp and-eq-true-iff at formed in allTo-at portSlots (portSound p) (h .0 .0 .1)
-
+  -- each flow's slot is sound
   pub flows-sound : (f : ℕ) → f < flowSlots → flowSound p f ≡ true
   unfolding wellFormed
   flows-sound = let h = simp and-eq-true-iff at formed in allTo-at flowSlots (flowSound p) (h .0 .1)

@@ -1,5 +1,5 @@
 -- What a port needs, from its numbers and from the plan.
-use mathlib.Core.Path.{_≡_, refl}
+use mathlib.Core.Path.{_≡_}
 use mathlib.Core.Bool.{Bool, true, false, cond}
 use Prim.Native.Nat.{ℕ, _+_, _*_, _^_, _≤_, _<_}
 use native.Mathlib.Omega.{arith}
@@ -7,6 +7,7 @@ use lib.Dec.{eqb, ltb}
 use borrow.Author.Tests.{lt-ltb, ltb-true}
 use Rattle.cqf.specs.Plan.{Plan, rateOf, blockingOf}
 use Rattle.cqf.specs.Condition.{bitsOf}
+use Rattle.cqf.specs.laws.Bounded.{cond-some}
 use Rattle.cqf.specs.laws.Need.{needFor}
 use Rattle.planner.specs.Failing.{workloadOf, mostDemand}
 use Rattle.planner.specs.Need.{needBy}
@@ -27,8 +28,4 @@ need-by p q bits l = rw (lt-ltb 0 bits l)
 
 -- one without needs nothing
 pub need-by-some : (guard rate blocking bits : ℕ) → 0 < needBy guard rate blocking bits → 0 < bits
-need-by-some guard rate blocking bits l = ltb-true 0 bits (go (ltb 0 bits) _ l)
-  where
-    go : (x : Bool) (n : ℕ) → 0 < cond x n 0 → x ≡ true
-    go true n h = refl
-    go false n h = absurd (omega arith)
+need-by-some guard rate blocking bits l = ltb-true 0 bits (cond-some (ltb 0 bits) _ l)

@@ -28,13 +28,12 @@ every-weaker a b h (x ∷ l) e =
     let t = and-eq-true-iff (a x) (every a l) .0 e in
     and-eq-true-iff (b x) (every b l) .1 (h x (t .0), every-weaker a b h l (t .1))
 
--- the slots of a well-formed plan are ready
-pub slot-ready
-    : (p : Plan)
-    → wellFormed p ≡ true
-    → (f : ℕ)
-    → f < flowSlots
-    → Ready (periodOf p f) (countOf p f) (lengthOf p f) (hopsOf p f) (routeOf p f)
+-- every slot of the flows' columns is ready
+abbrev pub AllReady : Plan → Type 0
+AllReady p = (f : ℕ) → f < flowSlots → Ready (periodOf p f) (countOf p f) (lengthOf p f) (hopsOf p f) (routeOf p f)
+
+-- those of a well-formed plan are
+pub slot-ready : (p : Plan) → wellFormed p ≡ true → AllReady p
 unfolding row every distinct
 slot-ready p formed f l = go (slot-cases p formed f l)
   where
@@ -99,10 +98,6 @@ module _ (p : Plan) (T : ℕ) where
       (λ q h.
       let h′ : q < portSlots = omega arith in
       sums q h′ ∙ sym (demand-sum p q T) ∙ sym (tabulate-at portSlots (λ q. demand p q T) q h′))
-
--- every slot of the flows' columns is ready
-abbrev pub AllReady : Plan → Type 0
-AllReady p = (f : ℕ) → f < flowSlots → Ready (periodOf p f) (countOf p f) (lengthOf p f) (hopsOf p f) (routeOf p f)
 
 module _ (p : Plan) (ready : AllReady p) (T : ℕ) (fits : T ≤ maxTop) where
   -- one flow brings at most its most bits
