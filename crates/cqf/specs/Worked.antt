@@ -5,13 +5,13 @@ use mathlib.Core.Bool.{Bool, true, false, true≢false}
 use Prim.Native.Nat.{ℕ, zero, suc, _+_, _≤_, _<_}
 use native.Mathlib.Omega.{arith}
 use lib.ListN.{set, length, getD}
-use lib.Dec.{lit≤}
+use lib.Dec.{eqb, lit≤}
 use Rattle.cqf.specs.Bounded.{sumTo, countTo, anyTo, allTo, elem, distinct, every, row}
 use Rattle.cqf.specs.Limits.{maxHops}
-use Rattle.cqf.specs.Plan.{Plan, noPlan, present, periodOf, countOf, wellFormed, portSound, flowSound}
+use Rattle.cqf.specs.Plan.{Plan, noPlan, routeOf, present, periodOf, countOf, wellFormed, portSound, flowSound}
 use Rattle.cqf.specs.Condition.{bitsOf, wireBits, blockingBits, ceilDiv, frames, demand, window, capacity, workload, slack, crossed, fails, failing}
 use Rattle.cqf.specs.Emission.{Emission, Keeps, cyclesOf}
-use Rattle.cqf.specs.Run.{Places, gone, Network, running, stopped, run, queuedBits, overrunAt, overrun, Leaves}
+use Rattle.cqf.specs.Run.{Places, source, advance, Network, running, stopped, run, queuedBits, overrunAt, overrun, Leaves}
 use Rattle.cqf.specs.LargeEnough.{Counterexample}
 
 unfoldable pub planK : Plan
@@ -104,10 +104,6 @@ spaced (suc (suc f)) k h = absurd (omega arith)
 keeps : Keeps planK early
 keeps = record { absent = absent; rising = rising; spaced = spaced }
 
-abbrev placesOf : Network → Places
-placesOf (running places) = places
-placesOf stopped = λ f k. gone
-
 -- at 120,000 all four frames fall into cycle 0, and port 1 cannot send them in cycle 1
 broken : Counterexample planK 120000
 unfolding planK noPlan early run overrun queuedBits overrunAt anyTo sumTo countTo row capacity window workload blockingBits wireBits bitsOf
@@ -122,19 +118,27 @@ filled : isRunning (run planK 72000 (cyclesOf 72000 early) 3) ≡ true
 unfolding isRunning planK noPlan early run overrun queuedBits overrunAt anyTo sumTo countTo row capacity window workload blockingBits wireBits bitsOf
 filled = refl
 
-network : ℕ → Places
-unfolding run overrun queuedBits overrunAt
-network c = placesOf (run planK 100000 (cyclesOf 100000 early) c)
+-- where the frames are when cycle c of 100,000 starts
+placesAt : ℕ → Places
+placesAt zero f k = source
+placesAt (suc c) f k = advance (eqb (getD (cyclesOf 100000 early f) k 0) c) (routeOf planK f) (placesAt c f k)
+
+abbrev GoesOn : ℕ → Type 0
+GoesOn c = run planK 100000 (cyclesOf 100000 early) c ≡ running (placesAt c)
+
+goes-on : GoesOn 1 × GoesOn 2 × GoesOn 3
+unfolding placesAt planK noPlan early run overrun queuedBits overrunAt anyTo sumTo countTo row capacity window workload blockingBits wireBits bitsOf
+goes-on = (refl, refl, refl)
 
 -- at 100,000 the same frames fall into cycles 0 and 1, and each leaves port 1 in the cycle after its own
 leaving : (f k c : ℕ) → Type 0
 leaving f k c = Leaves planK 100000 (cyclesOf 100000 early) f k c
 
 kept : leaving 0 0 1 × leaving 1 0 1 × leaving 0 1 2 × leaving 1 1 2
-unfolding leaving network planK noPlan early run overrun queuedBits overrunAt anyTo sumTo countTo row capacity window workload blockingBits wireBits bitsOf
+unfolding leaving placesAt planK noPlan early row
 kept = (
-  record { before = network 1; after = network 2; starts = refl; ends = refl; there = refl; left = refl },
-  record { before = network 1; after = network 2; starts = refl; ends = refl; there = refl; left = refl },
-  record { before = network 2; after = network 3; starts = refl; ends = refl; there = refl; left = refl },
-  record { before = network 2; after = network 3; starts = refl; ends = refl; there = refl; left = refl },
+  record { before = placesAt 1; after = placesAt 2; starts = goes-on .0; ends = goes-on .1; there = refl; left = refl },
+  record { before = placesAt 1; after = placesAt 2; starts = goes-on .0; ends = goes-on .1; there = refl; left = refl },
+  record { before = placesAt 2; after = placesAt 3; starts = goes-on .1; ends = goes-on .2; there = refl; left = refl },
+  record { before = placesAt 2; after = placesAt 3; starts = goes-on .1; ends = goes-on .2; there = refl; left = refl },
 )
