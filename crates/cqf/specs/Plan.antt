@@ -2,7 +2,7 @@
 -- an absent flow period 0, and the plan that holds nothing top 0. The route of the flow in slot f stands at f * maxHops.
 use Prim.Native.Nat.{ℕ, suc, _*_}
 use mathlib.Core.List.{List, _∷_}
-use mathlib.Core.Bool.{Bool, not, _&&_, _||_}
+use mathlib.Core.Bool.{Bool, _&&_, _||_}
 use lib.ListN.{getD, replicate}
 use lib.Dec.{eqb, ltb}
 use Rattle.cqf.specs.Bounded.{anyTo, allTo, elem, distinct, every, row}

@@ -9,7 +9,7 @@ use lib.Dec.{eqb, lit≤}
 use Rattle.cqf.specs.Bounded.{sumTo, countTo, anyTo, allTo, elem, distinct, every, row}
 use Rattle.cqf.specs.Limits.{maxHops}
 use Rattle.cqf.specs.Plan.{Plan, noPlan, routeOf, present, periodOf, countOf, wellFormed, portSound, flowSound}
-use Rattle.cqf.specs.Condition.{bitsOf, wireBits, blockingBits, ceilDiv, frames, demand, window, capacity, workload, slack, crossed, fails, failing}
+use Rattle.cqf.specs.Condition.{bitsOf, wireBits, blockingBits, ceilDiv, frames, demand, window, capacity, workload, crossed, fails, failing}
 use Rattle.cqf.specs.Emission.{Emission, Keeps, cyclesOf}
 use Rattle.cqf.specs.Run.{Places, source, advance, Network, running, stopped, run, queuedBits, overrunAt, overrun, Leaves}
 use Rattle.cqf.specs.LargeEnough.{Counterexample}

@@ -5,7 +5,7 @@ use mathlib.Core.Option.{some}
 use Prim.Native.Nat.{ℕ}
 use lib.IntN.{ℤ, pos, negsuc}
 use Rattle.cqf.specs.Bounded.{sumTo, countTo, anyTo, allTo, lowest, elem, distinct, every, row}
-use Rattle.cqf.specs.Plan.{Plan, noPlan, wellFormed, portSound, flowSound}
+use Rattle.cqf.specs.Plan.{noPlan, wellFormed, portSound, flowSound}
 use Rattle.cqf.specs.Condition.{bitsOf, wireBits, blockingBits, ceilDiv, frames, demand, window, capacity, workload, slack, crossed, fails, failing, lowestFailing, admissible}
 use Rattle.cqf.specs.Worked.{planK}
 use Rattle.plan.specs.Bytes.{number2, number4, sizeAt, wholeAt, valueAt, numbers2}

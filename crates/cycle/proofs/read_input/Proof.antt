@@ -3,12 +3,9 @@
 use Prim.Native.Nat.{_≤_, _-_}
 use mathlib.Core.Path.{_≡_}
 use borrow.Author.Needs.{needs}
-use native.Mathlib.Omega.{arith}
 use lib.ListN.{length}
 use Rattle.cycle.proofs.read_input.Statement.{statement}
 use Rattle.cycle.proofs.read_input.Tie as tie
-use Rattle.cycle.proofs.read_input.Reads as reads
-use Rattle.cycle.proofs.read_input.Lts as lts
 
 abbrev Inv-loop : tie.InvT-loop
 Inv-loop buffer₀ at₀ buffer at = (at ≤ length buffer) × (length buffer ≡ length buffer₀)
