@@ -2,7 +2,7 @@
 use Prim.Native.Nat.{ℕ}
 use mathlib.Core.List.{List, [], _∷_}
 use lib.IntN.{ℤ, pos}
-use Rattle.planner.specs.Outcome.{Answer, result, refusal, Fields}
+use Rattle.loading.specs.Outcome.{Answer, result, refusal, Fields}
 use Rattle.plan.specs.Field.{header, port, flow, FieldRead, field, refused, headerTag, portTag, flowTag}
 use Rattle.capi.specs.declared.Answered.{Answered}
 use Rattle.capi.specs.declared.Slacked.{Slacked}

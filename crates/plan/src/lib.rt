@@ -4,7 +4,6 @@ ghost use mathlib.Core.Path.{_≡_};
 ghost use Rattle.plan.specs.Answer.{faultNumber};
 
 mod number; // number.rt: numbers of several bytes, high byte first
-pub mod limits; // limits.rt: the ranges of a plan's numbers
 pub mod split; // split.rt: a field's head, and its value as a part of the plan
 pub mod route; // route.rt: a flow's route
 pub mod read; // read.rt: a whole field, tests 2 to 5

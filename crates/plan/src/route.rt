@@ -1,7 +1,7 @@
 // A flow's route, in the value of its field.
 
-use crate::limits::port_ok;
 use crate::number::be16;
+use numbers::limits::port_ok;
 ghost use mathlib.Core.Path.{_≡_};
 ghost use lib.ListN.{drop};
 ghost use Rattle.cqf.specs.Bounded.{elem, every};

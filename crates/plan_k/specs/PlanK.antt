@@ -12,7 +12,8 @@ use Rattle.plan.specs.Bytes.{number2, number4, sizeAt, wholeAt, valueAt, number
 use Rattle.plan.specs.Field.{routeIn, headerIn, portInValue, flowIn, fieldIn, fieldAt, repeats}
 use Rattle.plan.specs.Draft.{blank, taken, loops, store, added}
 use Rattle.plan.specs.Reading.{stepAt, namesAbsent, absentFrom, closing, readFrom, readPlan, accepted}
-use Rattle.planner.specs.Outcome.{Answer, result, refusal, loadAnswer, loadLeaves, checkAnswer, slackAnswer}
+use Rattle.loading.specs.Outcome.{Answer, result, refusal, loadAnswer, loadLeaves}
+use Rattle.planner.specs.Outcome.{checkAnswer, slackAnswer}
 use Rattle.planner.specs.Calls.{load, afterFrom, after, heldFrom, heldBytes}
 
 pub bytesK : List ℕ

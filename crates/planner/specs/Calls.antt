@@ -4,7 +4,7 @@ use mathlib.Core.List.{List, [], _∷_}
 use mathlib.Core.Option.{Option, none, some}
 use Rattle.cqf.specs.Plan.{Plan, noPlan}
 use Rattle.plan.specs.Reading.{Reading, accepted, rejected, readPlan}
-use Rattle.planner.specs.Outcome.{loadLeaves}
+use Rattle.loading.specs.Outcome.{loadLeaves}
 
 pub data Call : Type 0 where
   load : (bytes : List ℕ) → Call

@@ -7,7 +7,7 @@ use Prim.Native.Nat.{ℕ, _≤_}
 use Rattle.cqf.specs.Plan.{Plan}
 use Rattle.cqf.specs.LargeEnough.{Counterexample, AllOnTime}
 use Rattle.plan.specs.Reading.{accepted, readPlan}
-use Rattle.planner.specs.Outcome.{Answer, result, refusal}
+use Rattle.loading.specs.Outcome.{Answer, result, refusal}
 use Rattle.planner.specs.Calls.{Call, after, heldBytes}
 
 -- the answer is refusal 21

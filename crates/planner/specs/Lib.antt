@@ -2,11 +2,9 @@
 pub mod Outcome
 pub mod Calls
 pub mod Answer
-pub mod Loading
 pub mod Demand3
 pub mod SameAnswers
 pub mod laws
 pub mod Theorem
-pub mod Columns
 pub mod Failing
 pub mod Need

@@ -14,7 +14,8 @@ use Rattle.plan.specs.FieldOrder.{SameFields}
 use Rattle.plan.specs.Reading.{accepted, readPlan}
 use Rattle.plan.specs.laws.Order.{field-order}
 use Rattle.plan.specs.laws.Sound.{accepted-formed}
-use Rattle.planner.specs.Outcome.{result, failingAt, checkAnswer, slackAnswer, leastAnswer, leastLeaves, marginSafeAnswer, marginSafeLeaves}
+use Rattle.loading.specs.Outcome.{result}
+use Rattle.planner.specs.Outcome.{failingAt, checkAnswer, slackAnswer, leastAnswer, leastLeaves, marginSafeAnswer, marginSafeLeaves}
 use Rattle.planner.specs.Demand3.{Means, Demand3}
 use Rattle.planner.specs.SameAnswers.{SameAnswers}
 use Rattle.planner.specs.Calls.{Call, after, heldBytes}

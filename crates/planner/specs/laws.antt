@@ -1,8 +1,5 @@
 -- Laws of the calls.
 pub mod Rows
-pub mod Copy
-pub mod Load
-pub mod Marks
 pub mod Sums
 pub mod Sets
 pub mod Fails

@@ -1,12 +1,12 @@
 // The search for the least duration, upwards, by what the first failing port needs.
-use super::Planner;
 use super::SearchAnswer;
 use super::demand::demands;
 use super::failing::port_fails;
-use super::failing::window;
-use super::formed::formed;
 use super::need::need;
 use super::search::refused;
+use numbers::port::window;
+use tables::Planner;
+use tables::formed;
 ghost use mathlib.Core.Path.{_≡_};
 ghost use mathlib.Core.Bool.{true};
 ghost use Prim.Native.Nat.{_≤_};
@@ -15,7 +15,8 @@ ghost use Rattle.cqf.specs.Bounded.{tabulate};
 ghost use Rattle.cqf.specs.Limits.{portSlots};
 ghost use Rattle.cqf.specs.Plan.{wellFormed};
 ghost use Rattle.cqf.specs.Condition;
-ghost use Rattle.planner.specs.Answer.{planOf, searchOf};
+ghost use Rattle.tables.specs.Tables.{planOf};
+ghost use Rattle.planner.specs.Answer.{searchOf};
 ghost use Rattle.planner.specs.Outcome.{leastAnswer, leastLeaves};
 
 // The least admissible duration, or one above top where there is none. No duration below t is admissible, and a port that fails

@@ -7,7 +7,7 @@ ghost use lib.ListN.{length, getD};
 ghost use Rattle.cqf.specs.Bounded.{distinct, every, row, tabulate};
 ghost use Rattle.cqf.specs.Limits.{portSlots, maxTop, portOk};
 ghost use Rattle.cqf.specs.Condition.{bitsOf, ceilDiv, demand};
-ghost use Rattle.planner.specs.Columns.{columns, FlowColumns, FlowsReady, Marked};
+ghost use Rattle.tables.specs.Columns.{columns, FlowColumns, FlowsReady, Marked};
 
 // The periods that begin within a duration: the quotient rounded up.
 fn periods_begun(duration: u32, period: u32) -> u32

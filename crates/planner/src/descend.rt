@@ -1,10 +1,10 @@
 // The search for the margin-safe duration, downwards from top, by the most that a port needs.
-use super::Planner;
 use super::SearchAnswer;
 use super::demand::demands;
-use super::formed::formed;
 use super::need::need;
 use super::search::conclude;
+use tables::Planner;
+use tables::formed;
 ghost use mathlib.Core.Path.{_≡_};
 ghost use mathlib.Core.Bool.{true};
 ghost use Prim.Native.Nat.{max};
@@ -12,7 +12,8 @@ ghost use lib.ListN.{length};
 ghost use Rattle.cqf.specs.Limits.{portSlots};
 ghost use Rattle.cqf.specs.Plan.{wellFormed};
 ghost use Rattle.cqf.specs.Condition;
-ghost use Rattle.planner.specs.Answer.{planOf, searchOf};
+ghost use Rattle.tables.specs.Tables.{planOf};
+ghost use Rattle.planner.specs.Answer.{searchOf};
 ghost use Rattle.planner.specs.Outcome.{marginSafeAnswer, marginSafeLeaves};
 
 // The larger of two numbers.

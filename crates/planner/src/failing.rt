@@ -1,21 +1,9 @@
 // Which ports fail at a duration, from each port's demand.
 ghost use mathlib.Core.Path.{_≡_};
-ghost use Prim.Native.Nat.{ℕ, suc, _+_, _-_, _*_, _≤_, _<_};
+ghost use Prim.Native.Nat.{ℕ, _≤_, _<_};
 ghost use lib.ListN.{length, getD};
-ghost use lib.Count.{ones, trailingZeros};
 ghost use Rattle.cqf.specs.Limits.{portSlots, maxTop};
 ghost use Rattle.planner.specs.Failing.{setTo, workloadOf, failsBy, failsIn, mostDemand};
-
-// The part of a cycle in which a port sends.
-pub(crate) fn window(guard: u32, duration: u64) -> u64
-    ensures { λ r. ⌜ r ≡ duration - 2 * guard ⌝ }
-{
-    let closed = 2 * (guard as u64);
-    if duration < closed {
-        return 0;
-    }
-    duration - closed
-}
 
 // What a port must be able to send, in bits times 1,000 ns.
 pub(crate) fn workload(blocking: u16, bits: u64) -> u64
@@ -59,19 +47,4 @@ pub(crate) fn failing_set<'a>(
         q += 1;
     }
     set
-}
-
-// The number of the lowest port of a set, and how many there are.
-pub(crate) struct FailingPorts {
-    pub(crate) port: u32,
-    pub(crate) count: u32,
-}
-
-pub(crate) fn failing_ports(set: u64) -> FailingPorts
-    ensures { λ r. ⌜ (r .port ≡ suc (trailingZeros 64 set)) × (r .count ≡ ones set) ⌝ }
-{
-    FailingPorts {
-        port: u64::trailing_zeros(set) + 1,
-        count: u64::count_ones(set),
-    }
 }

@@ -1,13 +1,13 @@
 // The two questions at one duration: is it admissible, and what is a port's slack.
 use super::CheckAnswer;
-use super::Planner;
 use super::SlackAnswer;
 use super::demand::demands;
-use super::failing::failing_ports;
 use super::failing::failing_set;
-use super::failing::window;
 use super::failing::workload;
-use super::formed::formed;
+use numbers::port::failing_ports;
+use numbers::port::window;
+use tables::Planner;
+use tables::formed;
 ghost use mathlib.Core.Path.{_≡_};
 ghost use mathlib.Core.Bool.{true};
 ghost use Prim.Native.Nat.{_*_, _≤_};
@@ -16,7 +16,8 @@ ghost use Rattle.cqf.specs.Bounded.{tabulate};
 ghost use Rattle.cqf.specs.Limits.{portSlots, maxTop};
 ghost use Rattle.cqf.specs.Plan.{wellFormed};
 ghost use Rattle.cqf.specs.Condition.{demand};
-ghost use Rattle.planner.specs.Answer.{planOf, checkOf, slackOf};
+ghost use Rattle.tables.specs.Tables.{planOf};
+ghost use Rattle.planner.specs.Answer.{checkOf, slackOf};
 ghost use Rattle.planner.specs.Failing.{workloadOf, mostDemand};
 ghost use Rattle.planner.specs.Demand3.{Demand3};
 ghost use Rattle.planner.specs.Outcome.{checkAnswer, slackAnswer};

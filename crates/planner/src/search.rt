@@ -1,10 +1,10 @@
 // How a search ends. Neither goes by single ns: see climb.rt and descend.rt.
-use super::Planner;
 use super::SearchAnswer;
 use super::demand::demands;
-use super::failing::failing_ports;
 use super::failing::failing_set;
-use super::failing::window;
+use numbers::port::failing_ports;
+use numbers::port::window;
+use tables::Planner;
 ghost use mathlib.Core.Path.{_≡_};
 ghost use mathlib.Core.Bool.{true, cond};
 ghost use Prim.Native.Nat.{ℕ};
@@ -14,8 +14,10 @@ ghost use Rattle.cqf.specs.Bounded.{tabulate};
 ghost use Rattle.cqf.specs.Limits.{portSlots};
 ghost use Rattle.cqf.specs.Plan.{wellFormed};
 ghost use Rattle.cqf.specs.Condition.{demand};
-ghost use Rattle.planner.specs.Answer.{planOf, searchOf};
-ghost use Rattle.planner.specs.Outcome.{result, failingAt};
+ghost use Rattle.tables.specs.Tables.{planOf};
+ghost use Rattle.planner.specs.Answer.{searchOf};
+ghost use Rattle.loading.specs.Outcome.{result};
+ghost use Rattle.planner.specs.Outcome.{failingAt};
 
 // The refusal of a search that found none: the ports that fail at top, with the demands there.
 pub(crate) fn refused(planner: Planner, out: &mut [u64]) -> SearchAnswer

@@ -9,7 +9,8 @@ use borrow.Author.Tests.{le-leb, lt-leb}
 use Rattle.cqf.specs.Limits.{portOk, portSlots}
 use Rattle.cqf.specs.Plan.{Plan, wellFormed}
 use Rattle.cqf.specs.Condition.{slack, crossed, admissible, failing, lowestFailing}
-use Rattle.planner.specs.Outcome.{Answer, result, refusal, asked, failingAt, checkAnswer, slackAnswer}
+use Rattle.loading.specs.Outcome.{Answer, result, refusal}
+use Rattle.planner.specs.Outcome.{asked, failingAt, checkAnswer, slackAnswer}
 
 -- 20, then 10, then what the question says
 module _ {A : Type 0} (p : Plan) (T : ℕ) (answer : Answer A) where

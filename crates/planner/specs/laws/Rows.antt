@@ -6,7 +6,7 @@ use Prim.Native.Nat.{ℕ}
 use native.Mathlib.Omega.{arith}
 use Rattle.cqf.specs.Plan.{Plan, noPlan}
 use Rattle.plan.specs.Reading.{Reading, accepted, rejected, readPlan}
-use Rattle.planner.specs.Outcome.{loadLeaves, readingLeaves}
+use Rattle.loading.specs.Outcome.{loadLeaves, readingLeaves}
 use Rattle.planner.specs.Calls.{Call, load, check, slack, least, marginSafe, leaves, afterFrom, after, accepting, keeping, heldFrom, heldBytes}
 
 -- the tables that a reading stands for; none for a refusal

@@ -12,7 +12,7 @@ use Rattle.cqf.specs.Condition.{demand}
 use Rattle.cqf.specs.laws.Tabulate.{tabulate-length, tabulate-at}
 use Rattle.cqf.specs.laws.Ranges.{top-most}
 use Rattle.cqf.specs.laws.Search.{busy-rate}
-use Rattle.planner.specs.Columns.{columns}
+use Rattle.tables.specs.Columns.{columns}
 use Rattle.planner.specs.Failing.{mostDemand}
 use Rattle.planner.specs.laws.Sums.{slot-ready, demand-most, demand-columns}
 

@@ -13,7 +13,8 @@ use Rattle.cqf.specs.Limits.{portSlots}
 use Rattle.cqf.specs.Plan.{Plan, wellFormed}
 use Rattle.cqf.specs.Condition.{demand, fails, least, marginSafe}
 use Rattle.cqf.specs.laws.Ranges.{top-positive}
-use Rattle.planner.specs.Outcome.{Answer, result, refusal, failingAt, searched, searchLeaves, leastAnswer, leastLeaves, marginSafeAnswer, marginSafeLeaves}
+use Rattle.loading.specs.Outcome.{Answer, result, refusal}
+use Rattle.planner.specs.Outcome.{failingAt, searched, searchLeaves, leastAnswer, leastLeaves, marginSafeAnswer, marginSafeLeaves}
 use Rattle.planner.specs.Failing.{setTo, failsIn}
 use Rattle.planner.specs.laws.Fails.{failing-set, set-lowest-failing, set-failing}
 use Rattle.planner.specs.laws.Scratch.{Filled}

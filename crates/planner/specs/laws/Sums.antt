@@ -18,7 +18,7 @@ use Rattle.cqf.specs.laws.Formed.{Empty, Held, slot-cases}
 use Rattle.cqf.specs.laws.Tabulate.{tabulate-length, tabulate-at}
 use Rattle.cqf.specs.laws.Demand.{share, demand-sum, mostBits, bits-most, share-none, sum-next}
 use Rattle.planner.specs.Failing.{mostDemand}
-use Rattle.planner.specs.Columns.{columns, Ready, Marked}
+use Rattle.tables.specs.Columns.{columns, Ready, Marked}
 
 -- a stronger test that each number of a list passes
 every-weaker : (a b : ℕ → Bool) → ((n : ℕ) → a n ≡ true → b n ≡ true) → (l : List ℕ) → every a l ≡ true → every b l ≡ true

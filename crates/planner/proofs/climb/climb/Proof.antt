@@ -12,7 +12,7 @@ use Rattle.cqf.specs.Limits.{portSlots}
 use Rattle.cqf.specs.Plan.{wellFormed}
 use Rattle.cqf.specs.laws.Ranges.{top-most}
 use Rattle.cqf.specs.laws.Search.{Climbed, climb-start}
-use Rattle.planner.specs.Answer.{planOf}
+use Rattle.tables.specs.Tables.{planOf}
 use Rattle.planner.specs.laws.Sums.{slot-ready}
 use Rattle.planner.specs.laws.Scratch.{filled, filled-length, filled-short, filled-most, filled-served}
 use Rattle.planner.specs.laws.Climb.{Passed, Left, passed-start, passed-all, tested, passed-next, passed-until, left-none, left-over, left-next, left-more}

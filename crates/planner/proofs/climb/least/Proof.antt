@@ -10,7 +10,7 @@ use borrow.Author.Tests.{not-true, not-false}
 use Rattle.cqf.specs.Limits.{portSlots}
 use Rattle.cqf.specs.Plan.{wellFormed}
 use Rattle.cqf.specs.laws.Ranges.{top-most}
-use Rattle.planner.specs.Answer.{planOf}
+use Rattle.tables.specs.Tables.{planOf}
 use Rattle.planner.specs.laws.Searched.{ends-no-plan, ends-short, ends-found, ends-found-again, found-within, demands-within, found-above, demands-above, least-ends}
 use Rattle.planner.proofs.climb.least.Statement.{statement}
 use Rattle.planner.proofs.climb.least.Tie as tie

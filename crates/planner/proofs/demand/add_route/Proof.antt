@@ -8,8 +8,8 @@ use borrow.Author.Needs.{needs}
 use Rattle.cqf.specs.Bounded.{elem, row}
 use Rattle.cqf.specs.Limits.{portSlots}
 use Rattle.cqf.specs.laws.Route.{next-port}
-use Rattle.planner.specs.Columns.{Marked}
-use Rattle.planner.specs.laws.Marks.{mark-none, mark-next, unmarked}
+use Rattle.tables.specs.Columns.{Marked}
+use Rattle.tables.specs.laws.Marks.{mark-none, mark-next, unmarked}
 use Rattle.planner.proofs.demand.add_route.Statement.{statement}
 use Rattle.planner.proofs.demand.add_route.Tie as tie
 

@@ -12,7 +12,7 @@ use Rattle.cqf.specs.Limits.{portSlots}
 use Rattle.cqf.specs.Plan.{wellFormed}
 use Rattle.cqf.specs.laws.Ranges.{top-most}
 use Rattle.cqf.specs.laws.Search.{Descended, descent-start, descent-bottom}
-use Rattle.planner.specs.Answer.{planOf}
+use Rattle.tables.specs.Tables.{planOf}
 use Rattle.planner.specs.laws.Sums.{slot-ready}
 use Rattle.planner.specs.laws.Scratch.{filled, filled-length, filled-most, filled-served}
 use Rattle.planner.specs.laws.Descent.{Fitting, Left, one-below, below-top, fitting-start, fitting-all, fitting-next, fitting-until, left-stop, left-down}

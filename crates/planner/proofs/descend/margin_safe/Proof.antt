@@ -8,7 +8,7 @@ use borrow.Author.Needs.{needs}
 use borrow.Author.Tests.{not-true, not-false}
 use Rattle.cqf.specs.Limits.{portSlots}
 use Rattle.cqf.specs.Plan.{wellFormed}
-use Rattle.planner.specs.Answer.{planOf}
+use Rattle.tables.specs.Tables.{planOf}
 use Rattle.planner.specs.laws.Searched.{ends-no-plan, ends-short, ends-found-again, margin-safe-ends}
 use Rattle.planner.proofs.descend.margin_safe.Statement.{statement}
 use Rattle.planner.proofs.descend.margin_safe.Tie as tie

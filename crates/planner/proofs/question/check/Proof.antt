@@ -11,8 +11,9 @@ use Rattle.cqf.specs.Plan.{Plan, wellFormed}
 use Rattle.cqf.specs.Condition.{fails}
 use Rattle.cqf.specs.laws.Ranges.{top-most}
 use Rattle.cqf.specs.laws.Tabulate.{tabulate-length}
-use Rattle.planner.specs.Answer.{planOf}
-use Rattle.planner.specs.Outcome.{Answer, checkAnswer}
+use Rattle.tables.specs.Tables.{planOf}
+use Rattle.loading.specs.Outcome.{Answer}
+use Rattle.planner.specs.Outcome.{checkAnswer}
 use Rattle.planner.specs.Demand3.{Demand3}
 use Rattle.planner.specs.Theorem.{demand3}
 use Rattle.planner.specs.Failing.{setTo, failsIn}

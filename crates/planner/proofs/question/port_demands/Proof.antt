@@ -3,7 +3,7 @@ use mathlib.Core.Path.{refl, ap, _∙_, fun-ext}
 use borrow.Author.Needs.{needs}
 use Rattle.cqf.specs.Bounded.{tabulate}
 use Rattle.cqf.specs.Limits.{portSlots}
-use Rattle.planner.specs.Answer.{planOf}
+use Rattle.tables.specs.Tables.{planOf}
 use Rattle.planner.specs.laws.Sums.{slot-ready, demand-columns}
 use Rattle.planner.proofs.question.port_demands.Statement.{statement}
 use Rattle.planner.proofs.question.port_demands.Tie as tie

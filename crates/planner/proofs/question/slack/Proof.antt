@@ -15,8 +15,8 @@ use Rattle.cqf.specs.Plan.{Plan, rateOf, blockingOf, wellFormed}
 use Rattle.cqf.specs.Condition.{demand}
 use Rattle.cqf.specs.laws.Ranges.{top-most}
 use Rattle.cqf.specs.laws.Tabulate.{tabulate-at}
-use Rattle.planner.specs.Answer.{planOf}
-use Rattle.planner.specs.Outcome.{result}
+use Rattle.tables.specs.Tables.{planOf}
+use Rattle.loading.specs.Outcome.{result}
 use Rattle.planner.specs.Failing.{workloadOf, mostDemand}
 use Rattle.planner.specs.laws.Sums.{slot-ready, demand-most}
 use Rattle.planner.specs.laws.Fails.{crossed-demand, slack-is}

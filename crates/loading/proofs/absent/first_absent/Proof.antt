@@ -1,0 +1,115 @@
+-- `first_absent` meets its contract. The invariant: the search from this offset on gives what the search from the start gives.
+use mathlib.Core.List.{List}
+use mathlib.Core.Bool.{true}
+use Prim.Native.Nat.{ℕ, _+_, _-_, _≤_}
+use mathlib.Core.Path.{_≡_, refl, sym, ap, _∙_}
+use borrow.Author.Needs.{needs}
+use native.Mathlib.Omega.{arith}
+use lib.ListN.{length}
+use denote.Ref.{now}
+use Rattle.plan.specs.Bytes.{headSize, sizeAt, wholeAt}
+use Rattle.plan.specs.Field.{head, headAt}
+use Rattle.plan.specs.Answer.{headOf}
+use Rattle.plan.specs.Reading.{absentFrom}
+use Rattle.plan.specs.laws.Whole.{read-whole, read-tag, read-size, read-fits, read-cut}
+use Rattle.plan.specs.laws.Absent.{absent-cut, absent-named, absent-passed}
+use Rattle.loading.proofs.absent.first_absent.Statement.{statement}
+use Rattle.loading.proofs.absent.first_absent.Tie as tie
+
+abbrev Inv-loop : tie.InvT-loop
+Inv-loop plan rates at₀ at = (at ≤ length plan) × (absentFrom (length plan) plan 0 rates ≡ absentFrom (length plan) plan at rates)
+
+abbrev μ-loop : tie.MeasureT-loop
+μ-loop plan rates at₀ at = length plan - at
+
+-- the whole field that a turn finds
+module _ (c : tie.After-known-told Inv-loop μ-loop) where
+  abbrev bytes : List ℕ
+  bytes = now (c .before .before .before .before .before .before .args .plan)
+
+  abbrev offset : ℕ
+  offset = c .before .before .before .before .loop .at
+
+  abbrev tag : ℕ
+  tag = c .before .tag .given .0 .0
+
+  abbrev size : ℕ
+  size = c .before .tag .given .0 .1 .0
+
+  head-read : head tag size ≡ headAt bytes offset
+  head-read = sym (ap headOf (c .before .tag .given .1)) ∙ c .before .before .before .split-head .ensures
+
+  is-whole : wholeAt bytes offset ≡ true
+  is-whole = read-whole bytes offset tag size head-read
+
+  is-size : size ≡ sizeAt bytes offset
+  is-size = read-size bytes offset tag size head-read
+
+  ends : offset + headSize + size ≤ length bytes
+  ends = read-fits bytes offset tag size head-read
+
+loop-holds : tie.Need-loop-holds Inv-loop μ-loop
+loop-holds c = (omega arith, refl)
+
+split-head-requires : tie.Need-split-head-requires Inv-loop μ-loop
+split-head-requires c κs = tt
+
+enum-known-tag : tie.Need-enum-known-tag Inv-loop μ-loop
+enum-known-tag c = search needs
+
+names-absent-requires : tie.Need-names-absent-requires Inv-loop μ-loop
+names-absent-requires c κs = (is-whole c, read-tag (bytes c) (offset c) (tag c) (size c) (head-read c))
+
+returns : tie.Need-returns Inv-loop μ-loop
+returns c =
+    let a = c .before .before .before .before .before .before .before .before .args in
+    let w = c .before .before in
+    sym (c .before .before .before .before .before .before .loop .inv .1
+    ∙ absent-named (bytes w) (offset w) (a .rates) (is-whole w) (sym (c .before .names-absent .ensures) ∙ c .if1 .taken))
+
+add-at : tie.Need-add-at Inv-loop μ-loop
+add-at c = omega (arith, ends (c .before .before))
+
+add-at-2 : tie.Need-add-at-2 Inv-loop μ-loop
+add-at-2 c = omega (arith, ends (c .before .before))
+
+loop-less : tie.Need-loop-less Inv-loop μ-loop
+loop-less c = omega (arith, ends (c .before .before))
+
+loop-again : tie.Need-loop-again Inv-loop μ-loop
+loop-again c =
+    let a = c .before .before .before .before .before .before .before .before .args in
+    let w = c .before .before in (
+      ends w,
+      c .before .before .before .before .before .before .loop .inv .1
+          ∙ rw (is-size w)
+          (absent-passed (bytes w) (offset w) (a .rates) (is-whole w) (sym (c .before .names-absent .ensures) ∙ c .if1 .left)),
+    )
+
+enum-told : tie.Need-enum-told Inv-loop μ-loop
+enum-told c = search needs
+
+returns-2 : tie.Need-returns-2 Inv-loop μ-loop
+returns-2 c =
+    let a = c .before .before .before .before .before .args in
+    let h = sym (ap headOf (c .enum-told .given .1)) ∙ c .before .before .split-head .ensures in
+    sym (c .before .before .before .loop .inv .1
+    ∙ absent-cut (now (a .plan)) (c .before .before .before .loop .at) (a .rates) (length (now (a .plan))) (read-cut _ _ h))
+
+pub first-absent-spec : {M : Type 1} → statement M
+first-absent-spec =
+    tie.close
+    (tie.spec
+    Inv-loop
+    μ-loop
+    loop-holds
+    split-head-requires
+    enum-known-tag
+    names-absent-requires
+    returns
+    add-at
+    add-at-2
+    loop-less
+    loop-again
+    enum-told
+    returns-2)

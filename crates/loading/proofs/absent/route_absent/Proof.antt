@@ -1,0 +1,76 @@
+-- `route_absent` meets its contract. The invariant: the ports from i on decide the test for the whole route.
+use Prim.Native.Nat.{_-_, _+_}
+use mathlib.Core.Path.{_≡_, refl, sym, ap, _∙_}
+use mathlib.Core.Bool.{not, _&&_}
+use native.Mathlib.Omega.{arith}
+use borrow.Author.Tests.{not-true, not-false}
+use lib.ListN.{drop}
+use denote.Ref.{now}
+use Rattle.cqf.specs.Bounded.{every}
+use Rattle.cqf.specs.Plan.{portIn}
+use Rattle.plan.specs.Field.{routeIn}
+use Rattle.plan.specs.laws.Route.{every-step, every-past}
+use Rattle.loading.proofs.absent.route_absent.Statement.{statement}
+use Rattle.loading.proofs.absent.route_absent.Tie as tie
+
+abbrev Inv-loop : tie.InvT-loop
+Inv-loop value rates hops i₀ i = every (portIn rates) (routeIn value) ≡ every (portIn rates) (drop i (routeIn value))
+
+abbrev μ-loop : tie.MeasureT-loop
+μ-loop value rates hops i₀ i = hops - i
+
+-- what is left to test when a turn has tested port i
+step : (c : tie.After-has-port Inv-loop μ-loop) →
+    every (portIn (c .before .before .before .before .before .before .args .rates)) (routeIn (now (c .before .before .before .before .before .before .args .value)))
+    ≡ (c .has-port .result
+    && every (portIn (c .before .before .before .before .before .before .args .rates))
+    (drop (c .before .before .before .loop .i + 1) (routeIn (now (c .before .before .before .before .before .before .args .value)))))
+step c =
+    let a = c .before .before .before .before .before .before .args in
+    rw (c .has-port .ensures, c .before .route-port .ensures)
+    (c .before .before .before .loop .inv ∙ every-step (now (a .value)) (portIn (a .rates)) (c .before .before .before .loop .i) (omega arith))
+
+hops-in-requires : tie.Need-hops-in-requires Inv-loop μ-loop
+hops-in-requires c κs = tt
+
+loop-holds : tie.Need-loop-holds Inv-loop μ-loop
+loop-holds c = refl
+
+route-port-requires : tie.Need-route-port-requires Inv-loop μ-loop
+route-port-requires c κs = tt
+
+has-port-requires : tie.Need-has-port-requires Inv-loop μ-loop
+has-port-requires c κs = tt
+
+returns : tie.Need-returns Inv-loop μ-loop
+returns c = rw (step (c .before), not-true (c .before .has-port .result) (c .if1 .taken))
+
+add-i : tie.Need-add-i Inv-loop μ-loop
+add-i c = omega arith
+
+loop-less : tie.Need-loop-less Inv-loop μ-loop
+loop-less c = omega arith
+
+loop-again : tie.Need-loop-again Inv-loop μ-loop
+loop-again c = step (c .before) ∙ rw (not-false (c .before .has-port .result) (c .if1 .left))
+
+returns-2 : tie.Need-returns-2 Inv-loop μ-loop
+returns-2 c =
+    let a = c .before .before .before .before .args in
+    sym (ap not (c .before .loop .inv ∙ every-past (now (a .value)) (portIn (a .rates)) (c .before .loop .i) (omega arith)))
+
+pub route-absent-spec : {M : Type 1} → statement M
+route-absent-spec =
+    tie.close
+    (tie.spec
+    Inv-loop
+    μ-loop
+    hops-in-requires
+    loop-holds
+    route-port-requires
+    has-port-requires
+    returns
+    add-i
+    loop-less
+    loop-again
+    returns-2)

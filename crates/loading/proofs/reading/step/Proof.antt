@@ -1,0 +1,42 @@
+-- `step` meets its contract.
+use mathlib.Core.Path.{sym, ap, _∙_}
+use Rattle.plan.specs.Answer.{readingOf}
+use Rattle.plan.specs.laws.Steps.{step-refused}
+use Rattle.loading.specs.Loading.{draftOf}
+use borrow.Author.Needs.{needs}
+use Rattle.loading.proofs.reading.step.Statement.{statement}
+use Rattle.loading.proofs.reading.step.Tie as tie
+
+read-field-requires : tie.Need-read-field-requires
+read-field-requires c κs = search needs
+
+enum-known-field : tie.Need-enum-known-field
+enum-known-field c = search needs
+
+enter-requires : tie.Need-enter-requires
+enter-requires c κs =
+    let a = c .before .before .before .before .before in
+    (a .pre .0, a .pre .1, sym (c .before .before .before .read-field .ensures) ∙ ap readingOf (c .before .field .given .1))
+
+enum-known-fault : tie.Need-enum-known-fault
+enum-known-fault c = search needs
+
+returns : tie.Need-returns
+returns c = search needs
+
+returns-2 : tie.Need-returns-2
+returns-2 c =
+    let a = c .before .before .before .before .before in
+    sym (step-refused _ _ (draftOf (a .args .draft)) _ _
+    (sym (c .before .before .before .read-field .ensures) ∙ ap readingOf (c .before .fault .given .1)))
+
+pub step-spec : {M : Type 1} → statement M
+step-spec =
+    tie.close
+    (tie.spec
+    read-field-requires
+    enum-known-field
+    enter-requires
+    enum-known-fault
+    returns
+    returns-2)

@@ -1,0 +1,19 @@
+-- Document 01's number and values for each case of a load's answer.
+use Prim.Native.Nat.{ℕ}
+use mathlib.Core.Path.{_≡_}
+use mathlib.Core.List.{List, [], _∷_}
+use Rattle.cqf.specs.Plan.{Plan}
+use Rattle.plan.specs.Answer.{faultNumber}
+use Rattle.tables.specs.Tables.{planOf}
+use Rattle.loading.specs.Outcome.{Answer, result, refusal, Fields, loadAnswer, loadLeaves}
+use Rattle.loading.specs.declared.LoadAnswer.{LoadAnswer}
+use Rattle.loading.specs.declared.LoadOutcome.{LoadOutcome}
+
+abbrev pub loadOf : LoadAnswer → Answer Fields
+loadOf (LoadAnswer.Held ports flows) = result (record { ports = ports; flows = flows })
+loadOf (LoadAnswer.Refused fault offset) = refusal (faultNumber fault) (offset ∷ [])
+
+-- a load of these bytes by a planner that holds this plan: the plan that it leaves, and its answer
+pub record Loads (held : Plan) (bytes : List ℕ) (outcome : LoadOutcome) : Type 0 where
+  pub leaves : planOf (outcome .planner) ≡ loadLeaves held bytes
+  pub answers : loadOf (outcome .answer) ≡ loadAnswer bytes

@@ -1,0 +1,5 @@
+-- The load: what it answers and leaves, and its working values.
+pub mod Outcome
+pub mod Answer
+pub mod Loading
+pub mod laws

@@ -1,0 +1,32 @@
+-- What a call answers, and what a load answers and leaves, for any held plan and any bytes.
+use Prim.Native.Nat.{ℕ}
+use mathlib.Core.List.{List, [], _∷_}
+use Rattle.cqf.specs.Plan.{Plan}
+use Rattle.plan.specs.Reading.{Reading, accepted, rejected, readPlan}
+
+-- a result, or a refusal's number in document 01 and what it carries
+pub data Answer (A : Type 0) : Type 0 where
+  result : A → Answer A
+  refusal : (number : ℕ) → (values : List ℕ) → Answer A
+
+-- the load: the numbers of port and flow fields, or 1 to 9 with the offset
+pub record Fields : Type 0 where
+  pub ports : ℕ
+  pub flows : ℕ
+
+abbrev pub readingAnswer : Reading → Answer Fields
+readingAnswer (accepted p ports flows) = result (record { ports = ports; flows = flows })
+readingAnswer (rejected number offset) = refusal number (offset ∷ [])
+
+abbrev pub readingLeaves : Plan → Reading → Plan
+readingLeaves held (accepted p ports flows) = p
+readingLeaves held (rejected number offset) = held
+
+unfoldable pub loadAnswer : List ℕ → Answer Fields
+unfolding readPlan
+loadAnswer s = readingAnswer (readPlan s)
+
+-- the plan held after a load: the one read, or the one held before
+unfoldable pub loadLeaves : Plan → List ℕ → Plan
+unfolding readPlan
+loadLeaves held s = readingLeaves held (readPlan s)

@@ -1,0 +1,3 @@
+-- Laws of the load.
+pub mod Copy
+pub mod Load

@@ -1,0 +1,55 @@
+-- `tables::sound::flow_in_range` meets its contract: each way out has decided the tests before it.
+use mathlib.Core.Path.{_≡_, sym, _∙_}
+use mathlib.Core.Bool.{Bool, true, _&&_, and-false}
+use borrow.Author.Needs.{needs}
+use borrow.Author.Tests.{not-true, not-false}
+use Rattle.tables.proofs.sound.flow_in_range.Statement.{statement}
+use Rattle.tables.proofs.sound.flow_in_range.Tie as tie
+
+period-ok-requires : tie.Need-period-ok-requires
+period-ok-requires c κs = search needs
+
+returns : tie.Need-returns
+returns c = simp (sym (c .before .period-ok .ensures) ∙ not-true _ (c .if1 .taken))
+
+count-ok-requires : tie.Need-count-ok-requires
+count-ok-requires c κs = search needs
+
+returns-2 : tie.Need-returns-2
+returns-2 c = simp (sym (c .before .count-ok .ensures) ∙ not-true _ (c .if2 .taken), and-false)
+
+length-ok-requires : tie.Need-length-ok-requires
+length-ok-requires c κs = search needs
+
+returns-3 : tie.Need-returns-3
+returns-3 c = simp (sym (c .before .length-ok .ensures) ∙ not-true _ (c .if3 .taken), and-false)
+
+hops-ok-requires : tie.Need-hops-ok-requires
+hops-ok-requires c κs = search needs
+
+returns-4 : tie.Need-returns-4
+returns-4 c =
+    let third = c .before .before in
+    let second = third .before .before in
+    let first = second .before .before in
+    four
+    (sym (first .period-ok .ensures) ∙ not-false _ (second .before .if1 .left))
+    (sym (second .count-ok .ensures) ∙ not-false _ (third .before .if2 .left))
+    (sym (third .length-ok .ensures) ∙ not-false _ (c .before .if3 .left))
+    (c .hops-ok .ensures)
+  where
+    four : {x y z w r : Bool} → x ≡ true → y ≡ true → z ≡ true → r ≡ w → r ≡ x && y && z && w
+    four f g h e = rw (f, g, h, e)
+
+pub flow-in-range-spec : {M : Type 1} → statement M
+flow-in-range-spec =
+    tie.close
+    (tie.spec
+    period-ok-requires
+    returns
+    count-ok-requires
+    returns-2
+    length-ok-requires
+    returns-3
+    hops-ok-requires
+    returns-4)

@@ -1,0 +1,95 @@
+-- `tables::sound::flow_sound` meets its contract: each way out has decided the tests of a flow's slot.
+use mathlib.Core.Path.{sym, _∙_}
+use mathlib.Core.List.{[]}
+use Prim.Native.Nat.{_≤_}
+use native.Mathlib.Omega.{arith}
+use lib.ListN.{getD}
+use borrow.Author.Tests.{not-true, not-false}
+use borrow.Author.Needs.{needs}
+use Rattle.cqf.specs.Limits.{maxHops}
+use Rattle.cqf.specs.laws.Slot.{slot-count, slot-length, slot-hops, slot-range, slot-route, ranged-hops}
+use Rattle.tables.specs.Columns.{columns}
+use Rattle.tables.proofs.sound.flow_sound.Statement.{statement}
+use Rattle.tables.proofs.sound.flow_sound.Tie as tie
+
+-- a flow in range has at most 16 ports
+few
+    : (c : tie.Else4)
+    → (let a = c .before .before .before .before .before .before .before .before .before .before .before .before .before .args in
+    getD (a .hops .now) (a .f) 0 ≤ maxHops)
+few c =
+    let a = c .before .before .before .before .before .before .before .before .before .before .before .before .before .args in
+    ranged-hops
+    (columns (a .rates .now) [] (a .periods .now) (a .counts .now) (a .lengths .now) (a .hops .now) (a .routes .now))
+    (a .f)
+    (sym (c .before .flow-in-range .ensures) ∙ not-false _ (c .if4 .left))
+
+mul-period : tie.Need-mul-period
+mul-period c = search needs
+
+shared-slice-read-period : tie.Need-shared-slice-read-period
+shared-slice-read-period c = search needs
+
+mul-count : tie.Need-mul-count
+mul-count c = search needs
+
+shared-slice-read-count : tie.Need-shared-slice-read-count
+shared-slice-read-count c = search needs
+
+mul-bytes : tie.Need-mul-bytes
+mul-bytes c = search needs
+
+shared-slice-read-bytes : tie.Need-shared-slice-read-bytes
+shared-slice-read-bytes c = search needs
+
+shared-slice-read-ports : tie.Need-shared-slice-read-ports
+shared-slice-read-ports c = search needs
+
+returns : tie.Need-returns
+returns c =
+    sym (slot-count _ _ (c .before .if1 .taken) (c .if2 .taken))
+
+returns-2 : tie.Need-returns-2
+returns-2 c = sym (slot-length _ _ (c .before .before .if1 .taken) (c .before .if2 .left) (c .if3 .taken))
+
+returns-3 : tie.Need-returns-3
+returns-3 c = sym (slot-hops _ _ (c .before .before .if1 .taken) (c .before .if2 .left) (c .if3 .left))
+
+flow-in-range-requires : tie.Need-flow-in-range-requires
+flow-in-range-requires c κs = search needs
+
+returns-4 : tie.Need-returns-4
+returns-4 c = sym (slot-range _ _ (c .before .before .if1 .left) (sym (c .before .flow-in-range .ensures) ∙ not-true _ (c .if4 .taken)))
+
+mul-route-sound : tie.Need-mul-route-sound
+mul-route-sound c = search needs
+
+cast-route-sound : tie.Need-cast-route-sound
+cast-route-sound c = omega (arith, few c)
+
+route-sound-requires : tie.Need-route-sound-requires
+route-sound-requires c κs = omega (arith, few c)
+
+returns-5 : tie.Need-returns-5
+returns-5 c = c .route-sound .ensures ∙ sym (slot-route _ _ (c .before .before .before .if1 .left) (sym (c .before .before .flow-in-range .ensures) ∙ not-false _ (c .before .if4 .left)))
+
+pub flow-sound-spec : {M : Type 1} → statement M
+flow-sound-spec =
+    tie.close
+    (tie.spec
+    mul-period
+    shared-slice-read-period
+    mul-count
+    shared-slice-read-count
+    mul-bytes
+    shared-slice-read-bytes
+    shared-slice-read-ports
+    returns
+    returns-2
+    returns-3
+    flow-in-range-requires
+    returns-4
+    mul-route-sound
+    cast-route-sound
+    route-sound-requires
+    returns-5)

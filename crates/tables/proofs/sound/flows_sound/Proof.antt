@@ -1,0 +1,65 @@
+-- `tables::sound::flows_sound` meets its contract. The loop's invariant: every slot passed is sound.
+use mathlib.Core.Path.{_≡_, sym, _∙_}
+use mathlib.Core.Bool.{true}
+use mathlib.Core.List.{[]}
+use Prim.Native.Nat.{_-_, _≤_}
+use native.Mathlib.Omega.{arith}
+use borrow.Author.Needs.{needs}
+use borrow.Author.Tests.{not-true, not-false}
+use Rattle.cqf.specs.Bounded.{allTo}
+use Rattle.cqf.specs.Limits.{flowSlots}
+use Rattle.cqf.specs.Plan.{flowSound}
+use Rattle.cqf.specs.laws.Bounds.{allTo-next, allTo-false}
+use Rattle.tables.specs.Columns.{columns}
+use Rattle.tables.proofs.sound.flows_sound.Statement.{statement}
+use Rattle.tables.proofs.sound.flows_sound.Tie as tie
+
+abbrev Inv-loop : tie.InvT-loop
+Inv-loop rates periods counts lengths hops routes f₀ f = (f ≤ flowSlots) × (allTo f (flowSound (columns rates [] periods counts lengths hops routes)) ≡ true)
+
+abbrev μ-loop : tie.MeasureT-loop
+μ-loop rates periods counts lengths hops routes f₀ f = flowSlots - f
+
+loop-holds : tie.Need-loop-holds Inv-loop μ-loop
+unfolding allTo
+loop-holds c = search needs
+
+flow-sound-requires : tie.Need-flow-sound-requires Inv-loop μ-loop
+flow-sound-requires c κs = search needs
+
+returns : tie.Need-returns Inv-loop μ-loop
+returns c =
+    let f = c .before .before .before .loop .f in
+    sym (allTo-false flowSlots _ f (omega arith) (sym (c .before .flow-sound .ensures) ∙ not-true _ (c .if1 .taken)))
+
+add-f : tie.Need-add-f Inv-loop μ-loop
+add-f c = search needs
+
+loop-less : tie.Need-loop-less Inv-loop μ-loop
+loop-less c = search needs
+
+loop-again : tie.Need-loop-again Inv-loop μ-loop
+loop-again c =
+    let at = c .before .before .before in (
+      omega arith,
+      allTo-next (at .loop .f) _ (at .loop .inv .1) (sym (c .before .flow-sound .ensures) ∙ not-false _ (c .if1 .left)),
+    )
+
+returns-2 : tie.Need-returns-2 Inv-loop μ-loop
+returns-2 c =
+    let all : c .before .loop .f ≡ flowSlots = omega arith in
+    sym (rw all at (c .before .loop .inv .1))
+
+pub flows-sound-spec : {M : Type 1} → statement M
+flows-sound-spec =
+    tie.close
+    (tie.spec
+    Inv-loop
+    μ-loop
+    loop-holds
+    flow-sound-requires
+    returns
+    add-f
+    loop-less
+    loop-again
+    returns-2)

@@ -1,0 +1,153 @@
+-- `tables::sound::route_sound` meets its contract. The loop's invariant: every port passed is in the plan and new, and `seen`
+-- has 1 for each of them.
+use mathlib.Core.Path.{_≡_, refl, sym, _∙_}
+use mathlib.Core.Bool.{Bool, true, false, not, _&&_, and-false}
+use mathlib.Core.List.{List, []}
+use Prim.Native.Nat.{ℕ, _+_, _-_, _≤_, _<_}
+use native.Mathlib.Omega.{arith}
+use lib.ListN.{length, getD, length-set, getD-replicate}
+use borrow.Author.Needs.{needs}
+use Rattle.cqf.specs.Bounded.{allTo, elem, every, distinct, row}
+use Rattle.cqf.specs.Limits.{portSlots}
+use Rattle.cqf.specs.Plan.{portIn}
+use Rattle.cqf.specs.laws.Bounds.{allTo-next, allTo-false}
+use Rattle.cqf.specs.laws.Route.{route-test, portIn-low, portIn-high, portIn-absent, portIn-there}
+use Rattle.tables.specs.Columns.{Marked}
+use Rattle.tables.specs.laws.Marks.{mark-next, marked-new, marked-again}
+use Rattle.tables.proofs.sound.route_sound.Statement.{statement}
+use Rattle.tables.proofs.sound.route_sound.Tie as tie
+
+-- the test of the port at i of a route: it is in the plan, and stands nowhere before
+abbrev passes : List ℕ → List ℕ → ℕ → ℕ → Bool
+passes rates routes base i =
+    portIn rates (getD routes (base + i) 0) && not (elem (getD routes (base + i) 0) (row routes base i))
+
+abbrev Inv-loop : tie.InvT-loop
+Inv-loop rates routes base hops seen₀ i₀ seen i =
+    (i ≤ hops)
+    × (length seen ≡ portSlots)
+    × (allTo i (passes rates routes base) ≡ true)
+    × Marked [] seen (row routes base i) 1
+
+abbrev μ-loop : tie.MeasureT-loop
+μ-loop rates routes base hops seen₀ i₀ seen i = hops - i
+
+-- one port that fails the test makes the route unsound
+module _ (rates routes : List ℕ) (base hops i : ℕ) (within : i < hops) where
+  unsound : passes rates routes base i ≡ false → false ≡ every (portIn rates) (row routes base hops) && distinct (row routes base hops)
+  unsound e = sym (route-test (portIn rates) routes base hops ∙ allTo-false hops (passes rates routes base) i within e)
+
+  outside
+      : portIn rates (getD routes (base + i) 0) ≡ false
+      → false ≡ every (portIn rates) (row routes base hops) && distinct (row routes base hops)
+  outside e = unsound (rw e)
+
+  twice
+      : elem (getD routes (base + i) 0) (row routes base i) ≡ true
+      → false ≡ every (portIn rates) (row routes base hops) && distinct (row routes base hops)
+  twice e = unsound (rw e (and-false (portIn rates (getD routes (base + i) 0))))
+
+loop-holds : tie.Need-loop-holds Inv-loop μ-loop
+unfolding allTo elem row
+loop-holds c = (omega arith, refl, refl, λ q h. getD-replicate 64 q 0 0 h)
+
+add-n : tie.Need-add-n Inv-loop μ-loop
+add-n c = search needs
+
+shared-slice-read-n : tie.Need-shared-slice-read-n Inv-loop μ-loop
+shared-slice-read-n c = search needs
+
+cast-n : tie.Need-cast-n Inv-loop μ-loop
+cast-n c =
+    let at = c .before .before in
+    omega (arith, c .shared-slice-known .given (at .before .args .base + at .loop .i))
+
+returns : tie.Need-returns Inv-loop μ-loop
+returns c =
+    let at = c .before .before .before in
+    let a = at .before .args in
+    outside (a .rates .now) (a .routes .now) (a .base) (a .hops) (at .loop .i) (omega arith)
+    (portIn-low (a .rates .now) _ (c .if1 .taken))
+
+returns-2 : tie.Need-returns-2 Inv-loop μ-loop
+returns-2 c =
+    let at = c .before .before .before .before in
+    let a = at .before .args in
+    outside (a .rates .now) (a .routes .now) (a .base) (a .hops) (at .loop .i) (omega arith)
+    (portIn-high (a .rates .now) _ (c .if2 .taken))
+
+mul-if3 : tie.Need-mul-if3 Inv-loop μ-loop
+mul-if3 c = search needs
+
+shared-slice-read-if3 : tie.Need-shared-slice-read-if3 Inv-loop μ-loop
+shared-slice-read-if3 c = search needs
+
+returns-3 : tie.Need-returns-3 Inv-loop μ-loop
+returns-3 c =
+    let at = c .before .before .before .before .before .before in
+    let a = at .before .args in
+    outside (a .rates .now) (a .routes .now) (a .base) (a .hops) (at .loop .i) (omega arith)
+    (portIn-absent (a .rates .now) (getD (a .routes .now) (a .base + at .loop .i) 0) (omega arith) (c .if3 .taken))
+
+array-read-if4 : tie.Need-array-read-if4 Inv-loop μ-loop
+array-read-if4 c = search needs
+
+returns-4 : tie.Need-returns-4 Inv-loop μ-loop
+returns-4 c =
+    let at = c .before .before .before .before .before .before .before in
+    let a = at .before .args in
+    let n = getD (a .routes .now) (a .base + at .loop .i) 0 in
+    twice (a .rates .now) (a .routes .now) (a .base) (a .hops) (at .loop .i) (omega arith)
+    (marked-again (at .loop .seen) (row (a .routes .now) (a .base) (at .loop .i)) n (at .loop .inv .3) (omega arith) (omega arith) (c .if4 .taken))
+
+array-write-seen : tie.Need-array-write-seen Inv-loop μ-loop
+array-write-seen c = search needs
+
+add-i : tie.Need-add-i Inv-loop μ-loop
+add-i c = search needs
+
+loop-less : tie.Need-loop-less Inv-loop μ-loop
+loop-less c = search needs
+
+loop-again : tie.Need-loop-again Inv-loop μ-loop
+loop-again c =
+    let at = c .before .before .before .before .before .before .before in
+    let a = at .before .args in
+    let n = getD (a .routes .now) (a .base + at .loop .i) 0 in
+    let r = row (a .routes .now) (a .base) (at .loop .i) in
+    let new : elem n r ≡ false = marked-new (at .loop .seen) r n (at .loop .inv .3) (omega arith) (omega arith) (c .if4 .left) in
+    let there : portIn (a .rates .now) n ≡ true = portIn-there (a .rates .now) n (omega arith) (omega arith) (c .before .if3 .left) in (
+      omega arith,
+      simp length-set (at .loop .inv .1),
+      allTo-next (at .loop .i) (passes (a .rates .now) (a .routes .now) (a .base)) (at .loop .inv .2) (rw (there, new)),
+      mark-next [] (at .loop .seen) (a .routes .now) (a .base) (at .loop .i) 1 1 (at .loop .inv .3) (omega arith) (omega arith) new refl,
+    )
+
+returns-5 : tie.Need-returns-5 Inv-loop μ-loop
+returns-5 c =
+    let at = c .before in
+    let all : at .loop .i ≡ at .before .args .hops = omega arith in
+    sym (route-test _ _ _ (at .before .args .hops) ∙ (rw all at (at .loop .inv .2)))
+
+pub route-sound-spec : {M : Type 1} → statement M
+route-sound-spec =
+    tie.close
+    (tie.spec
+    Inv-loop
+    μ-loop
+    loop-holds
+    add-n
+    shared-slice-read-n
+    cast-n
+    returns
+    returns-2
+    mul-if3
+    shared-slice-read-if3
+    returns-3
+    array-read-if4
+    returns-4
+    array-write-seen
+    add-i
+    loop-less
+    loop-again
+    returns-5)

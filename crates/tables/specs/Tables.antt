@@ -1,0 +1,17 @@
+-- The plan that a planner's tables hold.
+use Rattle.cqf.specs.Plan.{Plan}
+use Rattle.tables.specs.declared.Planner.{Planner}
+
+abbrev pub planOf : Planner → Plan
+planOf s =
+    record {
+      guard = s .guard;
+      top = s .top;
+      rates = s .rates;
+      blockings = s .blockings;
+      periods = s .periods;
+      counts = s .counts;
+      lengths = s .lengths;
+      hops = s .hops;
+      routes = s .routes;
+    }

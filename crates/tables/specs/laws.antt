@@ -1,0 +1,2 @@
+-- Laws of tables that are filled port by port.
+pub mod Marks

@@ -1,0 +1,40 @@
+// The tables of a held plan, and whether they hold a plan that the rules accept.
+ghost use mathlib.Core.Path.{_≡_};
+ghost use Rattle.cqf.specs.Plan.{noPlan};
+ghost use Rattle.tables.specs.Tables.{planOf};
+
+mod sound; // sound.rt: whether the tables hold a plan that the rules accept
+
+pub use sound::formed;
+
+// The held plan: port n in slot n - 1, flow n in slot n - 1, a flow's route at its slot times 16. An absent port has rate 0,
+// an absent flow period 0; top is 0 where no plan is held.
+#[repr(C)]
+pub struct Planner {
+    pub guard: u32,
+    pub top: u32,
+    pub rates: [u32; 64],
+    pub blockings: [u16; 64],
+    pub periods: [u32; 256],
+    pub counts: [u16; 256],
+    pub lengths: [u16; 256],
+    pub hops: [u8; 256],
+    pub routes: [u8; 4096],
+}
+
+// The planner that holds no plan.
+pub fn empty() -> Planner
+    ensures { λ r. ⌜ planOf r ≡ noPlan ⌝ }
+{
+    Planner {
+        guard: 0,
+        top: 0,
+        rates: [0; 64],
+        blockings: [0; 64],
+        periods: [0; 256],
+        counts: [0; 256],
+        lengths: [0; 256],
+        hops: [0; 256],
+        routes: [0; 4096],
+    }
+}

@@ -1,0 +1,185 @@
+// Whether the tables hold a plan that the rules accept: a planner that no load made is answered as one that holds no plan.
+use super::Planner;
+use numbers::limits::blocking_ok;
+use numbers::limits::count_ok;
+use numbers::limits::guard_ok;
+use numbers::limits::hops_ok;
+use numbers::limits::length_ok;
+use numbers::limits::period_ok;
+use numbers::limits::rate_ok;
+use numbers::limits::top_ok;
+ghost use mathlib.Core.Path.{_≡_};
+ghost use mathlib.Core.Bool.{_&&_, _||_};
+ghost use mathlib.Core.List.{[]};
+ghost use Prim.Native.Nat.{_+_, _≤_, _<_};
+ghost use lib.ListN.{length};
+ghost use lib.Dec.{eqb};
+ghost use Rattle.cqf.specs.Bounded.{anyTo, allTo, distinct, every, row};
+ghost use Rattle.cqf.specs.Limits.{portSlots, flowSlots, rateOk, blockingOk, periodOk, countOk, lengthOk, hopsOk};
+ghost use Rattle.cqf.specs.Plan.{portIn, present, portSound, flowSound, wellFormed};
+ghost use Rattle.tables.specs.Tables.{planOf};
+ghost use Rattle.tables.specs.Columns.{columns, FlowColumns};
+
+// Whether a port's slot is empty, or in range.
+fn port_sound(rate: u32, blocking: u16) -> bool
+    ensures { λ r. ⌜ r ≡ (eqb rate 0 && eqb blocking 0) || (rateOk rate && blockingOk blocking) ⌝ }
+{
+    if rate == 0 {
+        return blocking == 0;
+    }
+    if !rate_ok(rate) {
+        return false;
+    }
+    blocking_ok(blocking)
+}
+
+fn ports_sound<'a>(rates: &'a [u32], blockings: &'a [u16]) -> bool
+    requires { ⌜ (length (now rates) ≡ portSlots) × (length (now blockings) ≡ portSlots) ⌝ }
+    ensures { λ r. ⌜ r ≡ allTo portSlots (portSound (columns (now (rates .entry)) (now (blockings .entry)) [] [] [] [] [])) ⌝ }
+{
+    let mut q: usize = 0;
+    while q < 64 {
+        if !port_sound(rates[q], blockings[q]) {
+            return false;
+        }
+        q += 1;
+    }
+    true
+}
+
+// Whether each port of a route is in the plan and stands in the route once.
+fn route_sound<'a>(rates: &'a [u32], routes: &'a [u8], base: usize, hops: usize) -> bool
+    requires { ⌜ (length (now rates) ≡ portSlots) × (base + hops ≤ length (now routes)) ⌝ }
+    ensures { λ r. ⌜ r ≡ every (portIn (now (rates .entry))) (row (now (routes .entry)) base hops) && distinct (row (now (routes .entry)) base hops) ⌝ }
+{
+    let mut seen = [0u8; 64];
+    let mut i: usize = 0;
+    while i < hops {
+        let n = routes[base + i] as usize;
+        if n < 1 {
+            return false;
+        }
+        if 64 < n {
+            return false;
+        }
+        if rates[n - 1] == 0 {
+            return false;
+        }
+        if seen[n - 1] != 0 {
+            return false;
+        }
+        seen[n - 1] = 1;
+        i += 1;
+    }
+    true
+}
+
+// Whether the numbers of a flow are in range.
+fn flow_in_range(period: u32, count: u16, bytes: u16, hops: u8) -> bool
+    ensures { λ r. ⌜ r ≡ periodOk period && countOk count && lengthOk bytes && hopsOk hops ⌝ }
+{
+    if !period_ok(period) {
+        return false;
+    }
+    if !count_ok(count) {
+        return false;
+    }
+    if !length_ok(bytes) {
+        return false;
+    }
+    hops_ok(hops as usize)
+}
+
+// Whether a flow's slot is empty, or holds a flow in range over distinct ports of the plan.
+fn flow_sound<'a>(
+    rates: &'a [u32],
+    periods: &'a [u32],
+    counts: &'a [u16],
+    lengths: &'a [u16],
+    hops: &'a [u8],
+    routes: &'a [u8],
+    f: usize,
+) -> bool
+    requires { ⌜ (length (now rates) ≡ portSlots) × FlowColumns (now periods) (now counts) (now lengths) (now hops) (now routes) × (f < flowSlots) ⌝ }
+    ensures { λ r. ⌜ r ≡ flowSound (columns (now (rates .entry)) [] (now (periods .entry)) (now (counts .entry)) (now (lengths .entry)) (now (hops .entry)) (now (routes .entry))) f ⌝ }
+{
+    let period = periods[f];
+    let count = counts[f];
+    let bytes = lengths[f];
+    let ports = hops[f];
+    if period == 0 {
+        if count != 0 {
+            return false;
+        }
+        if bytes != 0 {
+            return false;
+        }
+        return ports == 0;
+    }
+    if !flow_in_range(period, count, bytes, ports) {
+        return false;
+    }
+    route_sound(rates, routes, f * 16, ports as usize)
+}
+
+fn flows_sound<'a>(
+    rates: &'a [u32],
+    periods: &'a [u32],
+    counts: &'a [u16],
+    lengths: &'a [u16],
+    hops: &'a [u8],
+    routes: &'a [u8],
+) -> bool
+    requires { ⌜ (length (now rates) ≡ portSlots) × FlowColumns (now periods) (now counts) (now lengths) (now hops) (now routes) ⌝ }
+    ensures { λ r. ⌜ r ≡ allTo flowSlots (flowSound (columns (now (rates .entry)) [] (now (periods .entry)) (now (counts .entry)) (now (lengths .entry)) (now (hops .entry)) (now (routes .entry)))) ⌝ }
+{
+    let mut f: usize = 0;
+    while f < 256 {
+        if !flow_sound(rates, periods, counts, lengths, hops, routes, f) {
+            return false;
+        }
+        f += 1;
+    }
+    true
+}
+
+fn any_present(periods: &[u32]) -> bool
+    requires { ⌜ length (now periods) ≡ flowSlots ⌝ }
+    ensures { λ r. ⌜ r ≡ anyTo flowSlots (present (columns [] [] (now (periods .entry)) [] [] [] [])) ⌝ }
+{
+    let mut f: usize = 0;
+    while f < 256 {
+        if periods[f] != 0 {
+            return true;
+        }
+        f += 1;
+    }
+    false
+}
+
+pub fn formed(planner: Planner) -> bool
+    ensures { λ r. ⌜ r ≡ wellFormed (planOf planner) ⌝ }
+{
+    let top = planner.top;
+    if !top_ok(top) {
+        return false;
+    }
+    let guard = planner.guard;
+    if !guard_ok(guard) {
+        return false;
+    }
+    if !ports_sound(&planner.rates, &planner.blockings) {
+        return false;
+    }
+    if !flows_sound(
+        &planner.rates,
+        &planner.periods,
+        &planner.counts,
+        &planner.lengths,
+        &planner.hops,
+        &planner.routes,
+    ) {
+        return false;
+    }
+    any_present(&planner.periods)
+}
