@@ -21,7 +21,7 @@ ghost use Rattle.planner.specs.Outcome.{leastAnswer, leastLeaves};
 
 // The least admissible duration, or one above top where there is none. No duration below t is admissible, and a port that fails
 // at t fails up to what it needs there. Where there is one, out is left with the demands at it.
-fn climb(planner: Planner, out: &mut [u64]) -> u64
+pub(crate) fn seek(planner: Planner, out: &mut [u64]) -> u64
     requires { ⌜ (wellFormed (planOf planner) ≡ true) × (length (now out) ≡ portSlots) ⌝ }
     ensures { λ r. ⌜ r ≡ Condition.least (planOf planner) ⌝ }
     ensures { λ r. ⌜ (r ≤ planner .top → now (out .exit) ≡ tabulate portSlots (λ q. Condition.demand (planOf planner) q r)) ⌝ }
@@ -73,7 +73,7 @@ pub fn least(planner: Planner, scratch: &mut [u64]) -> SearchAnswer
     if scratch.len() < 64 {
         return SearchAnswer::ShortScratch;
     }
-    let found = climb(planner, &mut scratch[..64]);
+    let found = seek(planner, &mut scratch[..64]);
     let top = planner.top as u64;
     if found <= top {
         return SearchAnswer::Duration(found);

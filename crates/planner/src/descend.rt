@@ -2,13 +2,14 @@
 use super::SearchAnswer;
 use super::demand::demands;
 use super::need::need;
-use super::search::conclude;
+use super::search::refused;
 use tables::Planner;
 use tables::formed;
 ghost use mathlib.Core.Path.{_≡_};
 ghost use mathlib.Core.Bool.{true};
-ghost use Prim.Native.Nat.{max};
+ghost use Prim.Native.Nat.{max, _≤_};
 ghost use lib.ListN.{length};
+ghost use Rattle.cqf.specs.Bounded.{tabulate};
 ghost use Rattle.cqf.specs.Limits.{portSlots};
 ghost use Rattle.cqf.specs.Plan.{wellFormed};
 ghost use Rattle.cqf.specs.Condition;
@@ -24,13 +25,16 @@ fn larger(a: u64, b: u64) -> u64
 }
 
 // The margin-safe duration, or one above top where there is none. Every duration from t to top is admissible, and where no port
-// fails at t - 1, none does from there down to the most that one needs there.
-fn descend(planner: Planner, out: &mut [u64]) -> u64
+// fails at t - 1, none does from there down to the most that one needs there. Where there is one, out is left with the demands
+// at it.
+pub(crate) fn seek(planner: Planner, out: &mut [u64]) -> u64
     requires { ⌜ (wellFormed (planOf planner) ≡ true) × (length (now out) ≡ portSlots) ⌝ }
     ensures { λ r. ⌜ r ≡ Condition.marginSafe (planOf planner) ⌝ }
+    ensures { λ r. ⌜ (r ≤ planner .top → now (out .exit) ≡ tabulate portSlots (λ q. Condition.demand (planOf planner) q r)) ⌝ }
 {
     let guard = planner.guard;
-    let mut t = planner.top as u64 + 1;
+    let top = planner.top as u64;
+    let mut t = top + 1;
     let found = loop {
         if t == 1 {
             break t;
@@ -62,6 +66,18 @@ fn descend(planner: Planner, out: &mut [u64]) -> u64
         }
         t = most;
     };
+    if top < found {
+        return found;
+    }
+    demands(
+        &planner.periods,
+        &planner.counts,
+        &planner.lengths,
+        &planner.hops,
+        &planner.routes,
+        found,
+        &mut out[..],
+    );
     found
 }
 
@@ -75,6 +91,10 @@ pub fn margin_safe(planner: Planner, scratch: &mut [u64]) -> SearchAnswer
     if scratch.len() < 64 {
         return SearchAnswer::ShortScratch;
     }
-    let found = descend(planner, &mut scratch[..64]);
-    conclude(planner, found, &mut scratch[..64])
+    let found = seek(planner, &mut scratch[..64]);
+    let top = planner.top as u64;
+    if found <= top {
+        return SearchAnswer::Duration(found);
+    }
+    refused(planner, &mut scratch[..64])
 }

@@ -1,4 +1,4 @@
-// How a search ends. Neither goes by single ns: see climb.rt and descend.rt.
+// How a search that found none ends. Neither search goes by single ns: see climb.rt and descend.rt.
 use super::SearchAnswer;
 use super::demand::demands;
 use super::failing::failing_set;
@@ -6,17 +6,15 @@ use numbers::port::failing_ports;
 use numbers::port::window;
 use tables::Planner;
 ghost use mathlib.Core.Path.{_≡_};
-ghost use mathlib.Core.Bool.{true, cond};
+ghost use mathlib.Core.Bool.{true};
 ghost use Prim.Native.Nat.{ℕ};
 ghost use lib.ListN.{length};
-ghost use lib.Dec.{leb};
 ghost use Rattle.cqf.specs.Bounded.{tabulate};
 ghost use Rattle.cqf.specs.Limits.{portSlots};
 ghost use Rattle.cqf.specs.Plan.{wellFormed};
 ghost use Rattle.cqf.specs.Condition.{demand};
 ghost use Rattle.tables.specs.Tables.{planOf};
 ghost use Rattle.planner.specs.Answer.{searchOf};
-ghost use Rattle.loading.specs.Outcome.{result};
 ghost use Rattle.planner.specs.Outcome.{failingAt};
 
 // The refusal of a search that found none: the ports that fail at top, with the demands there.
@@ -42,26 +40,4 @@ pub(crate) fn refused(planner: Planner, out: &mut [u64]) -> SearchAnswer
         port: ports.port,
         count: ports.count,
     }
-}
-
-// The answer of a search that found this duration, above top where there is none, with the demands at it or at top.
-pub(crate) fn conclude(planner: Planner, found: u64, out: &mut [u64]) -> SearchAnswer
-    requires { ⌜ (wellFormed (planOf planner) ≡ true) × (length (now out) ≡ portSlots) ⌝ }
-    ensures { λ r. ⌜ ((number : ℕ) → searchOf number r ≡ cond (leb found (planner .top)) (result found) (failingAt number (planOf planner) (planner .top))) ⌝ }
-    ensures { λ r. ⌜ now (out .exit) ≡ tabulate portSlots (λ q. demand (planOf planner) q (cond (leb found (planner .top)) found (planner .top))) ⌝ }
-{
-    let top = planner.top as u64;
-    if top < found {
-        return refused(planner, &mut out[..]);
-    }
-    demands(
-        &planner.periods,
-        &planner.counts,
-        &planner.lengths,
-        &planner.hops,
-        &planner.routes,
-        found,
-        &mut out[..],
-    );
-    SearchAnswer::Duration(found)
 }

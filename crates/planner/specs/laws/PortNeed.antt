@@ -1,12 +1,14 @@
 -- What a port needs, from its numbers and from the plan.
 use mathlib.Core.Path.{_≡_}
 use mathlib.Core.Bool.{Bool, true, false, cond}
-use Prim.Native.Nat.{ℕ, _+_, _*_, _^_, _≤_, _<_}
+use Prim.Native.Nat.{ℕ, _+_, _-_, _*_, _/_, _^_, _≤_, _<_}
+use native.Mathlib.Nat.{div-le-self}
+use native.Mathlib.Numerals.{sub-one}
 use native.Mathlib.Omega.{arith}
 use lib.Dec.{eqb, ltb}
 use borrow.Author.Tests.{lt-ltb, ltb-true}
 use Rattle.cqf.specs.Plan.{Plan, rateOf, blockingOf}
-use Rattle.cqf.specs.Condition.{bitsOf}
+use Rattle.cqf.specs.Condition.{bitsOf, ceilDiv}
 use Rattle.cqf.specs.laws.Bounded.{cond-some}
 use Rattle.cqf.specs.laws.Need.{needFor}
 use Rattle.planner.specs.Failing.{workloadOf, mostDemand}
@@ -20,6 +22,22 @@ work-fits blocking bits l few = go (eqb blocking 0)
     go : (x : Bool) → 1000 * (bits + cond x 0 (bitsOf blocking)) < 2 ^ 60
     go true = omega arith
     go false = omega arith
+
+-- and so is a quotient of such numbers beside two guard bands
+pub quotient-fits : (guard n d : ℕ) → guard < 2 ^ 32 → n < 2 ^ 61 → 2 * guard + n / d < 2 ^ 64
+quotient-fits guard n d g l = omega (arith, div-le-self n d)
+
+-- a port with a demand needs its work in ns, rounded up, beside two guard bands: n is one below the work and the rate
+pub need-rounded
+    : (guard rate blocking bits n : ℕ)
+    → 0 < bits
+    → 0 < rate
+    → n + 1 ≡ workloadOf blocking bits + rate
+    → 2 * guard + n / rate ≡ needBy guard rate blocking bits
+unfolding ceilDiv
+need-rounded guard rate blocking bits n some served e =
+    let is : n ≡ workloadOf blocking bits + (rate - 1) = omega arith in
+    rw (is, lt-ltb 0 bits some, sub-one)
 
 -- what a port with a demand needs
 pub need-by : (p : Plan) (q bits : ℕ) → 0 < bits → needBy (p .guard) (rateOf p q) (blockingOf p q) bits ≡ needFor p q bits

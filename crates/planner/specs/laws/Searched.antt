@@ -1,11 +1,10 @@
 -- The outcome of a search, case by case.
-use mathlib.Core.Path.{_≡_, sym, ap, ap₂, subst, _∙_}
-use mathlib.Core.Bool.{true, false, cond}
+use mathlib.Core.Path.{_≡_, ap₂, subst, _∙_}
+use mathlib.Core.Bool.{true, false}
 use mathlib.Core.List.{List, [], _∷_, _++_}
 use Prim.Native.Nat.{ℕ, suc, _-_, _*_, _≤_, _<_}
 use lib.ListN.{length, drop}
 use lib.Seq.{drop-at}
-use lib.Dec.{leb}
 use lib.Count.{ones, trailingZeros}
 use borrow.Author.Tests.{le-leb, lt-leb}
 use Rattle.cqf.specs.Bounded.{tabulate}
@@ -18,13 +17,6 @@ use Rattle.planner.specs.Outcome.{failingAt, searched, searchLeaves, lea
 use Rattle.planner.specs.Failing.{setTo, failsIn}
 use Rattle.planner.specs.laws.Fails.{failing-set, set-lowest-failing, set-failing}
 use Rattle.planner.specs.laws.Scratch.{Filled}
-
--- the answer of a search that has found this duration, above top where there is none, and the duration whose demands it leaves
-abbrev pub answerOf : (number : ℕ) → Plan → ℕ → Answer ℕ
-answerOf number p found = cond (leb found (p .top)) (result found) (failingAt number p (p .top))
-
-abbrev pub durationOf : Plan → ℕ → ℕ
-durationOf p found = cond (leb found (p .top)) found (p .top)
 
 -- what a search that looks for this duration answers and leaves
 abbrev pub Ends : (number : ℕ) (p : Plan) (found : ℕ) (scratch : List ℕ) → Answer ℕ → List ℕ → Type 0
@@ -43,62 +35,37 @@ pub ends-short
     → Ends number p found scratch (refusal 11 (0 ∷ [])) scratch
 ends-short number p found scratch e l = (rw (e, lt-leb _ _ l), rw (e, lt-leb _ _ l))
 
--- where the duration that it looks for was found, the first numbers are replaced, and those past them are kept
-pub ends-found
-    : (number : ℕ) (p : Plan) (scratch : List ℕ) {wanted found : ℕ} {answer : Answer ℕ} {out : List ℕ}
+-- the duration that it looks for was found, up to top: the demands at it replace the first numbers, and those past them are kept
+pub ends-within
+    : (number : ℕ) (p : Plan) (scratch : List ℕ) {wanted found : ℕ} {out : List ℕ}
     → wellFormed p ≡ true
     → portSlots ≤ length scratch
     → found ≡ wanted
-    → answer ≡ answerOf number p found
-    → out ≡ tabulate portSlots (λ q. demand p q (durationOf p found))
-    → Ends number p wanted scratch answer (out ++ drop portSlots scratch)
-ends-found number p scratch {answer = answer} {out = out} e l is a d =
+    → found ≤ p .top
+    → out ≡ tabulate portSlots (λ q. demand p q found)
+    → Ends number p wanted scratch (result found) (out ++ drop portSlots scratch)
+ends-within number p scratch {found = found} {out = out} e l is within d =
     subst
-    (λ (n : ℕ). Ends number p n scratch answer (out ++ drop portSlots scratch))
+    (λ (n : ℕ). Ends number p n scratch (result found) (out ++ drop portSlots scratch))
     is
-    (rw (e, le-leb _ _ l) a, rw (e, le-leb _ _ l) (ap (λ (o : List ℕ). o ++ drop portSlots scratch) d))
+    (rw (e, le-leb _ _ l, le-leb _ _ within), rw (e, le-leb _ _ l, le-leb _ _ within, d))
 
--- the same where the first numbers were replaced before
-pub ends-found-again
+-- it is above top, so there is none: the refusal, and the demands at top where the first numbers were replaced before
+pub ends-above
     : (number : ℕ) (p : Plan) (scratch work : List ℕ) {wanted found : ℕ} {answer : Answer ℕ} {out : List ℕ}
     → wellFormed p ≡ true
     → portSlots ≤ length scratch
     → length work ≡ portSlots
     → found ≡ wanted
-    → answer ≡ answerOf number p found
-    → out ≡ tabulate portSlots (λ q. demand p q (durationOf p found))
-    → Ends number p wanted scratch answer (out ++ drop portSlots (work ++ drop portSlots scratch))
-ends-found-again number p scratch work {wanted = wanted} {answer = answer} {out = out} e l w is a d =
-    subst
-    (λ (rest : List ℕ). Ends number p wanted scratch answer (out ++ rest))
-    (sym (drop-at work (drop portSlots scratch) portSlots w))
-    (ends-found number p scratch e l is a d)
-
--- a duration up to top is the result, with the demands at it
-pub found-within : (number : ℕ) (p : Plan) {found : ℕ} → found ≤ p .top → result found ≡ answerOf number p found
-found-within number p l = rw (le-leb _ _ l)
-
-pub demands-within
-    : (p : Plan) {out : List ℕ} {found : ℕ}
-    → found ≤ p .top
-    → out ≡ tabulate portSlots (λ q. demand p q found)
-    → out ≡ tabulate portSlots (λ q. demand p q (durationOf p found))
-demands-within p l d = simp (le-leb _ _ l) d
-
--- above top there is none: the refusal, with the demands at top
-pub found-above
-    : (number : ℕ) (p : Plan) {found : ℕ} {answer : Answer ℕ}
     → p .top < found
     → answer ≡ failingAt number p (p .top)
-    → answer ≡ answerOf number p found
-found-above number p l e = rw (lt-leb _ _ l) e
-
-pub demands-above
-    : (p : Plan) {out : List ℕ} {found : ℕ}
-    → p .top < found
     → out ≡ tabulate portSlots (λ q. demand p q (p .top))
-    → out ≡ tabulate portSlots (λ q. demand p q (durationOf p found))
-demands-above p l d = simp (lt-leb _ _ l) d
+    → Ends number p wanted scratch answer (out ++ drop portSlots (work ++ drop portSlots scratch))
+ends-above number p scratch work {answer = answer} {out = out} e l w is above a d =
+    subst
+    (λ (n : ℕ). Ends number p n scratch answer (out ++ drop portSlots (work ++ drop portSlots scratch)))
+    is
+    (rw (e, le-leb _ _ l, lt-leb _ _ above) a, rw (drop-at work (drop portSlots scratch) portSlots w, e, le-leb _ _ l, lt-leb _ _ above, d))
 
 -- the refusal names the ports that fail at top
 pub refused-at-top

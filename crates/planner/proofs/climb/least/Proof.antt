@@ -2,6 +2,7 @@
 use mathlib.Core.Path.{_≡_, sym, ap, _∙_}
 use mathlib.Core.Bool.{true}
 use mathlib.Core.List.{_++_}
+use Prim.Native.Nat.{_≤_, _<_}
 use lib.ListN.{length, take, drop}
 use lib.Seq.{length-take-le, take-at}
 use native.Mathlib.Omega.{arith}
@@ -11,7 +12,7 @@ use Rattle.cqf.specs.Limits.{portSlots}
 use Rattle.cqf.specs.Plan.{wellFormed}
 use Rattle.cqf.specs.laws.Ranges.{top-most}
 use Rattle.tables.specs.Tables.{planOf}
-use Rattle.planner.specs.laws.Searched.{ends-no-plan, ends-short, ends-found, ends-found-again, found-within, demands-within, found-above, demands-above, least-ends}
+use Rattle.planner.specs.laws.Searched.{ends-no-plan, ends-short, ends-within, ends-above, least-ends}
 use Rattle.planner.proofs.climb.least.Statement.{statement}
 use Rattle.planner.proofs.climb.least.Tie as tie
 
@@ -20,16 +21,16 @@ formed-past : (c : tie.Else1) → wellFormed (planOf (c .before .before .before 
 formed-past c = sym (c .before .formed .ensures) ∙ not-false _ (c .if1 .left)
 
 -- the part that the search was lent has 64 numbers, and still has them after it
-part-long : (c : tie.After-climb-arg) → length (take 64 (c .before .before .before .before .before .args .scratch .now)) ≡ portSlots
+part-long : (c : tie.After-seek-arg) → length (take 64 (c .before .before .before .before .before .args .scratch .now)) ≡ portSlots
 part-long c = length-take-le 64 (c .before .before .before .before .before .args .scratch .now) (c .before .if2 .left)
 
-work-long : (c : tie.After-climb) → length (c .climb .last .1 .0) ≡ portSlots
-work-long c = c .climb .kept .1 .0 ∙ part-long (c .before)
+work-long : (c : tie.After-seek) → length (c .seek .last .1 .0) ≡ portSlots
+work-long c = c .seek .kept .1 .0 ∙ part-long (c .before)
 
 again-long
-    : (c : tie.After-climb)
-    → length (take 64 (c .climb .last .1 .0 ++ drop 64 (c .before .before .before .before .before .before .args .scratch .now))) ≡ portSlots
-again-long c = ap length (take-at (c .climb .last .1 .0) _ 64 (work-long c)) ∙ work-long c
+    : (c : tie.After-seek)
+    → length (take 64 (c .seek .last .1 .0 ++ drop 64 (c .before .before .before .before .before .before .args .scratch .now))) ≡ portSlots
+again-long c = ap length (take-at (c .seek .last .1 .0) _ 64 (work-long c)) ∙ work-long c
 
 formed-requires : tie.Need-formed-requires
 formed-requires c κs = tt
@@ -40,14 +41,14 @@ returns c = least-ends _ _ (ends-no-plan 22 _ _ _ (sym (c .before .formed .ensur
 returns-2 : tie.Need-returns-2
 returns-2 c = least-ends _ _ (ends-short 22 _ _ _ (formed-past (c .before)) (c .if2 .taken))
 
-slice-relend-prefix-climb : tie.Need-slice-relend-prefix-climb
-slice-relend-prefix-climb c = c .if2 .left
+slice-relend-prefix-seek : tie.Need-slice-relend-prefix-seek
+slice-relend-prefix-seek c = c .if2 .left
 
-slice-aggregate-climb : tie.Need-slice-aggregate-climb
-slice-aggregate-climb c = sym (part-long c)
+slice-aggregate-seek : tie.Need-slice-aggregate-seek
+slice-aggregate-seek c = sym (part-long c)
 
-climb-requires : tie.Need-climb-requires
-climb-requires c κs = (formed-past (c .before .before), part-long c)
+seek-requires : tie.Need-seek-requires
+seek-requires c κs = (formed-past (c .before .before), part-long c)
 
 cast-top : tie.Need-cast-top
 cast-top c = omega (arith, top-most _ (formed-past (c .before .before .before .before .before .before)))
@@ -58,11 +59,12 @@ same-length c = search needs
 returns-3 : tie.Need-returns-3
 returns-3 c =
     let s = c .before .before .before .before in
-    let e = s .climb .ensures in
+    let e = s .seek .ensures in
     let a = s .before .before .before .before .before .before .args in
     let p = planOf (a .planner) in
+    let within : s .seek .result ≤ a .planner .top = omega (arith, c .if3 .taken) in
     least-ends p (a .scratch .now)
-    (ends-found 22 p (a .scratch .now) (formed-past (s .before .before .before)) (s .before .before .if2 .left) (e .0) (found-within 22 p (c .if3 .taken)) (demands-within p (c .if3 .taken) (e .1 (c .if3 .taken))))
+    (ends-within 22 p (a .scratch .now) (formed-past (s .before .before .before)) (s .before .before .if2 .left) (e .0) within (e .1 within))
 
 slice-relend-prefix-refused : tie.Need-slice-relend-prefix-refused
 slice-relend-prefix-refused c = search needs
@@ -78,13 +80,13 @@ same-length-2 c = search needs
 
 returns-4 : tie.Need-returns-4
 returns-4 c =
-    let above = c .before .before .before .before .if3 .left in
     let s = c .before .before .before .before .before .before .before .before in
     let e = c .before .before .refused .ensures in
     let a = s .before .before .before .before .before .before .args in
     let p = planOf (a .planner) in
+    let above : a .planner .top < s .seek .result = omega (arith, c .before .before .before .before .if3 .left) in
     least-ends p (a .scratch .now)
-    (ends-found-again 22 p (a .scratch .now) (s .climb .last .1 .0) (formed-past (s .before .before .before)) (s .before .before .if2 .left) (work-long s) (s .climb .ensures .0) (found-above 22 p above (e .0 22)) (demands-above p above (e .1)))
+    (ends-above 22 p (a .scratch .now) (s .seek .last .1 .0) (formed-past (s .before .before .before)) (s .before .before .if2 .left) (work-long s) (s .seek .ensures .0) above (e .0 22) (e .1))
 
 pub least-spec : {M : Type 1} → statement M
 least-spec =
@@ -93,9 +95,9 @@ least-spec =
     formed-requires
     returns
     returns-2
-    slice-relend-prefix-climb
-    slice-aggregate-climb
-    climb-requires
+    slice-relend-prefix-seek
+    slice-aggregate-seek
+    seek-requires
     cast-top
     same-length
     returns-3

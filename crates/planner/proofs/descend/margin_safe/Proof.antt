@@ -1,15 +1,18 @@
--- `planner::descend::margin_safe` meets its contract: the cases of the outcome. The first 64 numbers of the scratch are lent on twice.
+-- `planner::descend::margin_safe` meets its contract: the cases of the outcome. The first 64 numbers of the scratch are lent on once more where there is none.
 use mathlib.Core.Path.{_≡_, sym, ap, _∙_}
 use mathlib.Core.Bool.{true}
 use mathlib.Core.List.{_++_}
+use Prim.Native.Nat.{_≤_, _<_}
 use lib.ListN.{length, take, drop}
 use lib.Seq.{length-take-le, take-at}
+use native.Mathlib.Omega.{arith}
 use borrow.Author.Needs.{needs}
 use borrow.Author.Tests.{not-true, not-false}
 use Rattle.cqf.specs.Limits.{portSlots}
 use Rattle.cqf.specs.Plan.{wellFormed}
+use Rattle.cqf.specs.laws.Ranges.{top-most}
 use Rattle.tables.specs.Tables.{planOf}
-use Rattle.planner.specs.laws.Searched.{ends-no-plan, ends-short, ends-found-again, margin-safe-ends}
+use Rattle.planner.specs.laws.Searched.{ends-no-plan, ends-short, ends-within, ends-above, margin-safe-ends}
 use Rattle.planner.proofs.descend.margin_safe.Statement.{statement}
 use Rattle.planner.proofs.descend.margin_safe.Tie as tie
 
@@ -18,16 +21,16 @@ formed-past : (c : tie.Else1) → wellFormed (planOf (c .before .before .before 
 formed-past c = sym (c .before .formed .ensures) ∙ not-false _ (c .if1 .left)
 
 -- the part that the search was lent has 64 numbers, and still has them after it
-part-long : (c : tie.After-descend-arg) → length (take 64 (c .before .before .before .before .before .args .scratch .now)) ≡ portSlots
+part-long : (c : tie.After-seek-arg) → length (take 64 (c .before .before .before .before .before .args .scratch .now)) ≡ portSlots
 part-long c = length-take-le 64 (c .before .before .before .before .before .args .scratch .now) (c .before .if2 .left)
 
-work-long : (c : tie.After-descend) → length (c .descend .last .1 .0) ≡ portSlots
-work-long c = c .descend .kept .1 .0 ∙ part-long (c .before)
+work-long : (c : tie.After-seek) → length (c .seek .last .1 .0) ≡ portSlots
+work-long c = c .seek .kept .1 .0 ∙ part-long (c .before)
 
 again-long
-    : (c : tie.After-descend)
-    → length (take 64 (c .descend .last .1 .0 ++ drop 64 (c .before .before .before .before .before .before .args .scratch .now))) ≡ portSlots
-again-long c = ap length (take-at (c .descend .last .1 .0) _ 64 (work-long c)) ∙ work-long c
+    : (c : tie.After-seek)
+    → length (take 64 (c .seek .last .1 .0 ++ drop 64 (c .before .before .before .before .before .before .args .scratch .now))) ≡ portSlots
+again-long c = ap length (take-at (c .seek .last .1 .0) _ 64 (work-long c)) ∙ work-long c
 
 formed-requires : tie.Need-formed-requires
 formed-requires c κs = tt
@@ -38,34 +41,52 @@ returns c = margin-safe-ends _ _ (ends-no-plan 23 _ _ _ (sym (c .before .formed 
 returns-2 : tie.Need-returns-2
 returns-2 c = margin-safe-ends _ _ (ends-short 23 _ _ _ (formed-past (c .before)) (c .if2 .taken))
 
-slice-relend-prefix-descend : tie.Need-slice-relend-prefix-descend
-slice-relend-prefix-descend c = c .if2 .left
+slice-relend-prefix-seek : tie.Need-slice-relend-prefix-seek
+slice-relend-prefix-seek c = c .if2 .left
 
-slice-aggregate-descend : tie.Need-slice-aggregate-descend
-slice-aggregate-descend c = sym (part-long c)
+slice-aggregate-seek : tie.Need-slice-aggregate-seek
+slice-aggregate-seek c = sym (part-long c)
 
-descend-requires : tie.Need-descend-requires
-descend-requires c κs = (formed-past (c .before .before), part-long c)
+seek-requires : tie.Need-seek-requires
+seek-requires c κs = (formed-past (c .before .before), part-long c)
 
-slice-relend-prefix-conclude : tie.Need-slice-relend-prefix-conclude
-slice-relend-prefix-conclude c = search needs
-
-slice-aggregate-conclude : tie.Need-slice-aggregate-conclude
-slice-aggregate-conclude c = sym (again-long (c .before .before .before))
-
-conclude-requires : tie.Need-conclude-requires
-conclude-requires c κs = (formed-past (c .before .before .before .before .before .before), again-long (c .before .before .before))
+cast-top : tie.Need-cast-top
+cast-top c = omega (arith, top-most _ (formed-past (c .before .before .before .before .before .before)))
 
 same-length : tie.Need-same-length
 same-length c = search needs
 
 returns-3 : tie.Need-returns-3
 returns-3 c =
-    let s = c .before .before .before .before .before .before in
-    let e = c .before .before .conclude .ensures in
+    let s = c .before .before .before .before in
+    let e = s .seek .ensures in
     let a = s .before .before .before .before .before .before .args in
-    margin-safe-ends (planOf (a .planner)) (a .scratch .now)
-    (ends-found-again 23 (planOf (a .planner)) (a .scratch .now) (s .descend .last .1 .0) (formed-past (s .before .before .before)) (s .before .before .if2 .left) (work-long s) (s .descend .ensures) (e .0 23) (e .1))
+    let p = planOf (a .planner) in
+    let within : s .seek .result ≤ a .planner .top = omega (arith, c .if3 .taken) in
+    margin-safe-ends p (a .scratch .now)
+    (ends-within 23 p (a .scratch .now) (formed-past (s .before .before .before)) (s .before .before .if2 .left) (e .0) within (e .1 within))
+
+slice-relend-prefix-refused : tie.Need-slice-relend-prefix-refused
+slice-relend-prefix-refused c = search needs
+
+slice-aggregate-refused : tie.Need-slice-aggregate-refused
+slice-aggregate-refused c = sym (again-long (c .before .before .before .before .before))
+
+refused-requires : tie.Need-refused-requires
+refused-requires c κs = (formed-past (c .before .before .before .before .before .before .before .before), again-long (c .before .before .before .before .before))
+
+same-length-2 : tie.Need-same-length-2
+same-length-2 c = search needs
+
+returns-4 : tie.Need-returns-4
+returns-4 c =
+    let s = c .before .before .before .before .before .before .before .before in
+    let e = c .before .before .refused .ensures in
+    let a = s .before .before .before .before .before .before .args in
+    let p = planOf (a .planner) in
+    let above : a .planner .top < s .seek .result = omega (arith, c .before .before .before .before .if3 .left) in
+    margin-safe-ends p (a .scratch .now)
+    (ends-above 23 p (a .scratch .now) (s .seek .last .1 .0) (formed-past (s .before .before .before)) (s .before .before .if2 .left) (work-long s) (s .seek .ensures .0) above (e .0 23) (e .1))
 
 pub margin-safe-spec : {M : Type 1} → statement M
 margin-safe-spec =
@@ -74,11 +95,14 @@ margin-safe-spec =
     formed-requires
     returns
     returns-2
-    slice-relend-prefix-descend
-    slice-aggregate-descend
-    descend-requires
-    slice-relend-prefix-conclude
-    slice-aggregate-conclude
-    conclude-requires
+    slice-relend-prefix-seek
+    slice-aggregate-seek
+    seek-requires
+    cast-top
     same-length
-    returns-3)
+    returns-3
+    slice-relend-prefix-refused
+    slice-aggregate-refused
+    refused-requires
+    same-length-2
+    returns-4)

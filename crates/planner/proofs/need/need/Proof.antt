@@ -1,12 +1,8 @@
 -- `planner::need::need` meets its contract.
 use borrow.Author.Needs.{needs}
-use Prim.Native.Nat.{_+_, _-_, _<_}
-use native.Mathlib.Nat.{div-le-self}
-use native.Mathlib.Numerals.{sub-one}
+use Prim.Native.Nat.{_<_}
 use native.Mathlib.Omega.{arith}
-use borrow.Author.Tests.{lt-ltb}
-use Rattle.cqf.specs.Condition.{ceilDiv}
-use Rattle.planner.specs.laws.PortNeed.{work-fits}
+use Rattle.planner.specs.laws.PortNeed.{work-fits, quotient-fits, need-rounded}
 use Rattle.planner.proofs.need.need.Statement.{statement}
 use Rattle.planner.proofs.need.need.Tie as tie
 
@@ -24,7 +20,7 @@ mul-result : tie.Need-mul-result
 mul-result c = search needs
 
 sub-result : tie.Need-sub-result
-sub-result c = served c
+sub-result c = omega (arith, served c)
 
 add-result : tie.Need-add-result
 add-result c =
@@ -37,18 +33,14 @@ div-result c = served c
 add-result-2 : tie.Need-add-result-2
 add-result-2 c =
     let a = c .before .before .args in
-    omega (
-      arith,
-      work-fits (a .blocking) (a .bits) (omega arith) (c .before .before .pre .0),
-      c .workload .ensures,
-      div-le-self (c .workload .result + (a .rate - 1)) (a .rate),
-    )
+    let few = work-fits (a .blocking) (a .bits) (omega arith) (c .before .before .pre .0) in
+    record { fits = quotient-fits _ _ _ (omega arith) (omega (arith, few, c .workload .ensures)) }
 
 returns-2 : tie.Need-returns-2
-unfolding ceilDiv
 returns-2 c =
-    let some : 0 < c .before .before .args .bits = omega (arith, c .before .if1 .left) in
-    rw (lt-ltb 0 (c .before .before .args .bits) some, sub-one, c .workload .ensures)
+    let a = c .before .before .args in
+    let some : 0 < a .bits = omega (arith, c .before .if1 .left) in
+    need-rounded (a .guard) (a .rate) (a .blocking) (a .bits) _ some (served c) (omega (arith, served c, c .workload .ensures))
 
 pub need-spec : {M : Type 1} → statement M
 need-spec =

@@ -1,6 +1,6 @@
--- `planner::descend::descend` meets its contract. Round the outer loop every duration from t to top is admissible; in the loop
+-- `planner::descend::seek` meets its contract. Round the outer loop every duration from t to top is admissible; in the loop
 -- over the ports none below q needs more than most for its demand at t - 1.
-use mathlib.Core.Path.{_≡_, sym, subst, _∙_}
+use mathlib.Core.Path.{_≡_, sym, ap, subst, _∙_}
 use mathlib.Core.Bool.{true}
 use mathlib.Core.Logic.{⊎-elim}
 use Prim.Native.Nat.{suc, _-_}
@@ -10,27 +10,28 @@ use lib.ListN.{length}
 use borrow.Author.Needs.{needs}
 use Rattle.cqf.specs.Limits.{portSlots}
 use Rattle.cqf.specs.Plan.{wellFormed}
+use Rattle.cqf.specs.Condition.{marginSafe}
 use Rattle.cqf.specs.laws.Ranges.{top-most}
 use Rattle.cqf.specs.laws.Search.{Descended, descent-start, descent-bottom}
 use Rattle.tables.specs.Tables.{planOf}
 use Rattle.planner.specs.laws.Sums.{slot-ready}
 use Rattle.planner.specs.laws.Scratch.{filled, filled-length, filled-most, filled-served}
 use Rattle.planner.specs.laws.Descent.{Fitting, Left, one-below, below-top, fitting-start, fitting-all, fitting-next, fitting-until, left-stop, left-down}
-use Rattle.planner.proofs.descend.descend.Statement.{statement}
-use Rattle.planner.proofs.descend.descend.Tie as tie
+use Rattle.planner.proofs.descend.seek.Statement.{statement}
+use Rattle.planner.proofs.descend.seek.Tie as tie
 
 abbrev Inv-ports : tie.InvT-ports
-Inv-ports out planner guard t below most₀ q₀ most q = Fitting (planOf planner) out below most q × (t ≡ suc below)
+Inv-ports out planner guard top t below most₀ q₀ most q = Fitting (planOf planner) out below most q × (t ≡ suc below)
 
 abbrev μ-ports : tie.MeasureT-ports
-μ-ports out planner guard t below most₀ q₀ most q = 64 - q
+μ-ports out planner guard top t below most₀ q₀ most q = 64 - q
 
 abbrev Inv-loop : tie.InvT-loop
-Inv-loop out₀ planner guard t₀ out t =
+Inv-loop out₀ planner guard top t₀ out t =
     (wellFormed (planOf planner) ≡ true) × (length out ≡ portSlots) × Descended (planOf planner) t
 
 abbrev μ-loop : tie.MeasureT-loop
-μ-loop out₀ planner guard t₀ out t = t
+μ-loop out₀ planner guard top t₀ out t = t
 
 -- what the loop over the ports gives
 left-ports
@@ -43,8 +44,8 @@ left-ports c =
     (λ w. fitting-until s (w .0 .taken) _ (w .4 .ensures) _ (w .7 ∙ w .5 .ensures) (rw (w .7) (w .6 .taken)))
     (c .ports-test .came)
 
-cast-t : tie.Need-cast-t Inv-ports μ-ports Inv-loop μ-loop
-cast-t c = omega (arith, top-most _ (c .before .pre .0))
+cast-top : tie.Need-cast-top Inv-ports μ-ports Inv-loop μ-loop
+cast-top c = omega (arith, top-most _ (c .before .pre .0))
 
 add-t : tie.Need-add-t Inv-ports μ-ports Inv-loop μ-loop
 add-t c = omega (arith, top-most _ (c .before .pre .0))
@@ -118,31 +119,58 @@ loop-again c =
     let s = c .before .before .ports .inv .0 in
     (s .filled .formed, filled-length (s .filled), left-down s (left-ports (c .before)) (c .if3 .left))
 
+-- what the outer loop gives
+out-long : (c : tie.Joined1 Inv-ports μ-ports Inv-loop μ-loop) → length (c .if1 .out) ≡ portSlots
+out-long c =
+    ⊎-elim
+    (λ w. ap length (w .1) ∙ c .before .loop .inv .1)
+    (λ w. ap length (w .19) ∙ filled-length (w .16 .inv .0 .filled))
+    (c .if1 .came)
+
+found-safe
+    : (c : tie.Joined1 Inv-ports μ-ports Inv-loop μ-loop)
+    → c .if1 .found ≡ marginSafe (planOf (c .before .before .before .args .t1))
+found-safe c =
+    let i = c .before .loop .inv in
+    ⊎-elim
+    (λ w. w .2 ∙ w .0 .taken ∙ sym (descent-bottom _ (i .0) (subst (Descended _) (w .0 .taken) (i .2))))
+    (λ w. w .20 ∙ w .16 .inv .1 ∙ sym (left-stop (w .16 .inv .0) (left-ports (record { before = record { before = _; ports = w .16 }; ports-test = w .17 })) (w .18 .taken)))
+    (c .if1 .came)
+
 same-length : tie.Need-same-length Inv-ports μ-ports Inv-loop μ-loop
-same-length c = c .before .loop .inv .1 ∙ sym (c .before .before .before .pre .1)
+same-length c = out-long (c .before) ∙ sym (c .before .before .before .before .pre .1)
 
 returns : tie.Need-returns Inv-ports μ-ports Inv-loop μ-loop
-returns c =
-    let l = c .before .loop in
-    c .if1 .taken ∙ sym (descent-bottom _ (l .inv .0) (subst (Descended _) (c .if1 .taken) (l .inv .2)))
+returns c = (found-safe (c .before), λ h. absurd (omega (arith, c .if4 .taken)))
+
+demands-requires-2 : tie.Need-demands-requires-2 Inv-ports μ-ports Inv-loop μ-loop
+demands-requires-2 c κs =
+    let i = c .before .before .before .before .before .before .before .before .before .before .before .before in
+    let formed = i .before .before .loop .inv .0 in
+    (search needs, (record { slot = slot-ready _ formed }, (omega (arith, top-most _ formed, i .if4 .left), out-long (i .before))))
 
 same-length-2 : tie.Need-same-length-2 Inv-ports μ-ports Inv-loop μ-loop
-same-length-2 c = filled-length (c .before .before .ports .inv .0 .filled) ∙ sym (c .before .before .before .before .before .before .before .before .before .before .before .before .before .before .before .before .before .before .before .before .before .pre .1)
+same-length-2 c =
+    let d = c .before .before in
+    let j = d .before .before .before .before .before .before .before .before .before .before .before .before .before .before in
+    d .demands2 .kept .1 .1 .1 .1 .1 .1 .0 ∙ out-long j ∙ sym (j .before .before .before .pre .1)
 
 returns-2 : tie.Need-returns-2 Inv-ports μ-ports Inv-loop μ-loop
 returns-2 c =
-    let v = c .before .before .ports .inv in
-    v .1 ∙ sym (left-stop (v .0) (left-ports (c .before)) (c .if3 .taken))
+    let d = c .before .before in
+    let i = d .before .before .before .before .before .before .before .before .before .before .before .before .before in
+    let f = filled _ (i .before .before .loop .inv .0) (i .if4 .left) (d .demands2 .ensures) in
+    (found-safe (i .before), λ h. f .demands)
 
-pub descend-spec : {M : Type 1} → statement M
-descend-spec =
+pub seek-spec : {M : Type 1} → statement M
+seek-spec =
     tie.close
     (tie.spec
     Inv-ports
     μ-ports
     Inv-loop
     μ-loop
-    cast-t
+    cast-top
     add-t
     loop-holds
     sub-below
@@ -163,5 +191,6 @@ descend-spec =
     loop-again
     same-length
     returns
+    demands-requires-2
     same-length-2
     returns-2)

@@ -1,4 +1,4 @@
--- `planner::climb::climb` meets its contract. Round the outer loop no duration below t is admissible; in the loop over the
+-- `planner::climb::seek` meets its contract. Round the outer loop no duration below t is admissible; in the loop over the
 -- ports those below q do not fail at t.
 use mathlib.Core.Path.{_≡_, sym, refl, _∙_}
 use mathlib.Core.Bool.{true}
@@ -16,8 +16,8 @@ use Rattle.tables.specs.Tables.{planOf}
 use Rattle.planner.specs.laws.Sums.{slot-ready}
 use Rattle.planner.specs.laws.Scratch.{filled, filled-length, filled-short, filled-most, filled-served}
 use Rattle.planner.specs.laws.Climb.{Passed, Left, passed-start, passed-all, tested, passed-next, passed-until, left-none, left-over, left-next, left-more}
-use Rattle.planner.proofs.climb.climb.Statement.{statement}
-use Rattle.planner.proofs.climb.climb.Tie as tie
+use Rattle.planner.proofs.climb.seek.Statement.{statement}
+use Rattle.planner.proofs.climb.seek.Tie as tie
 
 abbrev Inv-ports : tie.InvT-ports
 Inv-ports out planner guard top t span next₀ q₀ next q =
@@ -141,8 +141,8 @@ returns-2 c =
     let l = c .before .before in
     (add-one _ ∙ sym (left-over (l .before .ports .inv .0) (left-ports l) (c .before .if2 .left) (c .if3 .taken)), λ h. absurd (omega arith))
 
-pub climb-spec : {M : Type 1} → statement M
-climb-spec =
+pub seek-spec : {M : Type 1} → statement M
+seek-spec =
     tie.close
     (tie.spec
     Inv-ports
