@@ -2,9 +2,8 @@
 use super::CheckAnswer;
 use super::SlackAnswer;
 use super::demand::demands;
-use super::failing::failing_set;
+use super::failing::failing_at;
 use super::failing::workload;
-use numbers::port::failing_ports;
 use numbers::port::window;
 use tables::Planner;
 use tables::formed;
@@ -55,13 +54,11 @@ pub fn check(planner: Planner, duration: u64) -> CheckAnswer
     if top < duration {
         return CheckAnswer::BadDuration;
     }
-    let out = port_demands(planner, duration);
-    let open = window(planner.guard, duration);
-    let set = failing_set(&planner.rates, &planner.blockings, open, &out);
-    if set == 0 {
+    let mut out = [0u64; 64];
+    let ports = failing_at(planner, duration, &mut out);
+    if ports.count == 0 {
         return CheckAnswer::Admissible;
     }
-    let ports = failing_ports(set);
     CheckAnswer::Failing {
         port: ports.port,
         count: ports.count,
