@@ -1,9 +1,9 @@
 // The search for the least duration, upwards, by what the first failing port needs.
 use super::SearchAnswer;
 use super::demand::demands;
+use super::failing::failing_at;
 use super::failing::port_fails;
 use super::need::need;
-use super::search::refused;
 use numbers::port::window;
 use tables::Planner;
 use tables::formed;
@@ -78,5 +78,9 @@ pub fn least(planner: Planner, scratch: &mut [u64]) -> SearchAnswer
     if found <= top {
         return SearchAnswer::Duration(found);
     }
-    refused(planner, &mut scratch[..64])
+    let ports = failing_at(planner, top, &mut scratch[..64]);
+    SearchAnswer::Failing {
+        port: ports.port,
+        count: ports.count,
+    }
 }

@@ -1,4 +1,5 @@
 // Each port's demand at a duration, in bits: one pass over the flows and the ports of their routes.
+use tables::Planner;
 ghost use mathlib.Core.Path.{_≡_};
 ghost use mathlib.Core.Bool.{true};
 ghost use mathlib.Core.List.{[]};
@@ -6,7 +7,9 @@ ghost use Prim.Native.Nat.{ℕ, _+_, _*_, _^_, _≤_, _<_};
 ghost use lib.ListN.{length, getD};
 ghost use Rattle.cqf.specs.Bounded.{distinct, every, row, tabulate};
 ghost use Rattle.cqf.specs.Limits.{portSlots, maxTop, portOk};
+ghost use Rattle.cqf.specs.Plan.{wellFormed};
 ghost use Rattle.cqf.specs.Condition.{bitsOf, ceilDiv, demand};
+ghost use Rattle.tables.specs.Tables.{planOf};
 ghost use Rattle.tables.specs.Columns.{columns, FlowColumns, FlowsReady, Marked};
 
 // The periods that begin within a duration: the quotient rounded up.
@@ -78,4 +81,20 @@ pub(crate) fn demands<'a>(
         }
         f += 1;
     }
+}
+
+// The same for a held plan, outside the rounds of a search.
+pub(crate) fn demands_at(planner: Planner, duration: u64, out: &mut [u64])
+    requires { ⌜ (wellFormed (planOf planner) ≡ true) × (duration ≤ planner .top) × (length (now out) ≡ portSlots) ⌝ }
+    ensures { λ r. ⌜ now (out .exit) ≡ tabulate portSlots (λ q. demand (planOf planner) q duration) ⌝ }
+{
+    demands(
+        &planner.periods,
+        &planner.counts,
+        &planner.lengths,
+        &planner.hops,
+        &planner.routes,
+        duration,
+        &mut out[..],
+    );
 }

@@ -1,8 +1,9 @@
 // The search for the margin-safe duration, downwards from top, by the most that a port needs.
 use super::SearchAnswer;
 use super::demand::demands;
+use super::demand::demands_at;
+use super::failing::failing_at;
 use super::need::need;
-use super::search::refused;
 use tables::Planner;
 use tables::formed;
 ghost use mathlib.Core.Path.{_≡_};
@@ -69,15 +70,7 @@ pub(crate) fn seek(planner: Planner, out: &mut [u64]) -> u64
     if top < found {
         return found;
     }
-    demands(
-        &planner.periods,
-        &planner.counts,
-        &planner.lengths,
-        &planner.hops,
-        &planner.routes,
-        found,
-        &mut out[..],
-    );
+    demands_at(planner, found, &mut out[..]);
     found
 }
 
@@ -96,5 +89,9 @@ pub fn margin_safe(planner: Planner, scratch: &mut [u64]) -> SearchAnswer
     if found <= top {
         return SearchAnswer::Duration(found);
     }
-    refused(planner, &mut scratch[..64])
+    let ports = failing_at(planner, top, &mut scratch[..64]);
+    SearchAnswer::Failing {
+        port: ports.port,
+        count: ports.count,
+    }
 }

@@ -1,8 +1,18 @@
 // Which ports fail at a duration, from each port's demand.
+use super::demand::demands_at;
+use numbers::port::FailingPorts;
+use numbers::port::failing_ports;
+use numbers::port::window;
+use tables::Planner;
 ghost use mathlib.Core.Path.{_≡_};
+ghost use mathlib.Core.Bool.{true};
 ghost use Prim.Native.Nat.{ℕ, _≤_, _<_};
 ghost use lib.ListN.{length, getD};
+ghost use Rattle.cqf.specs.Bounded.{tabulate};
 ghost use Rattle.cqf.specs.Limits.{portSlots, maxTop};
+ghost use Rattle.cqf.specs.Plan.{wellFormed};
+ghost use Rattle.cqf.specs.Condition.{demand, failing, lowestFailing};
+ghost use Rattle.tables.specs.Tables.{planOf};
 ghost use Rattle.planner.specs.Failing.{setTo, workloadOf, failsBy, failsIn, mostDemand};
 
 // What a port must be able to send, in bits times 1,000 ns.
@@ -47,4 +57,16 @@ pub(crate) fn failing_set<'a>(
         q += 1;
     }
     set
+}
+
+// The ports that fail at a duration: the lowest, and how many. Each port's demand is left in out.
+pub(crate) fn failing_at(planner: Planner, duration: u64, out: &mut [u64]) -> FailingPorts
+    requires { ⌜ (wellFormed (planOf planner) ≡ true) × (1 ≤ duration) × (duration ≤ planner .top) × (length (now out) ≡ portSlots) ⌝ }
+    ensures { λ r. ⌜ (r .port ≡ lowestFailing (planOf planner) duration) × (r .count ≡ failing (planOf planner) duration) ⌝ }
+    ensures { λ r. ⌜ now (out .exit) ≡ tabulate portSlots (λ q. demand (planOf planner) q duration) ⌝ }
+{
+    demands_at(planner, duration, &mut out[..]);
+    let span = window(planner.guard, duration);
+    let set = failing_set(&planner.rates, &planner.blockings, span, &out[..]);
+    failing_ports(set)
 }

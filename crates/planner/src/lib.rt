@@ -5,7 +5,6 @@ mod descend;
 mod failing;
 mod need;
 mod question;
-mod search;
 
 pub use climb::least;
 pub use descend::margin_safe;

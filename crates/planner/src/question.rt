@@ -1,10 +1,9 @@
 // The two questions at one duration: is it admissible, and what is a port's slack.
 use super::CheckAnswer;
 use super::SlackAnswer;
-use super::demand::demands;
-use super::failing::failing_set;
+use super::demand::demands_at;
+use super::failing::failing_at;
 use super::failing::workload;
-use numbers::port::failing_ports;
 use numbers::port::window;
 use tables::Planner;
 use tables::formed;
@@ -24,19 +23,11 @@ ghost use Rattle.planner.specs.Outcome.{checkAnswer, slackAnswer};
 
 // Each port's demand.
 fn port_demands(planner: Planner, duration: u64) -> [u64; 64]
-    requires { ⌜ (wellFormed (planOf planner) ≡ true) × (duration ≤ maxTop) ⌝ }
+    requires { ⌜ (wellFormed (planOf planner) ≡ true) × (duration ≤ planner .top) ⌝ }
     ensures { λ r. ⌜ r ≡ tabulate portSlots (λ q. demand (planOf planner) q duration) ⌝ }
 {
     let mut out = [0u64; 64];
-    demands(
-        &planner.periods,
-        &planner.counts,
-        &planner.lengths,
-        &planner.hops,
-        &planner.routes,
-        duration,
-        &mut out,
-    );
+    demands_at(planner, duration, &mut out);
     out
 }
 
@@ -55,13 +46,11 @@ pub fn check(planner: Planner, duration: u64) -> CheckAnswer
     if top < duration {
         return CheckAnswer::BadDuration;
     }
-    let out = port_demands(planner, duration);
-    let open = window(planner.guard, duration);
-    let set = failing_set(&planner.rates, &planner.blockings, open, &out);
-    if set == 0 {
+    let mut out = [0u64; 64];
+    let ports = failing_at(planner, duration, &mut out);
+    if ports.count == 0 {
         return CheckAnswer::Admissible;
     }
-    let ports = failing_ports(set);
     CheckAnswer::Failing {
         port: ports.port,
         count: ports.count,

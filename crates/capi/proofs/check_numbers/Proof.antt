@@ -1,9 +1,6 @@
 use borrow.Author.Needs.{needs}
 use Rattle.capi.proofs.check_numbers.Statement.{statement}
 use Rattle.capi.proofs.check_numbers.Tie as tie
-use Rattle.capi.proofs.check_numbers.Reads as reads
-use Rattle.capi.proofs.check_numbers.Lts as lts
-use Rattle.capi.proofs.numbered.Reads as numbered-reads
 
 -- src/lib.rt:67:36
 enum-told : tie.Need-enum-told

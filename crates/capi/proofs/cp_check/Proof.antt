@@ -3,10 +3,6 @@ use borrow.Author.Needs.{needs}
 use Rattle.capi.specs.Numbers.{checkNumbers}
 use Rattle.capi.proofs.cp_check.Statement.{statement}
 use Rattle.capi.proofs.cp_check.Tie as tie
-use Rattle.capi.proofs.cp_check.Reads as reads
-use Rattle.capi.proofs.cp_check.Lts as lts
-use Rattle.capi.proofs.check_numbers.Reads as check-numbers-reads
-use Rattle.planner.proofs.check.Reads as check-reads
 
 -- src/lib.rt:187:19
 check-requires : tie.Need-check-requires

@@ -3,10 +3,6 @@ use mathlib.Core.Path.{_∙_, ap}
 use Rattle.capi.specs.Numbers.{fieldNumbers}
 use Rattle.capi.proofs.cp_field.Statement.{statement}
 use Rattle.capi.proofs.cp_field.Tie as tie
-use Rattle.capi.proofs.cp_field.Reads as reads
-use Rattle.capi.proofs.cp_field.Lts as lts
-use Rattle.capi.proofs.field_numbers.Reads as field-numbers-reads
-use Rattle.plan.proofs.read_field.Reads as read-field-reads
 
 -- src/lib.rt:146:19
 read-field-requires : tie.Need-read-field-requires

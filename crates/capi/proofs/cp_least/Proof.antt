@@ -3,10 +3,6 @@ use borrow.Author.Needs.{needs}
 use Rattle.capi.specs.Numbers.{searchNumbers}
 use Rattle.capi.proofs.cp_least.Statement.{statement}
 use Rattle.capi.proofs.cp_least.Tie as tie
-use Rattle.capi.proofs.cp_least.Reads as reads
-use Rattle.capi.proofs.cp_least.Lts as lts
-use Rattle.capi.proofs.search_numbers.Reads as search-numbers-reads
-use Rattle.planner.proofs.least.Reads as least-reads
 
 -- src/lib.rt:201:24
 least-requires : tie.Need-least-requires

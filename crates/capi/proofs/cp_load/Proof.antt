@@ -3,10 +3,6 @@ use mathlib.Core.Path.{_∙_, ap}
 use Rattle.capi.specs.Numbers.{loadNumbers}
 use Rattle.capi.proofs.cp_load.Statement.{statement}
 use Rattle.capi.proofs.cp_load.Tie as tie
-use Rattle.capi.proofs.cp_load.Reads as reads
-use Rattle.capi.proofs.cp_load.Lts as lts
-use Rattle.capi.proofs.load_numbers.Reads as load-numbers-reads
-use Rattle.loading.proofs.load.Reads as load-reads
 
 -- src/lib.rt:160:9
 load-requires : tie.Need-load-requires

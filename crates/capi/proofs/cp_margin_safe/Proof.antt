@@ -3,10 +3,6 @@ use borrow.Author.Needs.{needs}
 use Rattle.capi.specs.Numbers.{searchNumbers}
 use Rattle.capi.proofs.cp_margin_safe.Statement.{statement}
 use Rattle.capi.proofs.cp_margin_safe.Tie as tie
-use Rattle.capi.proofs.cp_margin_safe.Reads as reads
-use Rattle.capi.proofs.cp_margin_safe.Lts as lts
-use Rattle.capi.proofs.search_numbers.Reads as search-numbers-reads
-use Rattle.planner.proofs.margin_safe.Reads as margin-safe-reads
 
 -- src/lib.rt:208:24
 margin-safe-requires : tie.Need-margin-safe-requires

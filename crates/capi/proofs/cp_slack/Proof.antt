@@ -3,10 +3,6 @@ use borrow.Author.Needs.{needs}
 use Rattle.capi.specs.Numbers.{slackNumbers}
 use Rattle.capi.proofs.cp_slack.Statement.{statement}
 use Rattle.capi.proofs.cp_slack.Tie as tie
-use Rattle.capi.proofs.cp_slack.Reads as reads
-use Rattle.capi.proofs.cp_slack.Lts as lts
-use Rattle.capi.proofs.slack_numbers.Reads as slack-numbers-reads
-use Rattle.planner.proofs.slack.Reads as slack-reads
 
 -- src/lib.rt:194:19
 slack-requires : tie.Need-slack-requires

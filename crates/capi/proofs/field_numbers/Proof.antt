@@ -1,9 +1,6 @@
 use borrow.Author.Needs.{needs}
 use Rattle.capi.proofs.field_numbers.Statement.{statement}
 use Rattle.capi.proofs.field_numbers.Tie as tie
-use Rattle.capi.proofs.field_numbers.Reads as reads
-use Rattle.capi.proofs.field_numbers.Lts as lts
-use Rattle.plan.proofs.fault_number.Reads as fault-number-reads
 
 -- src/lib.rt:100:28
 enum-known-reading : tie.Need-enum-known-reading

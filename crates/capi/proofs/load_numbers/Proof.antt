@@ -1,10 +1,6 @@
 use borrow.Author.Needs.{needs}
 use Rattle.capi.proofs.load_numbers.Statement.{statement}
 use Rattle.capi.proofs.load_numbers.Tie as tie
-use Rattle.capi.proofs.load_numbers.Reads as reads
-use Rattle.capi.proofs.load_numbers.Lts as lts
-use Rattle.capi.proofs.numbered.Reads as numbered-reads
-use Rattle.plan.proofs.fault_number.Reads as fault-number-reads
 
 -- src/lib.rt:58:28
 enum-known-answer : tie.Need-enum-known-answer

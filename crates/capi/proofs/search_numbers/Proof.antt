@@ -1,9 +1,6 @@
 use borrow.Author.Needs.{needs}
 use Rattle.capi.proofs.search_numbers.Statement.{statement}
 use Rattle.capi.proofs.search_numbers.Tie as tie
-use Rattle.capi.proofs.search_numbers.Reads as reads
-use Rattle.capi.proofs.search_numbers.Lts as lts
-use Rattle.capi.proofs.numbered.Reads as numbered-reads
 
 -- src/lib.rt:89:32
 enum-known-answer : tie.Need-enum-known-answer

@@ -1,8 +1,6 @@
 use borrow.Author.Needs.{needs}
 use Rattle.capi.proofs.slack_numbers.Statement.{statement}
 use Rattle.capi.proofs.slack_numbers.Tie as tie
-use Rattle.capi.proofs.slack_numbers.Reads as reads
-use Rattle.capi.proofs.slack_numbers.Lts as lts
 
 -- src/lib.rt:78:28
 enum-known-answer : tie.Need-enum-known-answer

@@ -3,11 +3,6 @@ use lib.Seq.{length-take-le}
 use borrow.Author.Needs.{needs}
 use Rattle.cycle.proofs.answer.Statement.{statement}
 use Rattle.cycle.proofs.answer.Tie as tie
-use Rattle.cycle.proofs.answer.Reads as reads
-use Rattle.cycle.proofs.answer.Lts as lts
-use Rattle.cycle.proofs.read_input.Reads as read-input-reads
-use Rattle.cycle.proofs.say.Reads as say-reads
-use Rattle.cycle.proofs.say_plan.Reads as say-plan-reads
 
 -- src/main.rt:58:9
 read-input-requires : tie.Need-read-input-requires

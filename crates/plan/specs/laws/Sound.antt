@@ -16,7 +16,6 @@ use Rattle.plan.specs.Draft.{Draft, loops, added}
 use Rattle.plan.specs.Reading.{accepted, namesAbsent, readPlan}
 use Rattle.plan.specs.laws.Passes.{Passes, field-is-whole, field-passes}
 use Rattle.plan.specs.laws.Slots.{soundIn}
-use Rattle.plan.specs.laws.Tables
 use Rattle.plan.specs.laws.Walk.{Reads, done, one, accepted-reads, closing-accepted}
 use Rattle.plan.specs.laws.Absent.{absent-flow}
 use Rattle.plan.specs.laws.Named.{Named, named-front}

@@ -1,11 +1,11 @@
 -- The answers of the two questions, case by case.
-use mathlib.Core.Path.{_≡_, refl, _∙_}
+use mathlib.Core.Path.{_≡_, refl, sym, _∙_}
 use mathlib.Core.Bool.{true, false, cond, _&&_, and-false}
 use mathlib.Core.List.{[], _∷_}
 use Prim.Native.Nat.{ℕ, _-_, _≤_, _<_}
 use lib.IntN.{ℤ}
 use lib.Dec.{leb}
-use borrow.Author.Tests.{le-leb, lt-leb}
+use borrow.Author.Tests.{le-leb, lt-leb, eq-eqb, ne-eqb}
 use Rattle.cqf.specs.Limits.{portOk, portSlots}
 use Rattle.cqf.specs.Plan.{Plan, wellFormed}
 use Rattle.cqf.specs.Condition.{slack, crossed, admissible, failing, lowestFailing}
@@ -48,19 +48,25 @@ module _ (p : Plan) (T : ℕ) where
   pub check-within : wellFormed p ≡ true → 1 ≤ T → T ≤ p .top → checkAnswer p T ≡ verdict
   check-within e low high = check-is ∙ asked-within p T verdict e low high
 
-  pub check-good : wellFormed p ≡ true → 1 ≤ T → T ≤ p .top → admissible p T ≡ true → checkAnswer p T ≡ result tt
-  check-good e low high good = check-within e low high ∙ (rw good)
+  -- by how many ports fail
+  module _ {count : ℕ} (formed : wellFormed p ≡ true) (low : 1 ≤ T) (high : T ≤ p .top) (many : count ≡ failing p T) where
+    none-admissible : count ≡ 0 → admissible p T ≡ true
+    unfolding admissible
+    none-admissible e = eq-eqb _ _ (sym many ∙ e)
 
-  pub check-bad
-      : {port count : ℕ}
-      → wellFormed p ≡ true
-      → 1 ≤ T
-      → T ≤ p .top
-      → admissible p T ≡ false
-      → port ≡ lowestFailing p T
-      → count ≡ failing p T
-      → checkAnswer p T ≡ refusal 21 (port ∷ count ∷ [])
-  check-bad e low high bad port count = check-within e low high ∙ (rw (bad, port, count))
+    some-refused : (count ≡ 0 → ⊥) → admissible p T ≡ false
+    unfolding admissible
+    some-refused ne = ne-eqb _ _ (λ e. ne (many ∙ e))
+
+    pub check-good : count ≡ 0 → checkAnswer p T ≡ result tt
+    check-good e = check-within formed low high ∙ rw (none-admissible e)
+
+    pub check-bad
+        : {port : ℕ}
+        → (count ≡ 0 → ⊥)
+        → port ≡ lowestFailing p T
+        → checkAnswer p T ≡ refusal 21 (port ∷ count ∷ [])
+    check-bad ne port = check-within formed low high ∙ rw (some-refused ne, port, many)
 
 -- the slack of port n
 module _ (p : Plan) (n T : ℕ) where

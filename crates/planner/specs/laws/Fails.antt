@@ -1,5 +1,6 @@
--- The test of a port from its numbers is the condition's, and the set of failing ports answers the plain question.
+-- The test of a port from its numbers is the condition's, and so is the set of failing ports.
 use mathlib.Core.Path.{_≡_, refl, sym, ap, ap₂, _∙_}
+use mathlib.Core.List.{List}
 use mathlib.Core.Bool.{Bool, true, false, _&&_, true≢false}
 use Prim.Native.Nat.{ℕ, suc, _-_, _*_, _<_}
 use native.Mathlib.Nat.{lt-of-not-le}
@@ -7,15 +8,15 @@ use native.Mathlib.Omega.{arith}
 use lib.IntN.{subℕ}
 use lib.Dec.{ltb}
 use lib.Count.{ones, trailingZeros}
-use borrow.Author.Tests.{lt-ltb, le-ltb, eq-eqb, ne-eqb}
+use borrow.Author.Tests.{lt-ltb, le-ltb}
 use Rattle.cqf.specs.Bounded.{tabulate}
 use Rattle.cqf.specs.Limits.{portSlots}
 use Rattle.cqf.specs.Plan.{Plan, rateOf, blockingOf, wellFormed}
-use Rattle.cqf.specs.Condition.{demand, capacity, workload, crossed, slack, fails, failing, lowestFailing, admissible}
+use Rattle.cqf.specs.Condition.{demand, capacity, workload, crossed, slack, fails, failing, lowestFailing}
 use Rattle.cqf.specs.laws.Condition.{demand-pos, demand-crossed}
 use Rattle.cqf.specs.laws.Tabulate.{tabulate-at}
 use Rattle.planner.specs.Failing.{setTo, workloadOf, failsBy, failsIn}
-use Rattle.planner.specs.laws.Sets.{set-same, set-lowest, set-ones, set-none, set-empty}
+use Rattle.planner.specs.laws.Sets.{set-same, set-lowest, set-ones}
 
 -- what a port can send and must be able to send, by its numbers
 capacity-is : (p : Plan) (q T : ℕ) → capacity p q T ≡ rateOf p q * (T - 2 * p .guard)
@@ -51,25 +52,22 @@ module _ (p : Plan) (formed : wellFormed p ≡ true) (T : ℕ) (long : 0 < T) wh
       ∙ ap₂ (λ (x y : Bool). x && y) (crossed-demand q)
       (ap₂ ltb (capacity-is p q T) (workload-is p q (demand p q T)))
 
-  -- the set of the ports that fail by the table of demands
+  -- the set of the ports that fail by the window and the table of demands
   pub failing-set
-      : setTo portSlots (failsIn (p .rates) (p .blockings) (T - 2 * p .guard) (tabulate portSlots (λ q. demand p q T)))
-      ≡ setTo portSlots (fails p T)
-  failing-set =
-      set-same portSlots _ (fails p T)
+      : {span set : ℕ} {out : List ℕ}
+      → span ≡ T - 2 * p .guard
+      → out ≡ tabulate portSlots (λ q. demand p q T)
+      → set ≡ setTo portSlots (failsIn (p .rates) (p .blockings) span out)
+      → set ≡ setTo portSlots (fails p T)
+  failing-set w d e =
+      e
+      ∙ ap₂ (λ (w : ℕ) (l : List ℕ). setTo portSlots (failsIn (p .rates) (p .blockings) w l)) w d
+      ∙ set-same portSlots _ (fails p T)
       (λ q l.
       ap (failsBy (rateOf p q) (blockingOf p q) (T - 2 * p .guard)) (tabulate-at portSlots (λ q. demand p q T) q l) ∙ sym (fails-by q))
 
--- what the set says of the plain question
+-- the lowest port of the set, and how many it has
 module _ (p : Plan) (T : ℕ) {s : ℕ} (is : s ≡ setTo portSlots (fails p T)) where
-  pub set-admissible : s ≡ 0 → admissible p T ≡ true
-  unfolding admissible failing
-  set-admissible e = eq-eqb _ _ (set-empty portSlots (fails p T) (sym is ∙ e))
-
-  pub set-refused : (s ≡ 0 → ⊥) → admissible p T ≡ false
-  unfolding admissible failing
-  set-refused ne = ne-eqb _ _ (λ e. ne (is ∙ set-none portSlots (fails p T) e))
-
   pub set-lowest-failing : suc (trailingZeros 64 s) ≡ lowestFailing p T
   unfolding lowestFailing
   set-lowest-failing = ap (λ (n : ℕ). suc (trailingZeros 64 n)) is ∙ ap suc (set-lowest portSlots (fails p T))

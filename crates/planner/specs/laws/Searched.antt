@@ -1,22 +1,17 @@
 -- The outcome of a search, case by case.
-use mathlib.Core.Path.{_≡_, ap₂, subst, _∙_}
+use mathlib.Core.Path.{_≡_, subst}
 use mathlib.Core.Bool.{true, false}
 use mathlib.Core.List.{List, [], _∷_, _++_}
-use Prim.Native.Nat.{ℕ, suc, _-_, _*_, _≤_, _<_}
+use Prim.Native.Nat.{ℕ, _≤_, _<_}
 use lib.ListN.{length, drop}
 use lib.Seq.{drop-at}
-use lib.Count.{ones, trailingZeros}
 use borrow.Author.Tests.{le-leb, lt-leb}
 use Rattle.cqf.specs.Bounded.{tabulate}
 use Rattle.cqf.specs.Limits.{portSlots}
 use Rattle.cqf.specs.Plan.{Plan, wellFormed}
-use Rattle.cqf.specs.Condition.{demand, fails, least, marginSafe}
-use Rattle.cqf.specs.laws.Ranges.{top-positive}
+use Rattle.cqf.specs.Condition.{demand, failing, lowestFailing, least, marginSafe}
 use Rattle.loading.specs.Outcome.{Answer, result, refusal}
-use Rattle.planner.specs.Outcome.{failingAt, searched, searchLeaves, leastAnswer, leastLeaves, marginSafeAnswer, marginSafeLeaves}
-use Rattle.planner.specs.Failing.{setTo, failsIn}
-use Rattle.planner.specs.laws.Fails.{failing-set, set-lowest-failing, set-failing}
-use Rattle.planner.specs.laws.Scratch.{Filled}
+use Rattle.planner.specs.Outcome.{searched, searchLeaves, leastAnswer, leastLeaves, marginSafeAnswer, marginSafeLeaves}
 
 -- what a search that looks for this duration answers and leaves
 abbrev pub Ends : (number : ℕ) (p : Plan) (found : ℕ) (scratch : List ℕ) → Answer ℕ → List ℕ → Type 0
@@ -50,40 +45,22 @@ ends-within number p scratch {found = found} {out = out} e l is within d =
     is
     (rw (e, le-leb _ _ l, le-leb _ _ within), rw (e, le-leb _ _ l, le-leb _ _ within, d))
 
--- it is above top, so there is none: the refusal, and the demands at top where the first numbers were replaced before
+-- it is above top, so there is none: the ports that fail at top, and the demands there where the first numbers were replaced before
 pub ends-above
-    : (number : ℕ) (p : Plan) (scratch work : List ℕ) {wanted found : ℕ} {answer : Answer ℕ} {out : List ℕ}
+    : (number : ℕ) (p : Plan) (scratch work : List ℕ) {wanted found port count : ℕ} {out : List ℕ}
     → wellFormed p ≡ true
     → portSlots ≤ length scratch
     → length work ≡ portSlots
     → found ≡ wanted
     → p .top < found
-    → answer ≡ failingAt number p (p .top)
+    → (port ≡ lowestFailing p (p .top)) × (count ≡ failing p (p .top))
     → out ≡ tabulate portSlots (λ q. demand p q (p .top))
-    → Ends number p wanted scratch answer (out ++ drop portSlots (work ++ drop portSlots scratch))
-ends-above number p scratch work {answer = answer} {out = out} e l w is above a d =
+    → Ends number p wanted scratch (refusal number (port ∷ count ∷ [])) (out ++ drop portSlots (work ++ drop portSlots scratch))
+ends-above number p scratch work {port = port} {count = count} {out = out} e l w is above ports d =
     subst
-    (λ (n : ℕ). Ends number p n scratch answer (out ++ drop portSlots (work ++ drop portSlots scratch)))
+    (λ (n : ℕ). Ends number p n scratch (refusal number (port ∷ count ∷ [])) (out ++ drop portSlots (work ++ drop portSlots scratch)))
     is
-    (rw (e, le-leb _ _ l, lt-leb _ _ above) a, rw (drop-at work (drop portSlots scratch) portSlots w, e, le-leb _ _ l, lt-leb _ _ above, d))
-
--- the refusal names the ports that fail at top
-pub refused-at-top
-    : (number : ℕ) {p : Plan} {out : List ℕ} {span set port count : ℕ}
-    → Filled p out (p .top)
-    → span ≡ p .top - 2 * p .guard
-    → set ≡ setTo portSlots (failsIn (p .rates) (p .blockings) span out)
-    → port ≡ suc (trailingZeros 64 set)
-    → count ≡ ones set
-    → _≡_ {A = Answer ℕ} (refusal number (port ∷ count ∷ [])) (failingAt number p (p .top))
-refused-at-top number {p} {out} {span} {set} f w e lowest many =
-    ap₂ (λ (a b : ℕ). refusal number (a ∷ b ∷ [])) (lowest ∙ set-lowest-failing p (p .top) is) (many ∙ set-failing p (p .top) is)
-  where
-    is : set ≡ setTo portSlots (fails p (p .top))
-    is =
-        e
-        ∙ ap₂ (λ (w : ℕ) (l : List ℕ). setTo portSlots (failsIn (p .rates) (p .blockings) w l)) w (f .demands)
-        ∙ failing-set p (f .formed) (p .top) (top-positive p (f .formed))
+    (rw (e, le-leb _ _ l, lt-leb _ _ above, ports .0, ports .1), rw (drop-at work (drop portSlots scratch) portSlots w, e, le-leb _ _ l, lt-leb _ _ above, d))
 
 pub least-ends
     : (p : Plan) (scratch : List ℕ) {answer : Answer ℕ} {exit : List ℕ}

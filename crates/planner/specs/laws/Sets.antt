@@ -1,5 +1,5 @@
 -- Laws of a set of bits: its lowest member, how many there are, and how it grows.
-use mathlib.Core.Path.{_≡_, refl, sym, ap, _∙_}
+use mathlib.Core.Path.{_≡_, refl, sym, _∙_}
 use mathlib.Core.Bool.{Bool, true, false, cond}
 use Prim.Native.Nat.{ℕ, zero, suc, _+_, _*_, _/_, _%_, _^_, _<_}
 use native.Mathlib.Nat.{pow-suc, add-zero, mod-eq-of-lt}
@@ -9,7 +9,6 @@ use lib.Count.{ones, ones-cat, under, trailingZeros}
 use lib.Bits.{bitOr, or-shifted-r}
 use lib.Pow.{pow-lt}
 use Rattle.cqf.specs.Bounded.{countTo, lowest}
-use Rattle.cqf.specs.laws.Bounded.{countTo-zero}
 use Rattle.planner.specs.Failing.{setTo}
 
 -- the set of one number more
@@ -77,19 +76,6 @@ set-ones (suc n) b = go (b n) (set-ones n b)
         let swap : setTo n b + 2 ^ n ≡ 1 * 2 ^ n + setTo n b = omega arith in
         rw (swap, ones-cat n 1 (setTo n b) (set-lt n b), h) (omega arith)
     go false h = rw (add-zero (setTo n b), h) (sym (add-zero (countTo n b)))
-
--- it is 0 exactly where it has no member
-set-of-none : (n : ℕ) → setTo n (λ i. false) ≡ 0
-unfolding setTo
-set-of-none zero = refl
-set-of-none (suc n) = rw (set-of-none n)
-
-pub set-none : (n : ℕ) (b : ℕ → Bool) → countTo n b ≡ 0 → setTo n b ≡ 0
-set-none n b e = set-same n b (λ i. false) (countTo-zero n b e) ∙ set-of-none n
-
-pub set-empty : (n : ℕ) (b : ℕ → Bool) → setTo n b ≡ 0 → countTo n b ≡ 0
-unfolding ones
-set-empty n b e = sym (set-ones n b) ∙ ap ones e
 
 -- a word of 64 bits takes one number more by a bit that is shifted to it
 pub set-or

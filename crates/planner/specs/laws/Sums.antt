@@ -133,14 +133,3 @@ pub demand-columns
 unfolding frames wireBits
 demand-columns p q T =
     demand-sum (columns [] [] (p .periods) (p .counts) (p .lengths) (p .hops) (p .routes)) q T ∙ sym (demand-sum p q T)
-
--- the table of demands of a well-formed plan is within the largest demand
-pub demands-most
-    : (p : Plan)
-    → wellFormed p ≡ true
-    → (T : ℕ)
-    → T ≤ maxTop
-    → (q : ℕ)
-    → q < portSlots
-    → getD (tabulate portSlots (λ q. demand p q T)) q 0 ≤ mostDemand
-demands-most p formed T fits q l = rw (tabulate-at portSlots (λ q. demand p q T) q l) (demand-most p (slot-ready p formed) T fits q)

@@ -5,12 +5,13 @@ use mathlib.Core.List.{_++_}
 use Prim.Native.Nat.{_≤_, _<_}
 use lib.ListN.{length, take, drop}
 use lib.Seq.{length-take-le, take-at}
+use native.Mathlib.Nat.{le-refl}
 use native.Mathlib.Omega.{arith}
 use borrow.Author.Needs.{needs}
 use borrow.Author.Tests.{not-true, not-false}
 use Rattle.cqf.specs.Limits.{portSlots}
 use Rattle.cqf.specs.Plan.{wellFormed}
-use Rattle.cqf.specs.laws.Ranges.{top-most}
+use Rattle.cqf.specs.laws.Ranges.{top-most, top-positive}
 use Rattle.tables.specs.Tables.{planOf}
 use Rattle.planner.specs.laws.Searched.{ends-no-plan, ends-short, ends-within, ends-above, margin-safe-ends}
 use Rattle.planner.proofs.descend.margin_safe.Statement.{statement}
@@ -66,14 +67,16 @@ returns-3 c =
     margin-safe-ends p (a .scratch .now)
     (ends-within 23 p (a .scratch .now) (formed-past (s .before .before .before)) (s .before .before .if2 .left) (e .0) within (e .1 within))
 
-slice-relend-prefix-refused : tie.Need-slice-relend-prefix-refused
-slice-relend-prefix-refused c = search needs
+slice-relend-prefix-failing-at : tie.Need-slice-relend-prefix-failing-at
+slice-relend-prefix-failing-at c = search needs
 
-slice-aggregate-refused : tie.Need-slice-aggregate-refused
-slice-aggregate-refused c = sym (again-long (c .before .before .before .before .before))
+slice-aggregate-failing-at : tie.Need-slice-aggregate-failing-at
+slice-aggregate-failing-at c = sym (again-long (c .before .before .before .before .before))
 
-refused-requires : tie.Need-refused-requires
-refused-requires c κs = (formed-past (c .before .before .before .before .before .before .before .before), again-long (c .before .before .before .before .before))
+failing-at-requires : tie.Need-failing-at-requires
+failing-at-requires c κs =
+    let formed = formed-past (c .before .before .before .before .before .before .before .before) in
+    (formed, top-positive _ formed, le-refl _, again-long (c .before .before .before .before .before))
 
 same-length-2 : tie.Need-same-length-2
 same-length-2 c = search needs
@@ -81,12 +84,12 @@ same-length-2 c = search needs
 returns-4 : tie.Need-returns-4
 returns-4 c =
     let s = c .before .before .before .before .before .before .before .before in
-    let e = c .before .before .refused .ensures in
+    let e = c .before .before .failing-at .ensures in
     let a = s .before .before .before .before .before .before .args in
     let p = planOf (a .planner) in
     let above : a .planner .top < s .seek .result = omega (arith, c .before .before .before .before .if3 .left) in
     margin-safe-ends p (a .scratch .now)
-    (ends-above 23 p (a .scratch .now) (s .seek .last .1 .0) (formed-past (s .before .before .before)) (s .before .before .if2 .left) (work-long s) (s .seek .ensures .0) above (e .0 23) (e .1))
+    (ends-above 23 p (a .scratch .now) (s .seek .last .1 .0) (formed-past (s .before .before .before)) (s .before .before .if2 .left) (work-long s) (s .seek .ensures .0) above (e .0) (e .1))
 
 pub margin-safe-spec : {M : Type 1} → statement M
 margin-safe-spec =
@@ -101,8 +104,8 @@ margin-safe-spec =
     cast-top
     same-length
     returns-3
-    slice-relend-prefix-refused
-    slice-aggregate-refused
-    refused-requires
+    slice-relend-prefix-failing-at
+    slice-aggregate-failing-at
+    failing-at-requires
     same-length-2
     returns-4)

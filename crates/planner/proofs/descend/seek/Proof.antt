@@ -143,24 +143,16 @@ same-length c = out-long (c .before) ∙ sym (c .before .before .before .before 
 returns : tie.Need-returns Inv-ports μ-ports Inv-loop μ-loop
 returns c = (found-safe (c .before), λ h. absurd (omega (arith, c .if4 .taken)))
 
-demands-requires-2 : tie.Need-demands-requires-2 Inv-ports μ-ports Inv-loop μ-loop
-demands-requires-2 c κs =
-    let i = c .before .before .before .before .before .before .before .before .before .before .before .before in
-    let formed = i .before .before .loop .inv .0 in
-    (search needs, (record { slot = slot-ready _ formed }, (omega (arith, top-most _ formed, i .if4 .left), out-long (i .before))))
+demands-at-requires : tie.Need-demands-at-requires Inv-ports μ-ports Inv-loop μ-loop
+demands-at-requires c κs = (c .before .before .before .loop .inv .0, c .before .if4 .left, out-long (c .before .before))
 
 same-length-2 : tie.Need-same-length-2 Inv-ports μ-ports Inv-loop μ-loop
 same-length-2 c =
-    let d = c .before .before in
-    let j = d .before .before .before .before .before .before .before .before .before .before .before .before .before .before in
-    d .demands2 .kept .1 .1 .1 .1 .1 .1 .0 ∙ out-long j ∙ sym (j .before .before .before .pre .1)
+    let j = c .before .before .before .before .before in
+    c .before .before .demands-at .kept .1 .1 .0 ∙ out-long j ∙ sym (j .before .before .before .pre .1)
 
 returns-2 : tie.Need-returns-2 Inv-ports μ-ports Inv-loop μ-loop
-returns-2 c =
-    let d = c .before .before in
-    let i = d .before .before .before .before .before .before .before .before .before .before .before .before .before in
-    let f = filled _ (i .before .before .loop .inv .0) (i .if4 .left) (d .demands2 .ensures) in
-    (found-safe (i .before), λ h. f .demands)
+returns-2 c = (found-safe (c .before .before .before .before .before), λ h. c .before .before .demands-at .ensures)
 
 pub seek-spec : {M : Type 1} → statement M
 seek-spec =
@@ -191,6 +183,6 @@ seek-spec =
     loop-again
     same-length
     returns
-    demands-requires-2
+    demands-at-requires
     same-length-2
     returns-2)

@@ -93,7 +93,7 @@ returns-5 c =
     sym (slack-past-ports (held (begin at)) _ _ (formed at) (at .before .if2 .left) (high at) (c .if5 .taken))
 
 port-demands-requires : tie.Need-port-demands-requires
-port-demands-requires c κs = (formed (c .before .before), fits (c .before .before))
+port-demands-requires c κs = (formed (c .before .before), high (c .before .before))
 
 mul-bits : tie.Need-mul-bits
 mul-bits c = search needs
