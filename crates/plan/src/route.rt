@@ -33,7 +33,7 @@ pub fn route_port(value: &[u8], i: usize) -> u16
 }
 
 // Whether each port number of the route is in range.
-pub fn route_in_range(value: &[u8]) -> bool
+pub(crate) fn route_in_range(value: &[u8]) -> bool
     ensures { λ r. ⌜ r ≡ every portOk (routeIn (now (value .entry))) ⌝ }
 {
     let hops = hops_in(value.len());

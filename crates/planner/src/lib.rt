@@ -11,6 +11,8 @@ pub use descend::margin_safe;
 pub use loading::LoadAnswer;
 pub use loading::LoadOutcome;
 pub use loading::load;
+pub use plan::Fault;
+pub use plan::fault_number;
 pub use question::check;
 pub use question::slack;
 pub use tables::Planner;

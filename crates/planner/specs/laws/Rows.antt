@@ -1,10 +1,11 @@
 -- The plan held after a row of calls is the one in the bytes of the last load in which the rules find no refusal.
 use mathlib.Core.Path.{_≡_, refl}
+use mathlib.Core.Bool.{false}
 use mathlib.Core.List.{List, [], _∷_}
 use mathlib.Core.Option.{Option, none, some}
 use Prim.Native.Nat.{ℕ}
 use native.Mathlib.Omega.{arith}
-use Rattle.cqf.specs.Plan.{Plan, noPlan}
+use Rattle.cqf.specs.Plan.{Plan, noPlan, wellFormed}
 use Rattle.plan.specs.Reading.{Reading, accepted, rejected, readPlan}
 use Rattle.loading.specs.Outcome.{loadLeaves, readingLeaves}
 use Rattle.planner.specs.Calls.{Call, load, check, slack, least, marginSafe, leaves, afterFrom, after, accepting, keeping, heldFrom, heldBytes}
@@ -70,6 +71,10 @@ pub after-held
     → after calls ≡ p
 after-held calls s e p m n r = let h = after-loaded calls s e .reads in cc
 
--- after one without, it holds nothing
-pub after-none : (calls : List Call) → heldBytes calls ≡ none → after calls ≡ noPlan
-after-none calls e = calls-hold calls .nothing e
+-- after one without it is the empty one, whose tables are not well formed: every question is answered 20
+empty-unformed : wellFormed noPlan ≡ false
+unfolding wellFormed noPlan
+empty-unformed = refl
+
+pub after-none : (calls : List Call) → heldBytes calls ≡ none → wellFormed (after calls) ≡ false
+after-none calls e = rw (calls-hold calls .nothing e) empty-unformed

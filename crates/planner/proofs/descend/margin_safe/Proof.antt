@@ -21,18 +21,6 @@ use Rattle.planner.proofs.descend.margin_safe.Tie as tie
 formed-past : (c : tie.Else1) → wellFormed (planOf (c .before .before .before .args .planner)) ≡ true
 formed-past c = sym (c .before .formed .ensures) ∙ not-false _ (c .if1 .left)
 
--- the part that the search was lent has 64 numbers, and still has them after it
-part-long : (c : tie.After-seek-arg) → length (take 64 (c .before .before .before .before .before .args .scratch .now)) ≡ portSlots
-part-long c = length-take-le 64 (c .before .before .before .before .before .args .scratch .now) (c .before .if2 .left)
-
-work-long : (c : tie.After-seek) → length (c .seek .last .1 .0) ≡ portSlots
-work-long c = c .seek .kept .1 .0 ∙ part-long (c .before)
-
-again-long
-    : (c : tie.After-seek)
-    → length (take 64 (c .seek .last .1 .0 ++ drop 64 (c .before .before .before .before .before .before .args .scratch .now))) ≡ portSlots
-again-long c = ap length (take-at (c .seek .last .1 .0) _ 64 (work-long c)) ∙ work-long c
-
 formed-requires : tie.Need-formed-requires
 formed-requires c κs = tt
 
@@ -45,11 +33,20 @@ returns-2 c = margin-safe-ends _ _ (ends-short 23 _ _ _ (formed-past (c .before)
 slice-relend-prefix-seek : tie.Need-slice-relend-prefix-seek
 slice-relend-prefix-seek c = c .if2 .left
 
+-- the part that the search is lent has 64 numbers, and still has them after it
 slice-aggregate-seek : tie.Need-slice-aggregate-seek
-slice-aggregate-seek c = sym (part-long c)
+slice-aggregate-seek c = sym (length-take-le _ (c .before .before .before .before .before .args .scratch .now) (c .before .if2 .left))
 
 seek-requires : tie.Need-seek-requires
-seek-requires c κs = (formed-past (c .before .before), part-long c)
+seek-requires c κs = (formed-past (c .before .before), sym (slice-aggregate-seek c))
+
+work-long : (c : tie.After-seek) → length (c .seek .last .1 .0) ≡ portSlots
+work-long c = c .seek .kept .1 .0 ∙ sym (slice-aggregate-seek (c .before))
+
+again-long
+    : (c : tie.After-seek)
+    → length (take 64 (c .seek .last .1 .0 ++ drop 64 (c .before .before .before .before .before .before .args .scratch .now))) ≡ portSlots
+again-long c = ap length (take-at (c .seek .last .1 .0) _ 64 (work-long c)) ∙ work-long c
 
 cast-top : tie.Need-cast-top
 cast-top c = omega (arith, top-most _ (formed-past (c .before .before .before .before .before .before)))
