@@ -2,6 +2,7 @@
 
 use numbers::limits::port_ok;
 use plan::Head;
+use plan::read::FLOW_TAG;
 use plan::route::hops_in;
 use plan::route::route_port;
 use plan::split::HEAD_SIZE;
@@ -15,8 +16,6 @@ ghost use Rattle.cqf.specs.Plan.{portIn};
 ghost use Rattle.plan.specs.Bytes.{tagAt, wholeAt};
 ghost use Rattle.plan.specs.Field.{routeIn};
 ghost use Rattle.plan.specs.Reading.{namesAbsent, absentFrom};
-
-const FLOW_TAG: u8 = 3;
 
 // Whether a port of this number is in the plan.
 fn has_port(rates: [u32; 64], number: u16) -> bool

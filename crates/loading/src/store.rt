@@ -5,6 +5,7 @@ use plan::Flow;
 use plan::Header;
 use plan::Port;
 use plan::route::route_port;
+use tables::HOPS;
 use tables::Planner;
 ghost use Prim.Native.Nat.{_+_, _≤_};
 ghost use mathlib.Core.Path.{_≡_};
@@ -15,8 +16,6 @@ ghost use Rattle.plan.specs.Draft.{taken, store};
 ghost use Rattle.plan.specs.Ranges.{PortOk, FlowOk, NumbersOk, RouteOk, RouteFits};
 ghost use Rattle.plan.specs.Answer.{fieldOf};
 ghost use Rattle.tables.specs.Tables.{planOf};
-
-const MAX_HOPS: usize = 16;
 
 // Test 6: whether the field's slot is taken.
 pub(crate) fn is_taken(planner: Planner, field: Field) -> bool
@@ -83,7 +82,7 @@ fn with_flow(planner: Planner, x: Flow, value: &[u8]) -> Planner
     let slot = (x.number - 1) as usize;
     let hops = x.hops as usize;
     let routes = planner.routes;
-    let copied = with_route(routes, slot * MAX_HOPS, value, hops);
+    let copied = with_route(routes, slot * HOPS, value, hops);
     let mut next = planner;
     next.periods[slot] = x.period;
     next.counts[slot] = x.count;

@@ -8,7 +8,7 @@ const MAX_GUARD: u64 = 1_000_000;
 
 const MAX_TOP: u64 = 100_000_000;
 
-const MAX_PORT: u64 = 64;
+pub const MAX_PORT: u64 = 64;
 
 const MAX_RATE: u64 = 100_000;
 
@@ -16,7 +16,7 @@ const MIN_LENGTH: u64 = 64;
 
 const MAX_LENGTH: u64 = 2_000;
 
-const MAX_FLOW: u64 = 256;
+pub const MAX_FLOW: u64 = 256;
 
 const MIN_PERIOD: u64 = 1_000;
 
@@ -24,7 +24,7 @@ const MAX_PERIOD: u64 = 100_000_000;
 
 const MAX_COUNT: u64 = 64;
 
-const MAX_HOPS: u64 = 16;
+pub const MAX_HOPS: u64 = 16;
 
 fn between(lo: u64, hi: u64, n: u64) -> bool
     ensures { λ r. ⌜ r ≡ within lo hi n ⌝ }

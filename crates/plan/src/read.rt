@@ -35,7 +35,7 @@ const HEADER_TAG: u8 = 1;
 
 const PORT_TAG: u8 = 2;
 
-const FLOW_TAG: u8 = 3;
+pub const FLOW_TAG: u8 = 3;
 
 const HEADER_SIZE: usize = 8;
 

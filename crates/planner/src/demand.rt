@@ -1,4 +1,7 @@
 // Each port's demand at a duration, in bits: one pass over the flows and the ports of their routes.
+use numbers::port::wire_bits;
+use tables::FLOWS;
+use tables::HOPS;
 use tables::Planner;
 ghost use mathlib.Core.Path.{_≡_};
 ghost use mathlib.Core.Bool.{true};
@@ -26,7 +29,7 @@ fn flow_bits(period: u32, count: u16, bytes: u16, duration: u32) -> u64
     ensures { λ r. ⌜ r ≡ count * ceilDiv duration period * bitsOf bytes ⌝ }
 {
     let begun = periods_begun(duration, period);
-    (count as u64) * (begun as u64) * (8 * (bytes as u64 + 20))
+    (count as u64) * (begun as u64) * wire_bits(bytes)
 }
 
 // The bits are added at each port of a route.
@@ -73,11 +76,11 @@ pub(crate) fn demands<'a>(
     clear(out);
     let at = duration as u32;
     let mut f: usize = 0;
-    while f < 256 {
+    while f < FLOWS {
         let period = periods[f];
         if period != 0 {
             let bits = flow_bits(period, counts[f], lengths[f], at);
-            add_route(routes, f * 16, hops[f] as usize, bits, out);
+            add_route(routes, f * HOPS, hops[f] as usize, bits, out);
         }
         f += 1;
     }

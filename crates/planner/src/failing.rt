@@ -1,8 +1,10 @@
 // Which ports fail at a duration, from each port's demand.
 use super::demand::demands_at;
 use numbers::port::FailingPorts;
+use numbers::port::blocking_bits;
 use numbers::port::failing_ports;
 use numbers::port::window;
+use tables::PORTS;
 use tables::Planner;
 ghost use mathlib.Core.Path.{_≡_};
 ghost use mathlib.Core.Bool.{true};
@@ -15,15 +17,15 @@ ghost use Rattle.cqf.specs.Condition.{demand, failing, lowestFailing};
 ghost use Rattle.tables.specs.Tables.{planOf};
 ghost use Rattle.planner.specs.Failing.{setTo, workloadOf, failsBy, failsIn, mostDemand};
 
+// One Mbit/s carries one bit in 1,000 ns.
+const NS_PER_BIT: u64 = 1_000;
+
 // What a port must be able to send, in bits times 1,000 ns.
 pub(crate) fn workload(blocking: u16, bits: u64) -> u64
     requires { ⌜ bits ≤ mostDemand ⌝ }
     ensures { λ r. ⌜ r ≡ workloadOf blocking bits ⌝ }
 {
-    if blocking == 0 {
-        return 1_000 * bits;
-    }
-    1_000 * (bits + 8 * (blocking as u64 + 20))
+    NS_PER_BIT * (bits + blocking_bits(blocking))
 }
 
 // Whether a port fails; a demand of 0 is that of a port that no flow crosses.
@@ -50,7 +52,7 @@ pub(crate) fn failing_set<'a>(
 {
     let mut set: u64 = 0;
     let mut q: usize = 0;
-    while q < 64 {
+    while q < PORTS {
         if port_fails(rates[q], blockings[q], window, demands[q]) {
             set = set | (1u64 << q);
         }

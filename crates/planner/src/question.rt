@@ -4,6 +4,7 @@ use super::SlackAnswer;
 use super::demand::demands_at;
 use super::failing::failing_at;
 use super::failing::workload;
+use numbers::limits::MAX_PORT;
 use numbers::port::window;
 use tables::Planner;
 use tables::formed;
@@ -84,7 +85,7 @@ pub fn slack(planner: Planner, port: u64, duration: u64) -> SlackAnswer
     if port < 1 {
         return SlackAnswer::NotCrossed;
     }
-    if 64 < port {
+    if MAX_PORT < port {
         return SlackAnswer::NotCrossed;
     }
     let q = (port - 1) as usize;

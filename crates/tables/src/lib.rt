@@ -3,6 +3,13 @@ ghost use mathlib.Core.Path.{_≡_};
 ghost use Rattle.cqf.specs.Plan.{noPlan};
 ghost use Rattle.tables.specs.Tables.{planOf};
 
+// A slot for each port and flow, and a place for each port of a route.
+pub const PORTS: usize = numbers::limits::MAX_PORT as usize;
+
+pub const FLOWS: usize = numbers::limits::MAX_FLOW as usize;
+
+pub const HOPS: usize = numbers::limits::MAX_HOPS as usize;
+
 mod sound; // sound.rt: whether the tables hold a plan that the rules accept
 
 pub use sound::formed;

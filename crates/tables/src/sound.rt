@@ -1,4 +1,7 @@
 // Whether the tables hold a plan that the rules accept: a planner that no load made is answered as one that holds no plan.
+use super::FLOWS;
+use super::HOPS;
+use super::PORTS;
 use super::Planner;
 use numbers::limits::blocking_ok;
 use numbers::limits::count_ok;
@@ -38,7 +41,7 @@ fn ports_sound<'a>(rates: &'a [u32], blockings: &'a [u16]) -> bool
     ensures { λ r. ⌜ r ≡ allTo portSlots (portSound (columns (now (rates .entry)) (now (blockings .entry)) [] [] [] [] [])) ⌝ }
 {
     let mut q: usize = 0;
-    while q < 64 {
+    while q < PORTS {
         if !port_sound(rates[q], blockings[q]) {
             return false;
         }
@@ -59,7 +62,7 @@ fn route_sound<'a>(rates: &'a [u32], routes: &'a [u8], base: usize, hops: usize)
         if n < 1 {
             return false;
         }
-        if 64 < n {
+        if PORTS < n {
             return false;
         }
         if rates[n - 1] == 0 {
@@ -119,7 +122,7 @@ fn flow_sound<'a>(
     if !flow_in_range(period, count, bytes, ports) {
         return false;
     }
-    route_sound(rates, routes, f * 16, ports as usize)
+    route_sound(rates, routes, f * HOPS, ports as usize)
 }
 
 fn flows_sound<'a>(
@@ -134,7 +137,7 @@ fn flows_sound<'a>(
     ensures { λ r. ⌜ r ≡ allTo flowSlots (flowSound (columns (now (rates .entry)) [] (now (periods .entry)) (now (counts .entry)) (now (lengths .entry)) (now (hops .entry)) (now (routes .entry)))) ⌝ }
 {
     let mut f: usize = 0;
-    while f < 256 {
+    while f < FLOWS {
         if !flow_sound(rates, periods, counts, lengths, hops, routes, f) {
             return false;
         }
@@ -148,7 +151,7 @@ fn any_present(periods: &[u32]) -> bool
     ensures { λ r. ⌜ r ≡ anyTo flowSlots (present (columns [] [] (now (periods .entry)) [] [] [] [])) ⌝ }
 {
     let mut f: usize = 0;
-    while f < 256 {
+    while f < FLOWS {
         if periods[f] != 0 {
             return true;
         }

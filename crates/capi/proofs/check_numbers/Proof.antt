@@ -2,59 +2,45 @@ use borrow.Author.Needs.{needs}
 use Rattle.capi.proofs.check_numbers.Statement.{statement}
 use Rattle.capi.proofs.check_numbers.Tie as tie
 
--- src/lib.rt:67:36
 enum-told : tie.Need-enum-told
 enum-told c = search needs
 
--- src/lib.rt:67:36
 numbered-requires : tie.Need-numbered-requires
 numbered-requires c κs = search needs
 
--- src/lib.rt:68:32
 enum-told-2 : tie.Need-enum-told-2
 enum-told-2 c = search needs
 
--- src/lib.rt:68:32
 numbered-requires-2 : tie.Need-numbered-requires-2
 numbered-requires-2 c κs = search needs
 
--- src/lib.rt:69:37
 enum-told-3 : tie.Need-enum-told-3
 enum-told-3 c = search needs
 
--- src/lib.rt:69:37
 numbered-requires-3 : tie.Need-numbered-requires-3
 numbered-requires-3 c κs = search needs
 
--- src/lib.rt:70:32
 enum-known-answer : tie.Need-enum-known-answer
 enum-known-answer c = search needs
 
--- src/lib.rt:70:62
 cast-numbered : tie.Need-cast-numbered
 cast-numbered c = search needs
 
--- src/lib.rt:70:75
 cast-numbered-2 : tie.Need-cast-numbered-2
 cast-numbered-2 c = search needs
 
--- src/lib.rt:70:49
 numbered-requires-4 : tie.Need-numbered-requires-4
 numbered-requires-4 c κs = search needs
 
--- src/lib.rt:63:1
 returns : tie.Need-returns
 returns c = rw (c .before .enum-told .given .1) (c .numbered .ensures)
 
--- src/lib.rt:63:1
 returns-2 : tie.Need-returns-2
 returns-2 c = rw (c .before .enum-told2 .given .1) (c .numbered2 .ensures)
 
--- src/lib.rt:63:1
 returns-3 : tie.Need-returns-3
 returns-3 c = rw (c .before .enum-told3 .given .1) (c .numbered3 .ensures)
 
--- src/lib.rt:63:1
 returns-4 : tie.Need-returns-4
 returns-4 c = rw (c .before .before .answer .given .1) (c .numbered4 .ensures)
 

@@ -4,15 +4,12 @@ use Rattle.capi.specs.Numbers.{loadNumbers}
 use Rattle.capi.proofs.cp_load.Statement.{statement}
 use Rattle.capi.proofs.cp_load.Tie as tie
 
--- src/lib.rt:160:9
 load-requires : tie.Need-load-requires
 load-requires c κs = search needs
 
--- src/lib.rt:163:9
 load-numbers-requires : tie.Need-load-numbers-requires
 load-numbers-requires c κs = search needs
 
--- src/lib.rt:156:1
 returns : tie.Need-returns
 returns c = (c .before .before .load .ensures .leaves, c .load-numbers .ensures ∙ ap loadNumbers (c .before .before .load .ensures .answers))
 

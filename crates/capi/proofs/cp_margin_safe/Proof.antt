@@ -4,19 +4,15 @@ use Rattle.capi.specs.Numbers.{searchNumbers}
 use Rattle.capi.proofs.cp_margin_safe.Statement.{statement}
 use Rattle.capi.proofs.cp_margin_safe.Tie as tie
 
--- src/lib.rt:208:24
 margin-safe-requires : tie.Need-margin-safe-requires
 margin-safe-requires c κs = search needs
 
--- src/lib.rt:208:5
 search-numbers-requires : tie.Need-search-numbers-requires
 search-numbers-requires c κs = search needs
 
--- src/lib.rt:204:1
 same-length : tie.Need-same-length
 same-length c = search needs
 
--- src/lib.rt:204:1
 returns : tie.Need-returns
 returns c = (c .search-numbers .ensures ∙ ap searchNumbers (c .before .before .before .margin-safe .ensures .0), c .before .before .before .margin-safe .ensures .1)
 

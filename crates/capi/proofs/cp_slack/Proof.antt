@@ -4,15 +4,12 @@ use Rattle.capi.specs.Numbers.{slackNumbers}
 use Rattle.capi.proofs.cp_slack.Statement.{statement}
 use Rattle.capi.proofs.cp_slack.Tie as tie
 
--- src/lib.rt:194:19
 slack-requires : tie.Need-slack-requires
 slack-requires c κs = search needs
 
--- src/lib.rt:194:5
 slack-numbers-requires : tie.Need-slack-numbers-requires
 slack-numbers-requires c κs = search needs
 
--- src/lib.rt:190:1
 returns : tie.Need-returns
 returns c = c .slack-numbers .ensures ∙ ap slackNumbers (c .before .slack .ensures)
 

@@ -2,43 +2,33 @@ use borrow.Author.Needs.{needs}
 use Rattle.capi.proofs.load_numbers.Statement.{statement}
 use Rattle.capi.proofs.load_numbers.Tie as tie
 
--- src/lib.rt:58:28
 enum-known-answer : tie.Need-enum-known-answer
 enum-known-answer c = search needs
 
--- src/lib.rt:58:58
 cast-numbered : tie.Need-cast-numbered
 cast-numbered c = search needs
 
--- src/lib.rt:58:72
 cast-numbered-2 : tie.Need-cast-numbered-2
 cast-numbered-2 c = search needs
 
--- src/lib.rt:58:46
 numbered-requires : tie.Need-numbered-requires
 numbered-requires c κs = search needs
 
--- src/lib.rt:59:31
 enum-known-answer-2 : tie.Need-enum-known-answer-2
 enum-known-answer-2 c = search needs
 
--- src/lib.rt:59:59
 fault-number-requires : tie.Need-fault-number-requires
 fault-number-requires c κs = search needs
 
--- src/lib.rt:59:59
 cast-numbered-3 : tie.Need-cast-numbered-3
 cast-numbered-3 c = search needs
 
--- src/lib.rt:59:50
 numbered-requires-2 : tie.Need-numbered-requires-2
 numbered-requires-2 c κs = search needs
 
--- src/lib.rt:54:1
 returns : tie.Need-returns
 returns c = rw (c .before .before .answer .given .1) (c .numbered .ensures)
 
--- src/lib.rt:54:1
 returns-2 : tie.Need-returns-2
 returns-2 c = rw (c .before .before .before .answer2 .given .1, ← c .before .fault-number .ensures) (c .numbered2 .ensures)
 

@@ -2,59 +2,45 @@ use borrow.Author.Needs.{needs}
 use Rattle.capi.proofs.search_numbers.Statement.{statement}
 use Rattle.capi.proofs.search_numbers.Tie as tie
 
--- src/lib.rt:89:32
 enum-known-answer : tie.Need-enum-known-answer
 enum-known-answer c = search needs
 
--- src/lib.rt:89:45
 numbered-requires : tie.Need-numbered-requires
 numbered-requires c κs = search needs
 
--- src/lib.rt:90:33
 enum-told : tie.Need-enum-told
 enum-told c = search needs
 
--- src/lib.rt:90:33
 numbered-requires-2 : tie.Need-numbered-requires-2
 numbered-requires-2 c κs = search needs
 
--- src/lib.rt:91:39
 enum-told-2 : tie.Need-enum-told-2
 enum-told-2 c = search needs
 
--- src/lib.rt:91:39
 numbered-requires-3 : tie.Need-numbered-requires-3
 numbered-requires-3 c κs = search needs
 
--- src/lib.rt:92:33
 enum-known-answer-2 : tie.Need-enum-known-answer-2
 enum-known-answer-2 c = search needs
 
--- src/lib.rt:92:67
 cast-numbered : tie.Need-cast-numbered
 cast-numbered c = search needs
 
--- src/lib.rt:92:80
 cast-numbered-2 : tie.Need-cast-numbered-2
 cast-numbered-2 c = search needs
 
--- src/lib.rt:92:50
 numbered-requires-4 : tie.Need-numbered-requires-4
 numbered-requires-4 c κs = search needs
 
--- src/lib.rt:85:1
 returns : tie.Need-returns
 returns c = rw (c .before .before .answer .given .1) (c .numbered .ensures)
 
--- src/lib.rt:85:1
 returns-2 : tie.Need-returns-2
 returns-2 c = rw (c .before .enum-told .given .1) (c .numbered2 .ensures)
 
--- src/lib.rt:85:1
 returns-3 : tie.Need-returns-3
 returns-3 c = rw (c .before .enum-told2 .given .1) (c .numbered3 .ensures)
 
--- src/lib.rt:85:1
 returns-4 : tie.Need-returns-4
 returns-4 c = rw (c .before .before .answer2 .given .1) (c .numbered4 .ensures)
 

@@ -2,35 +2,27 @@ use borrow.Author.Needs.{needs}
 use Rattle.capi.proofs.slack_numbers.Statement.{statement}
 use Rattle.capi.proofs.slack_numbers.Tie as tie
 
--- src/lib.rt:78:28
 enum-known-answer : tie.Need-enum-known-answer
 enum-known-answer c = search needs
 
--- src/lib.rt:79:32
 enum-told : tie.Need-enum-told
 enum-told c = search needs
 
--- src/lib.rt:80:37
 enum-told-2 : tie.Need-enum-told-2
 enum-told-2 c = search needs
 
--- src/lib.rt:81:36
 enum-told-3 : tie.Need-enum-told-3
 enum-told-3 c = search needs
 
--- src/lib.rt:74:1
 returns : tie.Need-returns
 returns c = rw (c .before .answer .given .1) (search needs)
 
--- src/lib.rt:74:1
 returns-2 : tie.Need-returns-2
 returns-2 c = rw (c .enum-told .given .1)
 
--- src/lib.rt:74:1
 returns-3 : tie.Need-returns-3
 returns-3 c = rw (c .enum-told2 .given .1)
 
--- src/lib.rt:74:1
 returns-4 : tie.Need-returns-4
 returns-4 c = rw (c .enum-told3 .given .1)
 

@@ -14,14 +14,17 @@ use Rattle.cqf.specs.laws.Need.{needFor}
 use Rattle.planner.specs.Failing.{workloadOf, mostDemand}
 use Rattle.planner.specs.Need.{needBy}
 
--- the work of a demand is far below 2 ^ 64
-pub work-fits : (blocking bits : ℕ) → blocking < 2 ^ 16 → bits ≤ mostDemand → workloadOf blocking bits < 2 ^ 60
+-- the bits of a blocking frame, and the work of a demand, are far below 2 ^ 64
+pub blocking-most : (blocking : ℕ) → blocking < 2 ^ 16 → cond (eqb blocking 0) 0 (bitsOf blocking) < 2 ^ 20
 unfolding bitsOf
-work-fits blocking bits l few = go (eqb blocking 0)
+blocking-most blocking l = go (eqb blocking 0)
   where
-    go : (x : Bool) → 1000 * (bits + cond x 0 (bitsOf blocking)) < 2 ^ 60
+    go : (x : Bool) → cond x 0 (bitsOf blocking) < 2 ^ 20
     go true = omega arith
     go false = omega arith
+
+pub work-fits : (blocking bits : ℕ) → blocking < 2 ^ 16 → bits ≤ mostDemand → workloadOf blocking bits < 2 ^ 60
+work-fits blocking bits l few = omega (arith, blocking-most blocking l)
 
 -- and so is a quotient of such numbers beside two guard bands
 pub quotient-fits : (guard n d : ℕ) → guard < 2 ^ 32 → n < 2 ^ 61 → 2 * guard + n / d < 2 ^ 64

@@ -1,0 +1,19 @@
+-- `numbers::port::wire_bits` meets its contract.
+use mathlib.Core.Path.{refl}
+use native.Mathlib.Omega.{arith}
+use Rattle.cqf.specs.Condition.{bitsOf}
+use Rattle.numbers.proofs.port.wire_bits.Statement.{statement}
+use Rattle.numbers.proofs.port.wire_bits.Tie as tie
+
+add-result : tie.Need-add-result
+add-result c = omega arith
+
+mul-result : tie.Need-mul-result
+mul-result c = omega arith
+
+returns : tie.Need-returns
+unfolding bitsOf
+returns c = refl
+
+pub wire-bits-spec : {M : Type 1} → statement M
+wire-bits-spec = tie.close (tie.spec add-result mul-result returns)
