@@ -1,29 +1,7 @@
-// A frame's bits on the wire, the window of a port, and the lowest and the number of a set of failing ports.
+// The window of a port, and the lowest and the number of a set of failing ports.
 ghost use mathlib.Core.Path.{_≡_};
-ghost use mathlib.Core.Bool.{cond};
 ghost use Prim.Native.Nat.{suc, _-_, _*_};
-ghost use lib.Dec.{eqb};
 ghost use lib.Count.{ones, trailingZeros};
-ghost use Rattle.cqf.specs.Condition.{bitsOf};
-
-// Preamble and start delimiter 8 bytes, gap 12.
-const OVERHEAD: u64 = 20;
-
-pub fn wire_bits(bytes: u16) -> u64
-    ensures { λ r. ⌜ r ≡ bitsOf bytes ⌝ }
-{
-    8 * (bytes as u64 + OVERHEAD)
-}
-
-// The same of a blocking frame: 0 stands for none.
-pub fn blocking_bits(bytes: u16) -> u64
-    ensures { λ r. ⌜ r ≡ cond (eqb bytes 0) 0 (bitsOf bytes) ⌝ }
-{
-    if bytes == 0 {
-        return 0;
-    }
-    wire_bits(bytes)
-}
 
 // The part of a cycle in which a port sends.
 pub fn window(guard: u32, duration: u64) -> u64

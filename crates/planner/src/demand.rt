@@ -1,5 +1,5 @@
 // Each port's demand at a duration, in bits: one pass over the flows and the ports of their routes.
-use numbers::port::wire_bits;
+use numbers::frame::wire_bits;
 use tables::FLOWS;
 use tables::HOPS;
 use tables::Planner;

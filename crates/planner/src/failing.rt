@@ -1,7 +1,7 @@
 // Which ports fail at a duration, from each port's demand.
 use super::demand::demands_at;
+use numbers::frame::blocking_bits;
 use numbers::port::FailingPorts;
-use numbers::port::blocking_bits;
 use numbers::port::failing_ports;
 use numbers::port::window;
 use tables::PORTS;

@@ -1,8 +1,8 @@
--- `numbers::port::blocking_bits` meets its contract.
+-- `numbers::frame::blocking_bits` meets its contract.
 use mathlib.Core.Path.{sym, _∙_}
 use borrow.Author.Tests.{eq-eqb, ne-eqb}
-use Rattle.numbers.proofs.port.blocking_bits.Statement.{statement}
-use Rattle.numbers.proofs.port.blocking_bits.Tie as tie
+use Rattle.numbers.proofs.frame.blocking_bits.Statement.{statement}
+use Rattle.numbers.proofs.frame.blocking_bits.Tie as tie
 
 returns : tie.Need-returns
 returns c = sym (simp (eq-eqb _ _ (c .if1 .taken)))

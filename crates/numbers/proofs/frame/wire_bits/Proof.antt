@@ -1,9 +1,9 @@
--- `numbers::port::wire_bits` meets its contract.
+-- `numbers::frame::wire_bits` meets its contract.
 use mathlib.Core.Path.{refl}
 use native.Mathlib.Omega.{arith}
 use Rattle.cqf.specs.Condition.{bitsOf}
-use Rattle.numbers.proofs.port.wire_bits.Statement.{statement}
-use Rattle.numbers.proofs.port.wire_bits.Tie as tie
+use Rattle.numbers.proofs.frame.wire_bits.Statement.{statement}
+use Rattle.numbers.proofs.frame.wire_bits.Tie as tie
 
 add-result : tie.Need-add-result
 add-result c = omega arith
