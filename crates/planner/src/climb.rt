@@ -70,7 +70,8 @@ pub fn least(planner: Planner, scratch: &mut [u64]) -> SearchAnswer
     if !formed(planner) {
         return SearchAnswer::NoPlan;
     }
-    if scratch.len() < 64 {
+    let size = scratch.len();
+    if size < 64 {
         return SearchAnswer::ShortScratch;
     }
     let found = seek(planner, &mut scratch[..64]);

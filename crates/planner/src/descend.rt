@@ -25,9 +25,9 @@ fn larger(a: u64, b: u64) -> u64
     if a < b { b } else { a }
 }
 
-// The margin-safe duration, or one above top where there is none. Every duration from t to top is admissible, and where no port
-// fails at t - 1, none does from there down to the most that one needs there. Where there is one, out is left with the demands
-// at it.
+// The margin-safe duration, or one above top where there is none. Every duration from below + 1 to top is admissible, and where
+// no port fails at below, none does from there down to the most that one needs there. Where there is one, out is left with the
+// demands at it.
 pub(crate) fn seek(planner: Planner, out: &mut [u64]) -> u64
     requires { ⌜ (wellFormed (planOf planner) ≡ true) × (length (now out) ≡ portSlots) ⌝ }
     ensures { λ r. ⌜ r ≡ Condition.marginSafe (planOf planner) ⌝ }
@@ -35,12 +35,11 @@ pub(crate) fn seek(planner: Planner, out: &mut [u64]) -> u64
 {
     let guard = planner.guard;
     let top = planner.top as u64;
-    let mut t = top + 1;
+    let mut below = top;
     let found = loop {
-        if t == 1 {
-            break t;
+        if below == 0 {
+            break 1;
         }
-        let below = t - 1;
         demands(
             &planner.periods,
             &planner.counts,
@@ -63,9 +62,9 @@ pub(crate) fn seek(planner: Planner, out: &mut [u64]) -> u64
             q += 1;
         }
         if below < most {
-            break t;
+            break below + 1;
         }
-        t = most;
+        below = most - 1;
     };
     if top < found {
         return found;
@@ -81,7 +80,8 @@ pub fn margin_safe(planner: Planner, scratch: &mut [u64]) -> SearchAnswer
     if !formed(planner) {
         return SearchAnswer::NoPlan;
     }
-    if scratch.len() < 64 {
+    let size = scratch.len();
+    if size < 64 {
         return SearchAnswer::ShortScratch;
     }
     let found = seek(planner, &mut scratch[..64]);
