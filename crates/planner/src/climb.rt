@@ -5,6 +5,7 @@ use super::failing::failing_at;
 use super::failing::port_fails;
 use super::need::need;
 use numbers::port::window;
+use tables::PORTS;
 use tables::Planner;
 use tables::formed;
 ghost use mathlib.Core.Path.{_≡_};
@@ -42,7 +43,7 @@ pub(crate) fn seek(planner: Planner, out: &mut [u64]) -> u64
         let span = window(guard, t);
         let mut next: u64 = 0;
         let mut q: usize = 0;
-        'ports: while q < 64 {
+        'ports: while q < PORTS {
             let rate = planner.rates[q];
             let blocking = planner.blockings[q];
             let bits = out[q];
@@ -70,15 +71,16 @@ pub fn least(planner: Planner, scratch: &mut [u64]) -> SearchAnswer
     if !formed(planner) {
         return SearchAnswer::NoPlan;
     }
-    if scratch.len() < 64 {
+    let size = scratch.len();
+    if size < PORTS {
         return SearchAnswer::ShortScratch;
     }
-    let found = seek(planner, &mut scratch[..64]);
+    let found = seek(planner, &mut scratch[..PORTS]);
     let top = planner.top as u64;
     if found <= top {
         return SearchAnswer::Duration(found);
     }
-    let ports = failing_at(planner, top, &mut scratch[..64]);
+    let ports = failing_at(planner, top, &mut scratch[..PORTS]);
     SearchAnswer::Failing {
         port: ports.port,
         count: ports.count,

@@ -52,7 +52,7 @@ fn clear(out: &mut [u64])
     ensures { λ r. ⌜ ((q : ℕ) → q < portSlots → getD (now (out .exit)) q 0 ≡ 0) ⌝ }
 {
     let mut q: usize = 0;
-    while q < 64 {
+    while q < out.len() {
         out[q] = 0;
         q += 1;
     }

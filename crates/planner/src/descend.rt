@@ -4,6 +4,7 @@ use super::demand::demands;
 use super::demand::demands_at;
 use super::failing::failing_at;
 use super::need::need;
+use tables::PORTS;
 use tables::Planner;
 use tables::formed;
 ghost use mathlib.Core.Path.{_≡_};
@@ -25,9 +26,9 @@ fn larger(a: u64, b: u64) -> u64
     if a < b { b } else { a }
 }
 
-// The margin-safe duration, or one above top where there is none. Every duration from t to top is admissible, and where no port
-// fails at t - 1, none does from there down to the most that one needs there. Where there is one, out is left with the demands
-// at it.
+// The margin-safe duration, or one above top where there is none. Every duration from below + 1 to top is admissible, and where
+// no port fails at below, none does from there down to the most that one needs there. Where there is one, out is left with the
+// demands at it.
 pub(crate) fn seek(planner: Planner, out: &mut [u64]) -> u64
     requires { ⌜ (wellFormed (planOf planner) ≡ true) × (length (now out) ≡ portSlots) ⌝ }
     ensures { λ r. ⌜ r ≡ Condition.marginSafe (planOf planner) ⌝ }
@@ -35,12 +36,11 @@ pub(crate) fn seek(planner: Planner, out: &mut [u64]) -> u64
 {
     let guard = planner.guard;
     let top = planner.top as u64;
-    let mut t = top + 1;
+    let mut below = top;
     let found = loop {
-        if t == 1 {
-            break t;
+        if below == 0 {
+            break 1;
         }
-        let below = t - 1;
         demands(
             &planner.periods,
             &planner.counts,
@@ -52,7 +52,7 @@ pub(crate) fn seek(planner: Planner, out: &mut [u64]) -> u64
         );
         let mut most: u64 = 1;
         let mut q: usize = 0;
-        'ports: while q < 64 {
+        'ports: while q < PORTS {
             most = larger(
                 most,
                 need(guard, planner.rates[q], planner.blockings[q], out[q]),
@@ -63,9 +63,9 @@ pub(crate) fn seek(planner: Planner, out: &mut [u64]) -> u64
             q += 1;
         }
         if below < most {
-            break t;
+            break below + 1;
         }
-        t = most;
+        below = most - 1;
     };
     if top < found {
         return found;
@@ -81,15 +81,16 @@ pub fn margin_safe(planner: Planner, scratch: &mut [u64]) -> SearchAnswer
     if !formed(planner) {
         return SearchAnswer::NoPlan;
     }
-    if scratch.len() < 64 {
+    let size = scratch.len();
+    if size < PORTS {
         return SearchAnswer::ShortScratch;
     }
-    let found = seek(planner, &mut scratch[..64]);
+    let found = seek(planner, &mut scratch[..PORTS]);
     let top = planner.top as u64;
     if found <= top {
         return SearchAnswer::Duration(found);
     }
-    let ports = failing_at(planner, top, &mut scratch[..64]);
+    let ports = failing_at(planner, top, &mut scratch[..PORTS]);
     SearchAnswer::Failing {
         port: ports.port,
         count: ports.count,

@@ -15,7 +15,7 @@ use Rattle.planner.specs.Need.{needBy}
 use Rattle.planner.specs.laws.PortNeed.{need-by, need-by-some}
 use Rattle.planner.specs.laws.Scratch.{Filled, filled-bits}
 
--- no port below q needs more than most, which is from 1 to below, one below the duration reached
+-- no port below q needs more than most, which is from 1 to below; every duration from below + 1 to top is admissible
 pub record Fitting (p : Plan) (out : List ℕ) (below most q : ℕ) : Type 0 where
   pub filled : Filled p out below
   pub descended : Descended p (suc below)
@@ -29,25 +29,22 @@ pub data Left (p : Plan) (below most : ℕ) : Type 0 where
   none : most ≤ below → 1 ≤ most → ((q : ℕ) → q < portSlots → 0 < demand p q below → need p q below ≤ most) → Left p below most
   first : (q : ℕ) → q < portSlots → fails p below q ≡ true → below < most → Left p below most
 
--- one below a duration above 1 that the search has reached
-pub one-below : {p : Plan} (t : ℕ) → Descended p t → (t ≡ 1 → ⊥) → t ≡ suc (t - 1)
-one-below t s ne = omega (arith, s .first)
-
-pub below-top : {p : Plan} (t : ℕ) → Descended p t → t - 1 ≤ p .top
-below-top t s = omega (arith, s .within)
+pub left-from : {p : Plan} {below last : ℕ} → Left p below last → 1 ≤ last
+left-from (none h f fits) = f
+left-from (first k slot e h) = omega arith
 
 pub fitting-start
-    : {p : Plan} {out : List ℕ} {t : ℕ}
-    → Filled p out (t - 1)
-    → Descended p t
-    → (t ≡ 1 → ⊥)
-    → Fitting p out (t - 1) 1 0
-fitting-start {p} {t = t} f s ne =
+    : {p : Plan} {out : List ℕ} {below : ℕ}
+    → Filled p out below
+    → Descended p (suc below)
+    → (below ≡ 0 → ⊥)
+    → Fitting p out below 1 0
+fitting-start f s ne =
     record {
       filled = f;
-      descended = subst (Descended p) (one-below t s ne) s;
+      descended = s;
       from = omega arith;
-      within = omega (arith, s .first);
+      within = omega arith;
       slots = omega arith;
       fits = λ k h. absurd (omega arith);
     }
@@ -99,6 +96,9 @@ module _ {p : Plan} {out : List ℕ} {below most q : ℕ} (s : Fitting p out bel
   left-stop (none h f fits) l = absurd (omega arith)
   left-stop (first k slot e h) l = descent-stop p (s .filled .formed) below k (omega (arith, s .from, s .within)) (s .descended) slot e
 
-  pub left-down : {last : ℕ} → Left p below last → last ≤ below → Descended p last
-  left-down {last} (none h f fits) l = descent-next p (s .filled .formed) below last (s .descended) f l fits
+  -- the search goes on one below the most that a port needs
+  pub left-down : {last : ℕ} → Left p below last → last ≤ below → Descended p (suc (last - 1))
+  left-down {last} (none h f fits) l =
+      let down : last ≡ suc (last - 1) = omega arith in
+      subst (Descended p) down (descent-next p (s .filled .formed) below last (s .descended) f l fits)
   left-down (first k slot e h) l = absurd (omega arith)

@@ -1,10 +1,8 @@
 -- `planner::descend::margin_safe` meets its contract: the cases of the outcome. The first 64 numbers of the scratch are lent on once more where there is none.
-use mathlib.Core.Path.{_≡_, sym, ap, _∙_}
+use mathlib.Core.Path.{_≡_, sym, _∙_}
 use mathlib.Core.Bool.{true}
-use mathlib.Core.List.{_++_}
 use Prim.Native.Nat.{_≤_, _<_}
-use lib.ListN.{length, take, drop}
-use lib.Seq.{length-take-le, take-at}
+use lib.ListN.{length, length-take}
 use native.Mathlib.Nat.{le-refl}
 use native.Mathlib.Omega.{arith}
 use borrow.Author.Needs.{needs}
@@ -28,25 +26,17 @@ returns : tie.Need-returns
 returns c = margin-safe-ends _ _ (ends-no-plan 23 _ _ _ (sym (c .before .formed .ensures) ∙ not-true _ (c .if1 .taken)))
 
 returns-2 : tie.Need-returns-2
-returns-2 c = margin-safe-ends _ _ (ends-short 23 _ _ _ (formed-past (c .before)) (c .if2 .taken))
+returns-2 c = margin-safe-ends _ _ (ends-short 23 _ _ _ (formed-past (c .before)) (omega (arith, c .if2 .taken)))
 
 slice-relend-prefix-seek : tie.Need-slice-relend-prefix-seek
-slice-relend-prefix-seek c = c .if2 .left
+slice-relend-prefix-seek c = omega (arith, c .if2 .left)
 
--- the part that the search is lent has 64 numbers, and still has them after it
 slice-aggregate-seek : tie.Need-slice-aggregate-seek
-slice-aggregate-seek c = sym (length-take-le _ (c .before .before .before .before .before .args .scratch .now) (c .before .if2 .left))
+slice-aggregate-seek c = simp length-take (omega (arith, slice-relend-prefix-seek (c .before)))
 
+-- the search is lent 64 numbers
 seek-requires : tie.Need-seek-requires
-seek-requires c κs = (formed-past (c .before .before), sym (slice-aggregate-seek c))
-
-work-long : (c : tie.After-seek) → length (c .seek .last .1 .0) ≡ portSlots
-work-long c = c .seek .kept .1 .0 ∙ sym (slice-aggregate-seek (c .before))
-
-again-long
-    : (c : tie.After-seek)
-    → length (take 64 (c .seek .last .1 .0 ++ drop 64 (c .before .before .before .before .before .before .args .scratch .now))) ≡ portSlots
-again-long c = ap length (take-at (c .seek .last .1 .0) _ 64 (work-long c)) ∙ work-long c
+seek-requires c κs = (formed-past (c .before .before), omega (arith, slice-aggregate-seek c))
 
 cast-top : tie.Need-cast-top
 cast-top c = omega (arith, top-most _ (formed-past (c .before .before .before .before .before .before)))
@@ -62,18 +52,18 @@ returns-3 c =
     let p = planOf (a .planner) in
     let within : s .seek .result ≤ a .planner .top = omega (arith, c .if3 .taken) in
     margin-safe-ends p (a .scratch .now)
-    (ends-within 23 p (a .scratch .now) (formed-past (s .before .before .before)) (s .before .before .if2 .left) (e .0) within (e .1 within))
+    (ends-within 23 p (a .scratch .now) (formed-past (s .before .before .before)) (omega (arith, s .before .before .if2 .left)) (e .0) within (e .1 within))
 
 slice-relend-prefix-failing-at : tie.Need-slice-relend-prefix-failing-at
 slice-relend-prefix-failing-at c = search needs
 
 slice-aggregate-failing-at : tie.Need-slice-aggregate-failing-at
-slice-aggregate-failing-at c = sym (again-long (c .before .before .before .before .before))
+slice-aggregate-failing-at c = simp length-take (omega (arith, slice-relend-prefix-failing-at (c .before)))
 
 failing-at-requires : tie.Need-failing-at-requires
 failing-at-requires c κs =
     let formed = formed-past (c .before .before .before .before .before .before .before .before) in
-    (formed, top-positive _ formed, le-refl _, again-long (c .before .before .before .before .before))
+    (formed, top-positive _ formed, le-refl _, sym (slice-aggregate-failing-at c))
 
 same-length-2 : tie.Need-same-length-2
 same-length-2 c = search needs
@@ -84,9 +74,10 @@ returns-4 c =
     let e = c .before .before .failing-at .ensures in
     let a = s .before .before .before .before .before .before .args in
     let p = planOf (a .planner) in
+    let long : length (s .seek .last .1 .0) ≡ portSlots = omega (arith, s .seek .kept .1 .0, slice-aggregate-seek (s .before)) in
     let above : a .planner .top < s .seek .result = omega (arith, c .before .before .before .before .if3 .left) in
     margin-safe-ends p (a .scratch .now)
-    (ends-above 23 p (a .scratch .now) (s .seek .last .1 .0) (formed-past (s .before .before .before)) (s .before .before .if2 .left) (work-long s) (s .seek .ensures .0) above (e .0) (e .1))
+    (ends-above 23 p (a .scratch .now) (s .seek .last .1 .0) (formed-past (s .before .before .before)) (omega (arith, s .before .before .if2 .left)) long (s .seek .ensures .0) above (e .0) (e .1))
 
 pub margin-safe-spec : {M : Type 1} → statement M
 margin-safe-spec =

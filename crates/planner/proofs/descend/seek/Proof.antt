@@ -1,5 +1,5 @@
--- `planner::descend::seek` meets its contract. Round the outer loop every duration from t to top is admissible; in the loop
--- over the ports none below q needs more than most for its demand at t - 1.
+-- `planner::descend::seek` meets its contract. Round the outer loop every duration from below + 1 to top is admissible; in the
+-- loop over the ports none below q needs more than most for its demand at below.
 use mathlib.Core.Path.{_≡_, sym, ap, subst, _∙_}
 use mathlib.Core.Bool.{true}
 use mathlib.Core.Logic.{⊎-elim}
@@ -15,30 +15,30 @@ use Rattle.cqf.specs.laws.Ranges.{top-most}
 use Rattle.cqf.specs.laws.Search.{Descended, descent-start, descent-bottom}
 use Rattle.tables.specs.Tables.{planOf}
 use Rattle.planner.specs.laws.Sums.{slot-ready}
-use Rattle.planner.specs.laws.Scratch.{filled, filled-length, filled-most, filled-served}
-use Rattle.planner.specs.laws.Descent.{Fitting, Left, one-below, below-top, fitting-start, fitting-all, fitting-next, fitting-until, left-stop, left-down}
+use Rattle.planner.specs.laws.Scratch.{filled, filled-length, filled-short, filled-most, filled-served}
+use Rattle.planner.specs.laws.Descent.{Fitting, Left, left-from, fitting-start, fitting-all, fitting-next, fitting-until, left-stop, left-down}
 use Rattle.planner.proofs.descend.seek.Statement.{statement}
 use Rattle.planner.proofs.descend.seek.Tie as tie
 
 abbrev Inv-ports : tie.InvT-ports
-Inv-ports out planner guard top t below most₀ q₀ most q = Fitting (planOf planner) out below most q × (t ≡ suc below)
+Inv-ports out planner guard top below most₀ q₀ most q = Fitting (planOf planner) out below most q
 
 abbrev μ-ports : tie.MeasureT-ports
-μ-ports out planner guard top t below most₀ q₀ most q = 64 - q
+μ-ports out planner guard top below most₀ q₀ most q = 64 - q
 
 abbrev Inv-loop : tie.InvT-loop
-Inv-loop out₀ planner guard top t₀ out t =
-    (wellFormed (planOf planner) ≡ true) × (length out ≡ portSlots) × Descended (planOf planner) t
+Inv-loop out₀ planner guard top below₀ out below =
+    (wellFormed (planOf planner) ≡ true) × (length out ≡ portSlots) × Descended (planOf planner) (suc below)
 
 abbrev μ-loop : tie.MeasureT-loop
-μ-loop out₀ planner guard top t₀ out t = t
+μ-loop out₀ planner guard top below₀ out below = below
 
 -- what the loop over the ports gives
 left-ports
     : (c : tie.Left-ports Inv-ports μ-ports Inv-loop μ-loop)
-    → Left (planOf (c .before .before .before .before .before .before .before .before .before .before .before .before .before .before .before .before .before .before .before .before .args .t1)) (c .before .before .before .before .before .before .before .before .before .before .before .before .before .before .before .before .before .before .loop .t - 1) (c .ports-test .most)
+    → Left (planOf (c .before .before .before .before .before .before .before .before .before .before .before .before .before .before .before .before .before .before .before .before .args .t1)) (c .before .before .before .before .before .before .before .before .before .before .before .before .before .before .before .before .before .before .loop .below) (c .ports-test .most)
 left-ports c =
-    let s = c .before .ports .inv .0 in
+    let s = c .before .ports .inv in
     ⊎-elim
     (λ w. fitting-all s (w .0 .left) (w .1))
     (λ w. fitting-until s (w .0 .taken) _ (w .4 .ensures) _ (w .7 ∙ w .5 .ensures) (rw (w .7) (w .6 .taken)))
@@ -47,28 +47,20 @@ left-ports c =
 cast-top : tie.Need-cast-top Inv-ports μ-ports Inv-loop μ-loop
 cast-top c = omega (arith, top-most _ (c .before .pre .0))
 
-add-t : tie.Need-add-t Inv-ports μ-ports Inv-loop μ-loop
-add-t c = omega (arith, top-most _ (c .before .pre .0))
-
 loop-holds : tie.Need-loop-holds Inv-ports μ-ports Inv-loop μ-loop
-loop-holds c = (c .before .pre .0, c .before .pre .1, rw add-one (descent-start _ (c .before .pre .0)))
-
-sub-below : tie.Need-sub-below Inv-ports μ-ports Inv-loop μ-loop
-sub-below c = omega arith
+loop-holds c = (c .before .pre .0, c .before .pre .1, descent-start _ (c .before .pre .0))
 
 demands-requires : tie.Need-demands-requires Inv-ports μ-ports Inv-loop μ-loop
 demands-requires c κs =
     let l = c .before .before .before .before .before .before .before .before .before .before .before .before .before .loop in
-    (search needs, (record { slot = slot-ready _ (l .inv .0) }, (omega (arith, top-most _ (l .inv .0), below-top _ (l .inv .2)), l .inv .1)))
+    (search needs, (record { slot = slot-ready _ (l .inv .0) }, (omega (arith, top-most _ (l .inv .0), l .inv .2 .within), l .inv .1)))
 
 ports-holds : tie.Need-ports-holds Inv-ports μ-ports Inv-loop μ-loop
 ports-holds c =
     let d = c .before .before in
     let i = d .before .before .before .before .before .before .before .before .before .before .before .before .before in
-    let l = i .before .loop in (
-      fitting-start (filled _ (l .inv .0) (below-top _ (l .inv .2)) (d .demands .ensures)) (l .inv .2) (i .if1 .left),
-      one-below _ (l .inv .2) (i .if1 .left),
-    )
+    let l = i .before .loop in
+    fitting-start (filled _ (l .inv .0) (omega (arith, l .inv .2 .within)) (d .demands .ensures)) (l .inv .2) (i .if1 .left)
 
 mul-need : tie.Need-mul-need Inv-ports μ-ports Inv-loop μ-loop
 mul-need c = omega arith
@@ -88,12 +80,12 @@ mul-need-3 c = omega arith
 slice-read-need : tie.Need-slice-read-need Inv-ports μ-ports Inv-loop μ-loop
 slice-read-need c =
     let i = c .before .before .before in
-    omega (arith, filled-length (i .before .ports .inv .0 .filled), i .ports-test .taken)
+    omega (arith, filled-length (i .before .ports .inv .filled), i .ports-test .taken)
 
 need-requires : tie.Need-need-requires Inv-ports μ-ports Inv-loop μ-loop
 need-requires c κs =
     let i = c .before .before .before in
-    let f = i .before .ports .inv .0 .filled in
+    let f = i .before .ports .inv .filled in
     (filled-most f _ (i .ports-test .taken), filled-served f _ (i .ports-test .taken))
 
 larger-requires : tie.Need-larger-requires Inv-ports μ-ports Inv-loop μ-loop
@@ -108,23 +100,29 @@ ports-less c = omega arith
 ports-again : tie.Need-ports-again Inv-ports μ-ports Inv-loop μ-loop
 ports-again c =
     let i = c .before .before .before .before .before .before in
-    let v = i .before .ports .inv in
-    (fitting-next (v .0) (i .ports-test .taken) _ (c .before .before .need .ensures) _ (c .before .larger .ensures) (c .if2 .left), v .1)
+    fitting-next (i .before .ports .inv) (i .ports-test .taken) _ (c .before .before .need .ensures) _ (c .before .larger .ensures) (c .if2 .left)
+
+add-found : tie.Need-add-found Inv-ports μ-ports Inv-loop μ-loop
+add-found c = omega (arith, filled-short (c .before .before .ports .inv .filled))
+
+sub-below : tie.Need-sub-below Inv-ports μ-ports Inv-loop μ-loop
+sub-below c = left-from (left-ports (c .before .before))
 
 loop-less : tie.Need-loop-less Inv-ports μ-ports Inv-loop μ-loop
-loop-less c = omega (arith, c .if3 .left, c .before .before .ports .inv .1)
+loop-less c = omega (arith, c .before .if3 .left, left-from (left-ports (c .before .before)))
 
 loop-again : tie.Need-loop-again Inv-ports μ-ports Inv-loop μ-loop
 loop-again c =
-    let s = c .before .before .ports .inv .0 in
-    (s .filled .formed, filled-length (s .filled), left-down s (left-ports (c .before)) (c .if3 .left))
+    let l = c .before .before in
+    let s = l .before .ports .inv in
+    (s .filled .formed, filled-length (s .filled), left-down s (left-ports l) (c .before .if3 .left))
 
 -- what the outer loop gives
 out-long : (c : tie.Joined1 Inv-ports μ-ports Inv-loop μ-loop) → length (c .if1 .out) ≡ portSlots
 out-long c =
     ⊎-elim
     (λ w. ap length (w .1) ∙ c .before .loop .inv .1)
-    (λ w. ap length (w .19) ∙ filled-length (w .16 .inv .0 .filled))
+    (λ w. ap length (w .19) ∙ filled-length (w .16 .inv .filled))
     (c .if1 .came)
 
 found-safe
@@ -133,8 +131,8 @@ found-safe
 found-safe c =
     let i = c .before .loop .inv in
     ⊎-elim
-    (λ w. w .2 ∙ w .0 .taken ∙ sym (descent-bottom _ (i .0) (subst (Descended _) (w .0 .taken) (i .2))))
-    (λ w. w .20 ∙ w .16 .inv .1 ∙ sym (left-stop (w .16 .inv .0) (left-ports (record { before = record { before = _; ports = w .16 }; ports-test = w .17 })) (w .18 .taken)))
+    (λ w. w .2 ∙ sym (descent-bottom _ (i .0) (subst (Descended _) (ap suc (w .0 .taken)) (i .2))))
+    (λ w. w .20 ∙ add-one _ ∙ sym (left-stop (w .16 .inv) (left-ports (record { before = record { before = _; ports = w .16 }; ports-test = w .17 })) (w .18 .taken)))
     (c .if1 .came)
 
 same-length : tie.Need-same-length Inv-ports μ-ports Inv-loop μ-loop
@@ -144,7 +142,9 @@ returns : tie.Need-returns Inv-ports μ-ports Inv-loop μ-loop
 returns c = (found-safe (c .before), λ h. absurd (omega (arith, c .if4 .taken)))
 
 demands-at-requires : tie.Need-demands-at-requires Inv-ports μ-ports Inv-loop μ-loop
-demands-at-requires c κs = (c .before .before .before .loop .inv .0, c .before .if4 .left, out-long (c .before .before))
+demands-at-requires c κs =
+    let i = c .before .before .before .loop .inv in
+    (i .0, omega (arith, c .before .if4 .left, i .2 .within), out-long (c .before .before))
 
 same-length-2 : tie.Need-same-length-2 Inv-ports μ-ports Inv-loop μ-loop
 same-length-2 c =
@@ -163,9 +163,7 @@ seek-spec =
     Inv-loop
     μ-loop
     cast-top
-    add-t
     loop-holds
-    sub-below
     demands-requires
     ports-holds
     mul-need
@@ -179,6 +177,8 @@ seek-spec =
     add-q
     ports-less
     ports-again
+    add-found
+    sub-below
     loop-less
     loop-again
     same-length
