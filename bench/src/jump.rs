@@ -1,158 +1,164 @@
-//! Both searches by jumps, on the planner's own tables. One pass over flows and hops per round.
-//! CHECKED says whether the sum over the hops tests its index, as plain Rust does; the form test makes it needless.
+//! The planner's two searches in Rust, on the planner's own tables, step by step as in climb.rt and descend.rt of crates/planner.
+//! CHECKED says whether the sum over the hops tests its indices, as safe Rust does; the form test makes it needless.
 
 use crate::answers::{Answer, Planner};
+use crate::formed::formed;
 
-const PORTS: usize = 64;
-const FLOWS: usize = 256;
-const MAX_HOPS: usize = 16;
+pub const PORTS: usize = 64;
+pub const FLOWS: usize = 256;
+pub const MAX_HOPS: usize = 16;
 
 fn wire_bits(length: u16) -> u64 {
     8 * (length as u64 + 20)
 }
 
-fn blocking(planner: &Planner, slot: usize) -> u64 {
-    match planner.blockings[slot] {
-        0 => 0,
-        length => wire_bits(length),
-    }
-}
-
-fn port_fits(rate: u32, blocker: u16) -> bool {
-    let longest = blocker == 0 || (64..=2_000).contains(&blocker);
-    (rate == 0 && blocker == 0) || ((1..=100_000).contains(&rate) && longest)
-}
-
-/// Whether a flow slot is absent, or in range with a route over present ports, none twice.
-fn flow_fits(planner: &Planner, slot: usize) -> bool {
-    let (period, count) = (planner.periods[slot], planner.counts[slot]);
-    let (length, hops) = (planner.lengths[slot], planner.hops[slot] as usize);
-    if period == 0 && count == 0 && length == 0 && hops == 0 {
-        return true;
-    }
-    let fits = (1_000..=100_000_000).contains(&period)
-        && (1..=64).contains(&count)
-        && (64..=2_000).contains(&length)
-        && (1..=MAX_HOPS).contains(&hops);
-    if !fits {
-        return false;
-    }
-    let mut passed = 0u64;
-    for &port in &planner.routes[slot * MAX_HOPS..slot * MAX_HOPS + hops] {
-        let place = port.wrapping_sub(1) as usize;
-        if place >= PORTS || planner.rates[place] == 0 || passed >> place & 1 == 1 {
-            return false;
+fn add_route<const CHECKED: bool>(planner: &Planner, slot: usize, bits: u64, out: &mut [u64; PORTS]) {
+    let base = slot * MAX_HOPS;
+    let route = base..base + planner.hops[slot] as usize;
+    if CHECKED {
+        for &port in &planner.routes[route] {
+            out[port as usize - 1] += bits;
         }
-        passed |= 1 << place;
+    } else {
+        // The form test found at most 16 hops, each between 1 and 64.
+        for &port in unsafe { planner.routes.get_unchecked(route) } {
+            unsafe { *out.get_unchecked_mut(port as usize - 1) += bits };
+        }
     }
-    true
-}
-
-/// Whether a load could have made these tables.
-pub fn well_formed(planner: &Planner) -> bool {
-    let header = planner.guard <= 1_000_000 && (1..=100_000_000).contains(&planner.top);
-    header
-        && (0..PORTS).all(|slot| port_fits(planner.rates[slot], planner.blockings[slot]))
-        && (0..FLOWS).all(|slot| flow_fits(planner, slot))
-        && planner.hops.iter().any(|hops| *hops != 0)
 }
 
 /// Every port's demand at a duration of 1 or more; 0 for a port not crossed.
-pub fn demands<const CHECKED: bool>(planner: &Planner, duration: u64, scratch: &mut [u64; PORTS]) {
-    scratch.fill(0);
+pub fn demands<const CHECKED: bool>(planner: &Planner, duration: u64, out: &mut [u64; PORTS]) {
+    out.fill(0);
+    let at = duration as u32;
     for slot in 0..FLOWS {
-        let hops = planner.hops[slot] as usize;
-        if hops == 0 {
-            continue;
-        }
-        let rounds = (duration as u32).div_ceil(planner.periods[slot]);
-        let bits = rounds as u64 * planner.counts[slot] as u64 * wire_bits(planner.lengths[slot]);
-        for &port in &planner.routes[slot * MAX_HOPS..slot * MAX_HOPS + hops] {
-            if CHECKED {
-                scratch[port as usize - 1] += bits;
-            } else {
-                // The form test found every hop of a route between 1 and 64.
-                unsafe { *scratch.get_unchecked_mut(port as usize - 1) += bits };
-            }
+        let period = planner.periods[slot];
+        if period != 0 {
+            let begun = (at + (period - 1)) / period;
+            let bits = planner.counts[slot] as u64 * begun as u64 * wire_bits(planner.lengths[slot]);
+            add_route::<CHECKED>(planner, slot, bits, out);
         }
     }
 }
 
-/// From which duration a port bears a demand.
+/// The part of a cycle in which a port sends.
+pub fn window(planner: &Planner, duration: u64) -> u64 {
+    duration.saturating_sub(2 * planner.guard as u64)
+}
+
+/// What a port must be able to send, in bits times 1,000 ns.
+fn workload(planner: &Planner, slot: usize, demand: u64) -> u64 {
+    match planner.blockings[slot] {
+        0 => 1_000 * demand,
+        length => 1_000 * (demand + wire_bits(length)),
+    }
+}
+
+pub fn fails(planner: &Planner, slot: usize, window: u64, demand: u64) -> bool {
+    demand != 0 && planner.rates[slot] as u64 * window < workload(planner, slot, demand)
+}
+
+/// From which duration a port bears a demand; 0 where there is none.
 fn need(planner: &Planner, slot: usize, demand: u64) -> u64 {
-    let taken = 1_000 * (demand + blocking(planner, slot));
-    2 * planner.guard as u64 + taken.div_ceil(planner.rates[slot] as u64)
+    if demand == 0 {
+        return 0;
+    }
+    let rate = planner.rates[slot] as u64;
+    2 * planner.guard as u64 + (workload(planner, slot, demand) + (rate - 1)) / rate
 }
 
-fn fails(planner: &Planner, slot: usize, demand: u64, duration: u64) -> bool {
-    let window = duration.saturating_sub(2 * planner.guard as u64);
-    demand != 0 && planner.rates[slot] as u64 * window < 1_000 * (demand + blocking(planner, slot))
-}
-
-/// Failing ports as a set.
-pub fn failing(planner: &Planner, duration: u64, scratch: &[u64; PORTS]) -> u64 {
-    let mut set = 0;
+/// The refusal with the lowest port that fails at top, and how many do.
+pub fn refused_at_top<const CHECKED: bool>(refusal: u32, planner: &Planner, out: &mut [u64; PORTS]) -> Answer {
+    let top = planner.top as u64;
+    demands::<CHECKED>(planner, top, out);
+    let span = window(planner, top);
+    let mut set = 0u64;
     for slot in 0..PORTS {
-        if fails(planner, slot, scratch[slot], duration) {
+        if fails(planner, slot, span, out[slot]) {
             set |= 1 << slot;
         }
     }
-    set
-}
-
-pub fn told(refusal: u32, set: u64) -> Answer {
     Answer::new(refusal, set.trailing_zeros() as u64 + 1, set.count_ones() as u64)
 }
 
-/// The first failing port.
-fn first_failing(planner: &Planner, duration: u64, scratch: &[u64; PORTS]) -> Option<usize> {
-    (0..PORTS).find(|slot| fails(planner, *slot, scratch[*slot], duration))
-}
-
-/// The least duration, and the passes it took.
-pub fn least<const CHECKED: bool>(planner: &Planner, scratch: &mut [u64]) -> (Answer, u64) {
-    if !well_formed(planner) {
-        return (Answer::refused(20), 0);
-    }
-    let Some(scratch) = scratch.first_chunk_mut::<PORTS>() else { return (Answer::refused(11), 0) };
+/// The least duration, or one above top where there is none; and the rounds.
+fn climb<const CHECKED: bool>(planner: &Planner, out: &mut [u64; PORTS]) -> (u64, u64) {
     let top = planner.top as u64;
-    let (mut duration, mut passes) = (1, 0);
+    let (mut t, mut rounds) = (1, 0);
     loop {
-        demands::<CHECKED>(planner, duration, scratch);
-        passes += 1;
-        let Some(slot) = first_failing(planner, duration, scratch) else { break };
-        duration = need(planner, slot, scratch[slot]);
-        if duration > top {
-            demands::<CHECKED>(planner, top, scratch);
-            return (told(22, failing(planner, top, scratch)), passes + 1);
+        rounds += 1;
+        demands::<CHECKED>(planner, t, out);
+        let span = window(planner, t);
+        let mut next = 0;
+        for slot in 0..PORTS {
+            if fails(planner, slot, span, out[slot]) {
+                next = need(planner, slot, out[slot]);
+                break;
+            }
         }
+        if next == 0 {
+            return (t, rounds);
+        }
+        if top < next {
+            return (top + 1, rounds);
+        }
+        t = next;
     }
-    (Answer::new(0, duration, 0), passes)
 }
 
-/// The margin-safe duration, and the passes it took.
-pub fn margin_safe<const CHECKED: bool>(planner: &Planner, scratch: &mut [u64]) -> (Answer, u64) {
-    if !well_formed(planner) {
-        return (Answer::refused(20), 0);
-    }
-    let Some(scratch) = scratch.first_chunk_mut::<PORTS>() else { return (Answer::refused(11), 0) };
-    let mut duration = planner.top as u64;
-    demands::<CHECKED>(planner, duration, scratch);
-    let set = failing(planner, duration, scratch);
-    if set != 0 {
-        return (told(23, set), 1);
-    }
-    let mut passes = 1;
-    while duration > 1 {
-        demands::<CHECKED>(planner, duration - 1, scratch);
-        passes += 1;
-        if first_failing(planner, duration - 1, scratch).is_some() {
-            demands::<CHECKED>(planner, duration, scratch);
-            passes += 1;
+/// The margin-safe duration, or one above top where there is none; and the rounds.
+fn descend<const CHECKED: bool>(planner: &Planner, out: &mut [u64; PORTS]) -> (u64, u64) {
+    let top = planner.top as u64;
+    let (mut below, mut rounds) = (top, 0);
+    while below != 0 {
+        rounds += 1;
+        demands::<CHECKED>(planner, below, out);
+        let mut most = 1;
+        for slot in 0..PORTS {
+            most = most.max(need(planner, slot, out[slot]));
+            if below < most {
+                break;
+            }
+        }
+        if below < most {
             break;
         }
-        let crossed = (0..PORTS).filter(|slot| scratch[*slot] != 0);
-        duration = crossed.map(|slot| need(planner, slot, scratch[slot])).max().unwrap_or(1);
+        below = most - 1;
     }
-    (Answer::new(0, duration, 0), passes)
+    if below < top {
+        demands::<CHECKED>(planner, below + 1, out);
+    }
+    (below + 1, rounds)
+}
+
+/// The answer `least` gives, and the rounds.
+pub fn least<const CHECKED: bool>(planner: &Planner, scratch: &mut [u64]) -> (Answer, u64) {
+    if !formed(planner) {
+        return (Answer::refused(20), 0);
+    }
+    if scratch.len() < PORTS {
+        return (Answer::refused(11), 0);
+    }
+    let out: &mut [u64; PORTS] = (&mut scratch[..PORTS]).try_into().unwrap();
+    let (found, rounds) = climb::<CHECKED>(planner, out);
+    if found <= planner.top as u64 {
+        return (Answer::new(0, found, 0), rounds);
+    }
+    (refused_at_top::<CHECKED>(22, planner, out), rounds)
+}
+
+/// The answer `margin_safe` gives, and the rounds.
+pub fn margin_safe<const CHECKED: bool>(planner: &Planner, scratch: &mut [u64]) -> (Answer, u64) {
+    if !formed(planner) {
+        return (Answer::refused(20), 0);
+    }
+    if scratch.len() < PORTS {
+        return (Answer::refused(11), 0);
+    }
+    let out: &mut [u64; PORTS] = (&mut scratch[..PORTS]).try_into().unwrap();
+    let (found, rounds) = descend::<CHECKED>(planner, out);
+    if found <= planner.top as u64 {
+        return (Answer::new(0, found, 0), rounds);
+    }
+    (refused_at_top::<CHECKED>(23, planner, out), rounds)
 }

@@ -6,28 +6,29 @@ mod answers;
 #[allow(dead_code)]
 #[path = "../../tests/outside/src/ffi.rs"]
 mod ffi;
+mod formed;
 mod found;
 mod jump;
 mod plans;
 mod scan;
 
 use answers::{Answer, Planner};
-use std::hint::black_box;
+use std::os::raw::c_long;
 
-/// The answer, if the part came to one, and its passes (none told by the planner) or durations tried.
+/// The answer, if the part came to one, and its rounds (none told by the planner) or durations tried.
 type Outcome = (Option<Answer>, u64);
 
 #[inline(never)]
-extern "C" fn jump_least<const CHECKED: bool>(planner: Planner, scratch: &mut [u64; 64], passes: &mut u64) -> Answer {
+extern "C" fn jump_least<const CHECKED: bool>(planner: Planner, scratch: &mut [u64; 64], rounds: &mut u64) -> Answer {
     let (answer, taken) = jump::least::<CHECKED>(&planner, scratch);
-    *passes = taken;
+    *rounds = taken;
     answer
 }
 
 #[inline(never)]
-extern "C" fn jump_safe<const CHECKED: bool>(planner: Planner, scratch: &mut [u64; 64], passes: &mut u64) -> Answer {
+extern "C" fn jump_safe<const CHECKED: bool>(planner: Planner, scratch: &mut [u64; 64], rounds: &mut u64) -> Answer {
     let (answer, taken) = jump::margin_safe::<CHECKED>(&planner, scratch);
-    *passes = taken;
+    *rounds = taken;
     answer
 }
 
@@ -35,17 +36,16 @@ extern "C" fn jump_safe<const CHECKED: bool>(planner: Planner, scratch: &mut [u6
 #[no_mangle]
 #[inline(never)]
 fn measured(part: &str, planner: &Planner, scratch: &mut [u64; 64], most: u64) -> Outcome {
-    let mut passes = 0;
+    let mut rounds = 0;
     match part {
         "least" => (Some(ffi::least(planner, scratch)), 0),
         "safe" => (Some(ffi::margin_safe(planner, scratch)), 0),
-        "jump-least" => (Some(jump_least::<true>(planner.clone(), scratch, &mut passes)), passes),
-        "jump-safe" => (Some(jump_safe::<true>(planner.clone(), scratch, &mut passes)), passes),
-        "bare-least" => (Some(jump_least::<false>(planner.clone(), scratch, &mut passes)), passes),
-        "bare-safe" => (Some(jump_safe::<false>(planner.clone(), scratch, &mut passes)), passes),
+        "jump-least" => (Some(jump_least::<true>(planner.clone(), scratch, &mut rounds)), rounds),
+        "jump-safe" => (Some(jump_safe::<true>(planner.clone(), scratch, &mut rounds)), rounds),
+        "bare-least" => (Some(jump_least::<false>(planner.clone(), scratch, &mut rounds)), rounds),
+        "bare-safe" => (Some(jump_safe::<false>(planner.clone(), scratch, &mut rounds)), rounds),
         "scan-least" => scan::least(planner, scratch, most),
         "scan-safe" => scan::margin_safe(planner, scratch, most),
-        "nothing" => (None, 0),
         other => panic!("no such part: {other}"),
     }
 }
@@ -65,10 +65,9 @@ fn whole(part: &str, planner: &Planner) -> u64 {
     }
 }
 
-/// Time that this process had on a processor, in ns.
-fn own_time() -> u64 {
-    let text = std::fs::read_to_string("/proc/self/schedstat").unwrap_or_default();
-    text.split(' ').next().and_then(|first| first.parse().ok()).unwrap_or(0)
+extern "C" {
+    /// Time that this process had on a processor, in microseconds.
+    fn clock() -> c_long;
 }
 
 fn main() {
@@ -89,10 +88,10 @@ fn main() {
         return;
     }
     let mut scratch = [0; 64];
-    let start = own_time();
-    let (answer, passes) = measured(black_box(part), &planner, &mut scratch, case.scanned);
-    let nanoseconds = own_time() - start;
+    let start = unsafe { clock() };
+    let (answer, taken) = measured(part, &planner, &mut scratch, case.scanned);
+    let microseconds = unsafe { clock() } - start;
     let sum = scratch.iter().fold(0u64, |sum, demand| sum.wrapping_mul(31).wrapping_add(*demand));
     let answer = answer.map_or("open".into(), |answer| format!("{}/{}/{}/{sum:x}", answer.refusal, answer.first, answer.second));
-    println!("{answer} {passes} {nanoseconds}");
+    println!("{answer} {taken} {microseconds}");
 }

@@ -7,7 +7,7 @@ pub struct Case {
     pub name: &'static str,
     pub bytes: Vec<u8>,
     pub scanned: u64,
-    /// Too long to count instructions; the two are timed instead.
+    /// Too long to count instructions: it is timed instead.
     pub timed: bool,
     /// Which of the two searches the plan is for.
     pub searches: &'static [&'static str],
@@ -92,7 +92,7 @@ fn one_port(periods: &[u32]) -> Vec<u8> {
     plan
 }
 
-/// 149 flows of 64 bytes at 100,000 Mbit/s, one with a period that brings the load to 1.000003.
+/// 149 flows of 64 bytes at 100,000 Mbit/s, one with a period that brings the load to 1.000004.
 fn spread() -> Vec<u8> {
     let mut periods: Vec<u32> = (0..148).map(|slot| 1_000 + slot % 3).collect();
     let rest = 100.0 * 1.000003 - periods.iter().map(|period| 672.0 / *period as f64).sum::<f64>();

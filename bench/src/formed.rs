@@ -1,0 +1,45 @@
+//! Whether a load could have made these tables, step by step as in crates/tables/src/sound.rt.
+
+use crate::answers::Planner;
+use crate::jump::{FLOWS, MAX_HOPS, PORTS};
+
+fn port_sound(rate: u32, blocking: u16) -> bool {
+    if rate == 0 {
+        return blocking == 0;
+    }
+    (1..=100_000).contains(&rate) && (blocking == 0 || (64..=2_000).contains(&blocking))
+}
+
+/// Whether each port of a route is in the plan and stands in the route once.
+fn route_sound(planner: &Planner, slot: usize, hops: usize) -> bool {
+    let mut seen = [false; PORTS];
+    for &port in &planner.routes[slot * MAX_HOPS..slot * MAX_HOPS + hops] {
+        let port = port as usize;
+        if port < 1 || PORTS < port || planner.rates[port - 1] == 0 || seen[port - 1] {
+            return false;
+        }
+        seen[port - 1] = true;
+    }
+    true
+}
+
+fn flow_sound(planner: &Planner, slot: usize) -> bool {
+    let (period, count) = (planner.periods[slot], planner.counts[slot]);
+    let (length, hops) = (planner.lengths[slot], planner.hops[slot] as usize);
+    if period == 0 {
+        return count == 0 && length == 0 && hops == 0;
+    }
+    (1_000..=100_000_000).contains(&period)
+        && (1..=64).contains(&count)
+        && (64..=2_000).contains(&length)
+        && (1..=MAX_HOPS).contains(&hops)
+        && route_sound(planner, slot, hops)
+}
+
+pub fn formed(planner: &Planner) -> bool {
+    (1..=100_000_000).contains(&planner.top)
+        && planner.guard <= 1_000_000
+        && (0..PORTS).all(|slot| port_sound(planner.rates[slot], planner.blockings[slot]))
+        && (0..FLOWS).all(|slot| flow_sound(planner, slot))
+        && planner.periods.iter().any(|period| *period != 0)
+}
