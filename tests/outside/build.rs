@@ -1,10 +1,7 @@
-//! Links libcapi.a from the folder named by CP_LIB_DIR, unless the model runs alone.
+//! Links libcapi.a from the folder named by CP_LIB_DIR.
 fn main() {
     println!("cargo:rerun-if-env-changed=CP_LIB_DIR");
     println!("cargo:rerun-if-changed=build.rs");
-    if std::env::var_os("CARGO_FEATURE_MODEL_ONLY").is_some() {
-        return;
-    }
     let folder = std::env::var("CP_LIB_DIR").expect("set CP_LIB_DIR to the folder of libcapi.a");
     println!("cargo:rerun-if-changed={folder}/libcapi.a");
     println!("cargo:rustc-link-search=native={folder}");

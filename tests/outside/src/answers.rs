@@ -52,6 +52,21 @@ impl Planner {
         unsafe { std::mem::transmute(bytes) }
     }
 
+    /// The first table and slot in which another planner differs.
+    pub fn differs(&self, other: &Planner) -> Option<(&'static str, usize)> {
+        fn first<T: PartialEq>(name: &'static str, one: &[T], other: &[T]) -> Option<(&'static str, usize)> {
+            (0..one.len()).find(|slot| one[*slot] != other[*slot]).map(|slot| (name, slot))
+        }
+        first("guard, top", &[self.guard, self.top], &[other.guard, other.top])
+            .or_else(|| first("rates", &self.rates, &other.rates))
+            .or_else(|| first("blockings", &self.blockings, &other.blockings))
+            .or_else(|| first("periods", &self.periods, &other.periods))
+            .or_else(|| first("counts", &self.counts, &other.counts))
+            .or_else(|| first("lengths", &self.lengths, &other.lengths))
+            .or_else(|| first("hops", &self.hops, &other.hops))
+            .or_else(|| first("routes", &self.routes, &other.routes))
+    }
+
     pub fn to_bytes(&self) -> [u8; PLANNER_BYTES] {
         unsafe { std::mem::transmute(self.clone()) }
     }

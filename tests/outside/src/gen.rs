@@ -3,6 +3,7 @@
 pub mod damage;
 pub mod fit;
 pub mod kinds;
+pub mod laden;
 
 use crate::rng::Rng;
 

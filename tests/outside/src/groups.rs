@@ -12,7 +12,7 @@ pub mod runs;
 pub mod searches;
 
 use crate::answers::Planner;
-use crate::calls;
+use crate::ffi;
 use crate::model::spans::{search, spans, Search, Span};
 use crate::model::{self as judge, Plan};
 use crate::report::Tally;
@@ -56,13 +56,13 @@ pub fn some_ports(plan: &Plan, rng: &mut Rng) -> Vec<u64> {
 pub fn ask_check(tally: &mut Tally, planner: &Planner, plan: Option<&Plan>, duration: u64) {
     let want = judge::check(plan, duration);
     tally.saw("check", want.refusal);
-    tally.same(format_args!("cp_check({duration})"), calls::check(planner, duration), want);
+    tally.same(format_args!("cp_check({duration})"), ffi::check(planner, duration), want);
 }
 
 pub fn ask_slack(tally: &mut Tally, planner: &Planner, plan: Option<&Plan>, port: u64, duration: u64) {
     let want = judge::slack(plan, port, duration);
     tally.saw("slack", want.refusal);
-    tally.same(format_args!("cp_slack({port}, {duration})"), calls::slack(planner, port, duration), want);
+    tally.same(format_args!("cp_slack({port}, {duration})"), ffi::slack(planner, port, duration), want);
 }
 
 /// Both searches with a patterned scratch of one length.
@@ -71,12 +71,12 @@ pub fn ask_searches(tally: &mut Tally, planner: &Planner, held: Option<(&Plan, &
     let mut scratch = pattern.clone();
     let (answer, after) = search(held, Search::Least, &pattern);
     tally.saw("least", answer.refusal);
-    tally.same(format_args!("cp_least(scratch of {length})"), calls::least(planner, &mut scratch), answer);
+    tally.same(format_args!("cp_least(scratch of {length})"), ffi::least(planner, &mut scratch), answer);
     tally.same(format_args!("scratch after cp_least({length})"), &scratch, &after);
     let mut scratch = pattern.clone();
     let (answer, after) = search(held, Search::MarginSafe, &pattern);
     tally.saw("margin_safe", answer.refusal);
-    tally.same(format_args!("cp_margin_safe(scratch of {length})"), calls::margin_safe(planner, &mut scratch), answer);
+    tally.same(format_args!("cp_margin_safe(scratch of {length})"), ffi::margin_safe(planner, &mut scratch), answer);
     tally.same(format_args!("scratch after cp_margin_safe({length})"), &scratch, &after);
 }
 

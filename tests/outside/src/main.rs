@@ -1,17 +1,11 @@
 //! Compares the planner behind the C interface with the model, group by group.
 //!
-//! CP_LIB_DIR (at build): folder of libcapi.a. CP_SEED, CP_CASES: another seed, more or fewer cases.
+//! CP_LIB_DIR (at build): folder of libcapi.a. CP_SEED=n, CP_CASES=n: another seed, more or fewer cases.
 //! CP_TRACE: every case to standard error before its calls. Arguments: names of groups; none for all.
-//! With the feature model-only the model answers the calls itself and no library is linked.
-
-#[cfg(feature = "model-only")]
-#[path = "alone.rs"]
-mod calls;
-#[cfg(not(feature = "model-only"))]
-#[path = "ffi.rs"]
-mod calls;
+//! It builds with Rust 1.63 and later.
 
 mod answers;
+mod ffi;
 mod gen;
 mod groups;
 mod model;

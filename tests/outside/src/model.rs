@@ -13,7 +13,7 @@ pub struct Port {
     pub blocker: u64,
 }
 
-#[derive(Clone, Debug, PartialEq, Eq, PartialOrd, Ord)]
+#[derive(Clone, Debug, PartialEq, Eq)]
 pub struct Flow {
     pub period: u64,
     pub count: u64,
@@ -101,7 +101,10 @@ impl Plan {
 
 /// The plain question.
 pub fn check(held: Option<&Plan>, duration: u64) -> Answer {
-    let Some(plan) = held else { return Answer::refused(20) };
+    let plan = match held {
+        Some(plan) => plan,
+        None => return Answer::refused(20),
+    };
     if !plan.in_reach(duration) {
         return Answer::refused(10);
     }
@@ -113,7 +116,10 @@ pub fn check(held: Option<&Plan>, duration: u64) -> Answer {
 
 /// The spare of a port.
 pub fn slack(held: Option<&Plan>, port: u64, duration: u64) -> Slacked {
-    let Some(plan) = held else { return Slacked::refused(20) };
+    let plan = match held {
+        Some(plan) => plan,
+        None => return Slacked::refused(20),
+    };
     if !plan.in_reach(duration) {
         return Slacked::refused(10);
     }

@@ -26,7 +26,8 @@ impl Rng {
 
     /// As range, but every order of magnitude is about as likely.
     pub fn spread(&mut self, low: u64, high: u64) -> u64 {
-        let bits = self.range(low.max(1).ilog2() as u64, high.max(1).ilog2() as u64);
+        let magnitude = |number: u64| u64::from(63 - number.max(1).leading_zeros());
+        let bits = self.range(magnitude(low), magnitude(high));
         let from = low.max(1 << bits);
         let to = high.min((2 << bits) - 1);
         self.range(from.min(to), to)

@@ -93,8 +93,8 @@ impl<'a> Run<'a> {
                 self.pass_on(frame, now);
             }
         }
-        while self.waiting.last().is_some_and(|frame| frame.instant / self.duration == now) {
-            let frame = self.waiting.pop().expect("one waits");
+        while let Some(frame) = self.waiting.last().copied().filter(|frame| frame.instant / self.duration == now) {
+            self.waiting.pop();
             self.receive(frame);
         }
         None
@@ -130,7 +130,10 @@ impl<'a> Run<'a> {
 pub fn gathered_at(plan: &Plan, port: u64, duration: u64) -> Emission {
     let mut emission = Emission::new();
     for (number, flow) in &plan.flows {
-        let Some(hop) = flow.route.iter().position(|passed| *passed == port) else { continue };
+        let hop = match flow.route.iter().position(|passed| *passed == port) {
+            Some(hop) => hop,
+            None => continue,
+        };
         let start = (16 - hop as u64) * duration;
         let mut instants = Vec::new();
         let mut instant = start;

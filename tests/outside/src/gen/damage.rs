@@ -12,6 +12,13 @@ fn is_flow(piece: &Piece) -> bool {
     matches!(piece, Piece::Flow { .. })
 }
 
+fn any_route<'a>(rng: &mut Rng, pieces: &'a mut [Piece]) -> Option<&'a mut Vec<u16>> {
+    match &mut pieces[any_of(rng, pieces, is_flow)?] {
+        Piece::Flow { route, .. } => Some(route),
+        _ => None,
+    }
+}
+
 fn is_port(piece: &Piece) -> bool {
     matches!(piece, Piece::Port { .. })
 }
@@ -61,8 +68,7 @@ fn again(rng: &mut Rng, pieces: &mut Vec<Piece>) {
 
 /// A port twice in a route, next to itself or not.
 fn twice(rng: &mut Rng, pieces: &mut [Piece]) {
-    let Some(place) = any_of(rng, pieces, is_flow) else { return };
-    if let Piece::Flow { route, .. } = &mut pieces[place] {
+    if let Some(route) = any_route(rng, pieces) {
         let hop = rng.index(route.len());
         let port = route[hop];
         if route.len() < 16 {
@@ -93,8 +99,7 @@ fn without(rng: &mut Rng, pieces: &mut Vec<Piece>) {
 
 /// A route over a port that the plan may lack.
 fn astray(rng: &mut Rng, pieces: &mut [Piece]) {
-    let Some(place) = any_of(rng, pieces, is_flow) else { return };
-    if let Piece::Flow { route, .. } = &mut pieces[place] {
+    if let Some(route) = any_route(rng, pieces) {
         let free: Vec<u16> = (1..=64).filter(|port| !route.contains(port)).collect();
         let hop = rng.index(route.len());
         route[hop] = rng.pick(&free);

@@ -24,7 +24,10 @@ fn header(pieces: &mut [Piece]) -> Option<(&mut u32, u64)> {
 
 /// Every rate just high enough for one duration up to top, or a little higher, or rarely one short.
 pub fn fit(rng: &mut Rng, pieces: &mut [Piece]) {
-    let Some((guard, top)) = header(pieces) else { return };
+    let (guard, top) = match header(pieces) {
+        Some(found) => found,
+        None => return,
+    };
     let aim = rng.range((top / 4).max(1), top);
     if 2 * u64::from(*guard) >= aim {
         *guard = (aim / 8) as u32;

@@ -25,7 +25,7 @@ fn blocker(rng: &mut Rng) -> u16 {
 }
 
 /// Mbit/s that the flows bring to a port in the long run, times 1,000.
-fn load_of(flows: &[Piece], port: u16) -> u64 {
+pub fn load_of(flows: &[Piece], port: u16) -> u64 {
     let mut sum = 0;
     for piece in flows {
         if let Piece::Flow { period, count, length, route, .. } = piece {

@@ -1,6 +1,6 @@
 //! cp_field at many offsets of good and damaged plans, and cp_repeats.
 
-use crate::calls;
+use crate::ffi;
 use crate::gen::{self, damage::damaged, encode};
 use crate::model::read::{field_read, value_repeats};
 use crate::report::Tally;
@@ -9,7 +9,7 @@ use crate::rng::Rng;
 fn ask(tally: &mut Tally, plan: &[u8], offset: usize) {
     let want = field_read(plan, offset);
     tally.saw("field", want.refusal);
-    tally.same(format_args!("cp_field(offset {offset})"), calls::field(plan, offset), want);
+    tally.same(format_args!("cp_field(offset {offset})"), ffi::field(plan, offset), want);
 }
 
 /// Every field start, every offset of short plans, and offsets past the end.
@@ -34,7 +34,14 @@ fn offsets(plan: &[u8], rng: &mut Rng) -> Vec<usize> {
     asked
 }
 
-/// Values of flow fields with routes of any numbers. A route has whole numbers of 2 bytes and at most 16 of them.
+fn ask_repeats(tally: &mut Tally, value: &[u8]) {
+    tally.case(0, value);
+    let want = u8::from(value_repeats(value));
+    tally.saw("repeats", u32::from(want));
+    tally.same(format_args!("cp_repeats of {} bytes", value.len()), ffi::repeats(value), want);
+}
+
+/// Values of flow fields with routes of up to 16 ports.
 fn routes(tally: &mut Tally, rng: &mut Rng) {
     let hops = rng.range(0, 16) as usize;
     let mut value: Vec<u8> = (0..10).map(|_| rng.next() as u8).collect();
@@ -50,20 +57,33 @@ fn routes(tally: &mut Tally, rng: &mut Rng) {
         }
     }
     value.extend(route.iter().flat_map(|port| port.to_be_bytes()));
-    tally.case(0, &value);
-    let want = u8::from(value_repeats(&value));
-    tally.saw("repeats", u32::from(want));
-    tally.same(format_args!("cp_repeats"), calls::repeats(&value), want);
+    ask_repeats(tally, &value);
 }
 
-/// Any other row of bytes: no flow field has it as value, so only 0 or 1 is asked for.
-fn any_value(tally: &mut Tally, rng: &mut Rng) {
-    let length = rng.pick(&[0, 1, 2, 9, 10, 11, 13, 43, 44, 45, 300, 70_000]);
-    let value: Vec<u8> = (0..length).map(|_| rng.below(3) as u8).collect();
-    tally.case(0, &value);
-    tally.same(format_args!("cp_repeats of any row is 0 or 1"), calls::repeats(&value) <= 1, true);
-    if length < 12 {
-        tally.same(format_args!("cp_repeats of a row without ports"), calls::repeats(&value), 0);
+/// Any row of bytes, most of them no flow field's value.
+fn any_bytes(tally: &mut Tally, rng: &mut Rng) {
+    let length = match rng.below(4) {
+        0 => rng.pick(&[0, 1, 2, 9, 10, 11, 12, 13, 14, 43, 44, 45, 300, 65_546, 70_000]),
+        1 => rng.range(0, 60),
+        _ => rng.range(10, 300),
+    };
+    let mask = rng.pick(&[0x01, 0x03, 0x1F, 0xFF]);
+    let value: Vec<u8> = (0..length).map(|_| rng.next() as u8 & mask).collect();
+    ask_repeats(tally, &value);
+}
+
+/// So many different ports, then with one of them in another's place too; each also with an odd byte behind.
+fn long_routes(tally: &mut Tally, rng: &mut Rng, ports: usize) {
+    let (start, step) = (rng.next() as u16, rng.next() as u16 | 1);
+    let mut route: Vec<u16> = (0..ports).map(|hop| start.wrapping_add(step.wrapping_mul(hop as u16))).collect();
+    let (one, other) = (rng.index(ports), rng.index(ports));
+    for _ in 0..2 {
+        let mut value = vec![rng.next() as u8; 10];
+        value.extend(route.iter().flat_map(|port| port.to_be_bytes()));
+        ask_repeats(tally, &value);
+        value.push(value[10]);
+        ask_repeats(tally, &value);
+        route[one] = route[other];
     }
 }
 
@@ -97,8 +117,14 @@ pub fn run(tally: &mut Tally) {
         for _ in 0..20 {
             routes(tally, &mut rng);
         }
-        any_value(tally, &mut rng);
+        for _ in 0..10 {
+            any_bytes(tally, &mut rng);
+        }
+        let ports = rng.spread(1, 400) as usize;
+        long_routes(tally, &mut rng, ports);
     }
+    let mut rng = tally.rng(1 << 40);
+    long_routes(tally, &mut rng, 20_000);
     tally.must_have_seen("field", &[0, 2, 3, 4, 5]);
     tally.must_have_seen("repeats", &[0, 1]);
 }

@@ -2,7 +2,7 @@
 
 use super::{ask_all, loads::one_load};
 use crate::answers::{Planner, PLANNER_BYTES};
-use crate::calls;
+use crate::ffi;
 use crate::gen::{self, damage, encode};
 use crate::model::spans::effort;
 use crate::model::tables::plan_of;
@@ -93,7 +93,7 @@ fn ask(tally: &mut Tally, case: u64, tables: &Planner, rng: &mut Rng) {
     tally.case(case, &tables.to_bytes());
     let told = plan_of(tables);
     tally.saw("tables", u32::from(told.is_none()) * 20);
-    if told.as_ref().is_none_or(|plan| effort(plan) < 40_000) {
+    if told.as_ref().map_or(true, |plan| effort(plan) < 40_000) {
         ask_all(tally, tables, told.as_ref(), rng);
     }
     if rng.chance(1, 4) {
@@ -101,7 +101,7 @@ fn ask(tally: &mut Tally, case: u64, tables: &Planner, rng: &mut Rng) {
         let bytes = if rng.chance(1, 2) { encode(&good) } else { damage::damaged(rng, &good) };
         let after = one_load(tally, tables, &bytes);
         let held = plan_of(&after);
-        if held.as_ref().is_none_or(|plan| effort(plan) < 40_000) {
+        if held.as_ref().map_or(true, |plan| effort(plan) < 40_000) {
             ask_all(tally, &after, held.as_ref(), rng);
         }
     }
@@ -109,8 +109,8 @@ fn ask(tally: &mut Tally, case: u64, tables: &Planner, rng: &mut Rng) {
 
 pub fn run(tally: &mut Tally) {
     let mut rng = tally.rng(u64::MAX);
-    tally.case(0, &calls::empty().to_bytes());
-    tally.same(format_args!("the empty planner tells no plan"), plan_of(&calls::empty()).is_none(), true);
+    tally.case(0, &ffi::empty().to_bytes());
+    tally.same(format_args!("the empty planner tells no plan"), plan_of(&ffi::empty()).is_none(), true);
     ask(tally, 0, &Planner::zero(), &mut rng);
     ask(tally, 0, &Planner::from_bytes([255; PLANNER_BYTES]), &mut rng);
     for case in 0..tally.cases {
@@ -121,7 +121,7 @@ pub fn run(tally: &mut Tally) {
             continue;
         }
         let bytes = encode(&gen::plan(&mut rng));
-        let mut tables = calls::load(&calls::empty(), &bytes).0;
+        let mut tables = ffi::load(&ffi::empty(), &bytes).0;
         for _ in 0..rng.range(1, 3) {
             damage_one(&mut rng, &mut tables);
             ask(tally, case, &tables, &mut rng);

@@ -1,7 +1,7 @@
 //! Plan K and its neighbours, with the numbers that document 01 gives.
 
 use crate::answers::{Answer, Planner, Slacked};
-use crate::calls;
+use crate::ffi;
 use crate::report::Tally;
 
 /// K, 52 bytes.
@@ -59,13 +59,13 @@ pub fn rows(tally: &mut Tally, check: impl Fn(u64) -> Answer, slack: impl Fn(u64
 
 fn found(tally: &mut Tally, planner: &Planner, least: u64, safe: u64, demands: [u64; 2]) {
     let mut scratch = [7; 66];
-    let answer = calls::least(planner, &mut scratch);
+    let answer = ffi::least(planner, &mut scratch);
     tally.same(format_args!("cp_least"), answer, Answer::new(0, least, 0));
     tally.same(format_args!("demand of port 1 after cp_least"), scratch[0], demands[0]);
     tally.same(format_args!("other demands after cp_least"), &scratch[1..64], &[0; 63][..]);
     tally.same(format_args!("past the 64th after cp_least"), &scratch[64..], &[7; 2][..]);
     let mut scratch = [8; 66];
-    let answer = calls::margin_safe(planner, &mut scratch);
+    let answer = ffi::margin_safe(planner, &mut scratch);
     tally.same(format_args!("cp_margin_safe"), answer, Answer::new(0, safe, 0));
     tally.same(format_args!("demand of port 1 after cp_margin_safe"), scratch[0], demands[1]);
     tally.same(format_args!("other demands after cp_margin_safe"), &scratch[1..64], &[0; 63][..]);
@@ -73,7 +73,7 @@ fn found(tally: &mut Tally, planner: &Planner, least: u64, safe: u64, demands: [
 }
 
 fn refusals(tally: &mut Tally) {
-    let empty = calls::empty();
+    let empty = ffi::empty();
     for (bytes, refusal, place) in [
         (&[0x04, 0x00, 0x01][..], 2, 0),
         (&[0x04, 0x00, 0x00][..], 3, 0),
@@ -84,7 +84,7 @@ fn refusals(tally: &mut Tally) {
         (&K[11..], 8, 41),
     ] {
         tally.case(0, bytes);
-        let (after, answer) = calls::load(&empty, bytes);
+        let (after, answer) = ffi::load(&empty, bytes);
         let second = u64::from(refusal == 0);
         tally.same(format_args!("cp_load"), answer, Answer::new(refusal, place, second));
         if refusal != 0 {
@@ -94,25 +94,25 @@ fn refusals(tally: &mut Tally) {
 }
 
 pub fn run(tally: &mut Tally) {
-    let empty = calls::empty();
+    let empty = ffi::empty();
     tally.case(0, &K);
-    let (planner, answer) = calls::load(&empty, &K);
+    let (planner, answer) = ffi::load(&empty, &K);
     tally.same(format_args!("cp_load(K)"), answer, Answer::new(0, 1, 2));
-    rows(tally, |duration| calls::check(&planner, duration), |duration| calls::slack(&planner, 1, duration));
+    rows(tally, |duration| ffi::check(&planner, duration), |duration| ffi::slack(&planner, 1, duration));
     found(tally, &planner, 72_000, 142_000, [7_000, 14_000]);
     for port in [0, 2, 64, 65, u64::MAX] {
-        tally.same(format_args!("slack({port}, 72000)"), calls::slack(&planner, port, 72_000), Slacked::refused(24));
+        tally.same(format_args!("slack({port}, 72000)"), ffi::slack(&planner, port, 72_000), Slacked::refused(24));
     }
     let bytes = with_blocker();
     tally.case(1, &bytes);
-    let (blocked, answer) = calls::load(&planner, &bytes);
+    let (blocked, answer) = ffi::load(&planner, &bytes);
     tally.same(format_args!("cp_load(K with blocker 1,480)"), answer, Answer::new(0, 1, 2));
     found(tally, &blocked, 422_000, 472_000, [30_000, 35_000]);
     let bytes = with_port_2();
     tally.case(2, &bytes);
-    let (wider, answer) = calls::load(&planner, &bytes);
+    let (wider, answer) = ffi::load(&planner, &bytes);
     tally.same(format_args!("cp_load(K with port 2)"), answer, Answer::new(0, 2, 2));
     found(tally, &wider, 72_000, 142_000, [7_000, 14_000]);
-    tally.same(format_args!("slack(2, 72000)"), calls::slack(&wider, 2, 72_000), Slacked::refused(24));
+    tally.same(format_args!("slack(2, 72000)"), ffi::slack(&wider, 2, 72_000), Slacked::refused(24));
     refusals(tally);
 }

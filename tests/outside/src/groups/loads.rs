@@ -2,22 +2,11 @@
 
 use super::known::K;
 use crate::answers::Planner;
-use crate::calls;
+use crate::ffi;
 use crate::gen::{self, damage, encode, Piece};
 use crate::model::read::{load_answer, read};
-use crate::model::tables::plan_of;
-use crate::model::{Flow, Plan};
+use crate::model::tables::tables_of;
 use crate::report::Tally;
-
-/// The same plan, whatever slots its flows have.
-fn same_plan(one: &Plan, other: &Plan) -> bool {
-    let flows = |plan: &Plan| {
-        let mut flows: Vec<Flow> = plan.flows.values().cloned().collect();
-        flows.sort();
-        flows
-    };
-    (one.guard, one.top, &one.ports) == (other.guard, other.top, &other.ports) && flows(one) == flows(other)
-}
 
 /// The same bytes at the very end of an allocation, at any alignment.
 fn moved(plan: &[u8], shift: usize) -> Vec<u8> {
@@ -32,18 +21,10 @@ pub fn one_load(tally: &mut Tally, before: &Planner, plan: &[u8]) -> Planner {
     let want = load_answer(&outcome);
     tally.saw("load", want.refusal);
     let shift = tally.passed as usize % 8;
-    let (after, answer) = calls::load(before, &moved(plan, shift)[shift..]);
+    let (after, answer) = ffi::load(before, &moved(plan, shift)[shift..]);
     tally.same(format_args!("cp_load"), answer, want);
-    match outcome {
-        Ok(held) => {
-            let told = plan_of(&after).is_some_and(|told| same_plan(&told, &held));
-            tally.same(format_args!("tables after a good load tell the plan"), told, true);
-        }
-        Err(_) => {
-            let kept = after.to_bytes() == before.to_bytes();
-            tally.same(format_args!("planner after a refused load, byte for byte the one before"), kept, true);
-        }
-    }
+    let want = outcome.map_or(before.clone(), |held| tables_of(&held));
+    tally.same(format_args!("planner after cp_load: first table and slot that differ"), after.differs(&want), None);
     after
 }
 
@@ -99,8 +80,9 @@ fn pairs(tally: &mut Tally, planner: &Planner) {
 }
 
 pub fn run(tally: &mut Tally) {
-    let empty = calls::empty();
-    let held = calls::load(&empty, &K).0;
+    let empty = ffi::empty();
+    tally.same(format_args!("cp_empty: first table and slot that differ"), empty.differs(&Planner::zero()), None);
+    let held = ffi::load(&empty, &K).0;
     sizes(tally, &held);
     pairs(tally, &held);
     every_byte(tally, 0, &K, &held);

@@ -5,6 +5,7 @@ use crate::answers::Answer;
 use crate::gen::{self, encode};
 use crate::model::read::read;
 use crate::model::spans::{scanned, search, spans, Search};
+use crate::model::tables::{plan_of, tables_of};
 use crate::model::{check, slack, Plan};
 use crate::report::Tally;
 
@@ -42,6 +43,7 @@ pub fn run(tally: &mut Tally) {
         let bytes = encode(&pieces);
         tally.case(case, &bytes);
         let plan = read(&bytes).expect("a good plan");
+        tally.same(format_args!("the plan told by its tables"), plan_of(&tables_of(&plan)).as_ref(), Some(&plan));
         if plan.flows.len() * plan.top as usize > 400_000 {
             continue;
         }

@@ -1,7 +1,7 @@
 //! The same fields in another order: the same answers to every question.
 
 use super::{durations, some_ports};
-use crate::calls;
+use crate::ffi;
 use crate::gen::{self, encode};
 use crate::model::read::read;
 use crate::report::Tally;
@@ -12,7 +12,7 @@ pub fn run(tally: &mut Tally) {
         let mut pieces = gen::plan(&mut rng);
         let first = encode(&pieces);
         let plan = read(&first).expect("a good plan");
-        let (one, counted) = calls::load(&calls::empty(), &first);
+        let (one, counted) = ffi::load(&ffi::empty(), &first);
         let asked = durations(&plan, &mut rng);
         let ports = some_ports(&plan, &mut rng);
         for turn in 0..3 {
@@ -22,19 +22,19 @@ pub fn run(tally: &mut Tally) {
             }
             let bytes = encode(&pieces);
             tally.case(case, &bytes);
-            let (other, answer) = calls::load(&one, &bytes);
+            let (other, answer) = ffi::load(&one, &bytes);
             tally.same(format_args!("cp_load in another order"), answer, counted);
             for duration in &asked {
-                let (got, want) = (calls::check(&other, *duration), calls::check(&one, *duration));
+                let (got, want) = (ffi::check(&other, *duration), ffi::check(&one, *duration));
                 tally.same(format_args!("cp_check({duration}) in another order"), got, want);
                 let port = rng.pick(&ports);
-                let (got, want) = (calls::slack(&other, port, *duration), calls::slack(&one, port, *duration));
+                let (got, want) = (ffi::slack(&other, port, *duration), ffi::slack(&one, port, *duration));
                 tally.same(format_args!("cp_slack({port}, {duration}) in another order"), got, want);
             }
             let mut scratches = [[turn; 70], [turn; 70]];
-            let (got, want) = (calls::least(&other, &mut scratches[0]), calls::least(&one, &mut scratches[1]));
+            let (got, want) = (ffi::least(&other, &mut scratches[0]), ffi::least(&one, &mut scratches[1]));
             tally.same(format_args!("cp_least in another order"), got, want);
-            let (got, want) = (calls::margin_safe(&other, &mut scratches[0]), calls::margin_safe(&one, &mut scratches[1]));
+            let (got, want) = (ffi::margin_safe(&other, &mut scratches[0]), ffi::margin_safe(&one, &mut scratches[1]));
             tally.same(format_args!("cp_margin_safe in another order"), got, want);
             tally.same(format_args!("scratch in another order"), scratches[0], scratches[1]);
         }

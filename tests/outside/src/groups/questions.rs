@@ -2,7 +2,7 @@
 
 use super::{ask_check, ask_slack, durations, known::K, some_ports, span_ends};
 use crate::answers::Planner;
-use crate::calls;
+use crate::ffi;
 use crate::gen::{self, encode};
 use crate::model::read::read;
 use crate::model::spans::spans;
@@ -13,7 +13,7 @@ use crate::report::Tally;
 fn all_of_k(tally: &mut Tally) {
     tally.case(0, &K);
     let plan = read(&K).expect("K is a plan");
-    let planner = calls::load(&calls::empty(), &K).0;
+    let planner = ffi::load(&ffi::empty(), &K).0;
     let near = 71_900..143_000;
     for duration in near.clone().chain((0..1_000_100).step_by(97).filter(|duration| !near.contains(duration))) {
         ask_check(tally, &planner, Some(&plan), duration);
@@ -29,7 +29,7 @@ fn every_duration(tally: &mut Tally, planner: &Planner, plan: &Plan) {
 }
 
 pub fn run(tally: &mut Tally) {
-    let empty = calls::empty();
+    let empty = ffi::empty();
     all_of_k(tally);
     for duration in [0, 1, 1_000, 100_000_000, 100_000_001, u64::MAX] {
         ask_check(tally, &empty, None, duration);
@@ -42,7 +42,7 @@ pub fn run(tally: &mut Tally) {
         let bytes = encode(&gen::plan(&mut rng));
         tally.case(case, &bytes);
         let plan = read(&bytes).expect("a good plan");
-        let planner = calls::load(&empty, &bytes).0;
+        let planner = ffi::load(&empty, &bytes).0;
         if plan.top * plan.flows.len() as u64 <= 20_000 {
             every_duration(tally, &planner, &plan);
         }

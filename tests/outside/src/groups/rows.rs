@@ -1,7 +1,7 @@
 //! Rows of loads, good and bad, on one planner, with questions between them.
 
 use super::{ask_all, loads::one_load};
-use crate::calls;
+use crate::ffi;
 use crate::gen::{self, damage, encode};
 use crate::model::read::read;
 use crate::model::Plan;
@@ -10,7 +10,7 @@ use crate::report::Tally;
 pub fn run(tally: &mut Tally) {
     for case in 0..tally.cases {
         let mut rng = tally.rng(case);
-        let mut planner = calls::empty();
+        let mut planner = ffi::empty();
         let mut held: Option<Plan> = None;
         tally.case(case, &[]);
         ask_all(tally, &planner, None, &mut rng);

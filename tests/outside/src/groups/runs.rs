@@ -2,7 +2,7 @@
 
 use super::{durations, span_ends};
 use crate::answers::Planner;
-use crate::calls;
+use crate::ffi;
 use crate::gen::{self, encode, fit::fit, kinds};
 use crate::model::read::read;
 use crate::model::spans::spans;
@@ -27,7 +27,7 @@ fn left_unsent(tally: &mut Tally, plan: &Plan, duration: u64, emission: &Emissio
 fn refused(tally: &mut Tally, plan: &Plan, planner: &Planner, duration: u64, lowest: u64, failing: u64) {
     let mut bad = Vec::new();
     for port in 1..=64 {
-        let spare = calls::slack(planner, port, duration);
+        let spare = ffi::slack(planner, port, duration);
         if spare.refusal == 0 && spare.slack < 0 {
             bad.push(port);
             let emission = gathered_at(plan, port, duration);
@@ -43,8 +43,8 @@ fn all_leave(tally: &mut Tally, plan: &Plan, duration: u64, emission: &Emission)
     tally.same(format_args!("the emission keeps the contract"), keeps_contract(plan, emission), true);
     match Run::new(plan, duration, emission).follow() {
         Outcome::Unsent { cycle, port } => {
-            let call = format_args!("accepted at {duration}: frame unsent at port {port} in cycle {cycle} of {emission:?}");
-            tally.same(call, false, true);
+            let sent = format!("frame unsent at port {port} in cycle {cycle} of {emission:?}");
+            tally.same(format_args!("accepted at {duration}"), sent, "all sent".to_string());
         }
         Outcome::AllSent(left) => {
             let frames: usize = emission.values().map(Vec::len).sum();
@@ -81,13 +81,13 @@ pub fn run(tally: &mut Tally) {
         let bytes = encode(&pieces);
         tally.case(case, &bytes);
         let plan = read(&bytes).expect("a good plan");
-        let planner = calls::load(&calls::empty(), &bytes).0;
+        let planner = ffi::load(&ffi::empty(), &bytes).0;
         let mut asked = span_ends(&spans(&plan), &mut rng);
         asked.extend(durations(&plan, &mut rng));
         rng.shuffle(&mut asked);
         asked.retain(|duration| *duration <= plan.top && weight(&plan, *duration) < FRAMES);
         for duration in asked.into_iter().take(12) {
-            let answer = calls::check(&planner, duration);
+            let answer = ffi::check(&planner, duration);
             tally.saw("check", answer.refusal);
             match answer.refusal {
                 0 => accepted(tally, &plan, duration, &mut rng),

@@ -1,8 +1,8 @@
 //! The two searches, with scratches of several lengths and tops in and around gaps.
 
 use super::{ask_searches, LENGTHS};
-use crate::calls;
-use crate::gen::{self, encode, Piece};
+use crate::ffi;
+use crate::gen::{self, encode, laden, Piece};
 use crate::model::read::read;
 use crate::model::spans::{spans, Span};
 use crate::report::Tally;
@@ -13,7 +13,7 @@ fn ask_lengths(tally: &mut Tally, case: u64, pieces: &[Piece], rng: &mut Rng) ->
     tally.case(case, &bytes);
     let plan = read(&bytes).expect("a good plan");
     let found = spans(&plan);
-    let planner = calls::load(&calls::empty(), &bytes).0;
+    let planner = ffi::load(&ffi::empty(), &bytes).0;
     for length in LENGTHS {
         ask_searches(tally, &planner, Some((&plan, &found)), length, rng);
     }
@@ -53,10 +53,26 @@ fn with_side_port(pieces: &[Piece], duration: u64, rng: &mut Rng) -> Option<Vec<
     Some(more)
 }
 
+fn at_full_load(tally: &mut Tally) {
+    for case in 0..tally.cases / 15 {
+        let mut rng = tally.rng(1 << 40 | case);
+        let mut pieces = laden::plan(&mut rng);
+        tally.case(case, &encode(&pieces));
+        tally.same(format_args!("the load is 98 % to 100 % at every port"), laden::is_laden(&pieces), true);
+        let found = ask_lengths(tally, case, &pieces, &mut rng);
+        tally.saw("spans at full load, 2 for more", found.len().min(2) as u32);
+        for top in tops(&found, &mut rng) {
+            gen::set_top(&mut pieces, top);
+            ask_lengths(tally, case, &pieces, &mut rng);
+        }
+    }
+    tally.must_have_seen("spans at full load, 2 for more", &[2]);
+}
+
 pub fn run(tally: &mut Tally) {
     for length in LENGTHS {
         let mut rng = tally.rng(length as u64);
-        ask_searches(tally, &calls::empty(), None, length, &mut rng);
+        ask_searches(tally, &ffi::empty(), None, length, &mut rng);
     }
     for case in 0..tally.cases {
         let mut rng = tally.rng(case);
@@ -73,6 +89,7 @@ pub fn run(tally: &mut Tally) {
             ask_lengths(tally, case, &pieces, &mut rng);
         }
     }
+    at_full_load(tally);
     tally.must_have_seen("spans, 2 for more", &[0, 1, 2]);
     tally.must_have_seen("least", &[0, 11, 20, 22]);
     tally.must_have_seen("margin_safe", &[0, 11, 20, 23]);

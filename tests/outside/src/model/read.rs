@@ -63,16 +63,16 @@ fn flow_fits(flow: &Flow) -> bool {
 /// The field at an offset and the offset after it, by tests 2 to 5.
 pub fn field_at(plan: &[u8], offset: usize) -> Result<(Field, usize), u32> {
     let rest = plan.get(offset..).unwrap_or(&[]);
-    let [tag, high, low, after @ ..] = rest else { return Err(2) };
-    let length = number(&[*high, *low]) as usize;
-    let Some(value) = after.get(..length) else { return Err(2) };
-    if !(1..=3).contains(tag) {
+    let head = rest.get(..3).ok_or(2u32)?;
+    let (tag, length) = (head[0], number(&head[1..]) as usize);
+    let value = rest[3..].get(..length).ok_or(2u32)?;
+    if !(1..=3).contains(&tag) {
         return Err(3);
     }
-    if !length_allowed(*tag, length) {
+    if !length_allowed(tag, length) {
         return Err(4);
     }
-    let field = numbers_of(*tag, value).ok_or(5u32)?;
+    let field = numbers_of(tag, value).ok_or(5u32)?;
     Ok((field, offset + 3 + length))
 }
 
@@ -135,7 +135,7 @@ impl Gathered {
 
     /// Tests 8 and 9.
     fn close(self, plan_length: usize) -> Result<Plan, (u32, usize)> {
-        let Some((guard, top)) = self.header else { return Err((8, plan_length)) };
+        let (guard, top) = self.header.ok_or((8, plan_length))?;
         if self.flows.is_empty() {
             return Err((8, plan_length));
         }

@@ -58,8 +58,8 @@ pub fn spans(plan: &Plan) -> Vec<Span> {
     let mut rises: BTreeMap<u64, Vec<u64>> = BTreeMap::new();
     rises.insert(1, plan.flows.keys().copied().collect());
     let mut spans = Vec::new();
-    while let Some((start, numbers)) = rises.pop_first() {
-        for number in numbers {
+    while let Some(start) = rises.keys().next().copied() {
+        for number in rises.remove(&start).unwrap_or_default() {
             let flow = &plan.flows[&number];
             for port in &flow.route {
                 walk.rise(*port, flow.burst_bits());
@@ -111,7 +111,10 @@ pub enum Search {
 /// A search: the answer, and the scratch as the call leaves it.
 pub fn search(held: Option<(&Plan, &[Span])>, which: Search, scratch: &[u64]) -> (Answer, Vec<u64>) {
     let mut after = scratch.to_vec();
-    let Some((plan, spans)) = held else { return (Answer::refused(20), after) };
+    let (plan, spans) = match held {
+        Some(held) => held,
+        None => return (Answer::refused(20), after),
+    };
     if scratch.len() < 64 {
         return (Answer::refused(11), after);
     }

@@ -1,4 +1,4 @@
-//! Planner values: which ones a load could have made, and the plan that such a one tells.
+//! Planner values: the one that a load makes of a plan, which ones a load could have made, and the plan that such a one tells.
 
 use super::{read::repeats, Flow, Plan, Port};
 use crate::answers::Planner;
@@ -56,8 +56,7 @@ pub fn plan_of(tables: &Planner) -> Option<Plan> {
     (!flows.is_empty()).then_some(Plan { guard, top, ports, flows })
 }
 
-/// The tables of a plan, for runs without the library.
-#[cfg(feature = "model-only")]
+/// The tables that hold a plan: port n and flow n in slot n - 1, routes 16 apart, all else 0.
 pub fn tables_of(plan: &Plan) -> Planner {
     let mut tables = Planner::zero();
     tables.guard = plan.guard as u32;

@@ -1,0 +1,164 @@
+/* Every function of the header on plan K (document 01, "Plan K and its neighbours"): each field of each struct that comes back, and
+ * each number of the lent scratch, against its expected value. Prints what differs; exit status 1 where something does. */
+#include "same.h"
+#include <string.h>
+
+_Static_assert(sizeof(cp_planner) == 6792, "a planner has 6,792 bytes");
+
+static const uint8_t K[52] = {
+    0x01, 0x00, 0x08, 0x00, 0x00, 0x03, 0xE8, 0x00, 0x0F, 0x42, 0x40,
+    0x02, 0x00, 0x08, 0x00, 0x01, 0x00, 0x00, 0x00, 0x64, 0x00, 0x00,
+    0x03, 0x00, 0x0C, 0x00, 0x01, 0x00, 0x01, 0x86, 0xA0, 0x00, 0x01, 0x00, 0xE6, 0x00, 0x01,
+    0x03, 0x00, 0x0C, 0x00, 0x02, 0x00, 0x01, 0xAD, 0xB0, 0x00, 0x01, 0x02, 0x5D, 0x00, 0x01,
+};
+/* Offsets in K: its top, the port's blocker, the fields after the header. */
+enum { TOP_AT = 7, PORT_AT = 11, BLOCKER_AT = 20, FLOW_1_AT = 22, FLOW_2_AT = 37 };
+/* Length of a scratch, 3 numbers more than a search writes. */
+enum { SCRATCH = 67 };
+
+/* What a planner holds after K: port 1 in slot 0, flows 1 and 2 in slots 0 and 1, routes 16 apart. */
+static cp_planner planner_of_k(void) {
+  cp_planner k;
+  memset(&k, 0, sizeof k);
+  k.guard = 1000;
+  k.top = 1000000;
+  k.rates[0] = 100;
+  k.periods[0] = 100000;
+  k.periods[1] = 110000;
+  k.counts[0] = k.counts[1] = 1;
+  k.lengths[0] = 230;
+  k.lengths[1] = 605;
+  k.hops[0] = k.hops[1] = 1;
+  k.routes[0] = k.routes[16] = 1;
+  return k;
+}
+
+/* A load's answer and the planner that it gives back. */
+static cp_planner loaded(const char *call, cp_planner before, const uint8_t *plan, size_t length, cp_answer want, cp_planner left) {
+  cp_loaded got = cp_load(before, plan, length);
+  same_answer(call, answer(got.refusal, got.first, got.second), want);
+  same_planner(call, got.planner, left);
+  return got.planner;
+}
+
+/* The rows of K's table: each duration with the plain question's refusal and the spare of port 1. */
+static void rows(cp_planner k) {
+  static const struct { uint64_t duration; uint32_t refusal; int64_t slack; } table[] = {
+      {71999, 21, -100},      {72000, 0, 0},          {100000, 0, 2800000}, {110000, 0, 1800000},
+      {110001, 21, -3199900}, {120000, 21, -2200000}, {141999, 21, -100},   {142000, 0, 0},
+      {1000, 21, -7000000},   {0, 10, 0},             {1000001, 10, 0},
+  };
+  for (size_t row = 0; row < sizeof table / sizeof table[0]; row++) {
+    char call[64];
+    uint64_t fails = table[row].refusal == 21;
+    snprintf(call, sizeof call, "cp_check of K at %" PRIu64, table[row].duration);
+    same_answer(call, cp_check(k, table[row].duration), answer(table[row].refusal, fails, fails));
+    snprintf(call, sizeof call, "cp_slack of K's port 1 at %" PRIu64, table[row].duration);
+    same_slacked(call, cp_slack(k, 1, table[row].duration), table[row].refusal == 10 ? 10 : 0, table[row].slack);
+  }
+  same_slacked("cp_slack of a port not in K", cp_slack(k, 2, 72000), 24, 0);
+}
+
+typedef cp_answer (*search)(cp_planner planner, uint64_t *scratch, size_t length);
+
+/* A search on a scratch whose numbers were 1000 + position: the first 64 become port 1's demand and 0s, or nothing changes. */
+static void searched(const char *call, search ask, cp_planner planner, size_t length, cp_answer want, uint64_t demand) {
+  uint64_t scratch[SCRATCH];
+  int writes = want.refusal != 11 && want.refusal != 20;
+  for (size_t slot = 0; slot < SCRATCH; slot++) scratch[slot] = 1000 + slot;
+  same_answer(call, ask(planner, scratch, length), want);
+  for (size_t slot = 0; slot < SCRATCH; slot++) {
+    uint64_t expected = !writes || slot >= 64 ? 1000 + slot : slot == 0 ? demand : 0;
+    same_slot(call, "scratch", slot, scratch[slot], expected);
+  }
+}
+
+static void searches(cp_planner empty, cp_planner k) {
+  searched("cp_least of K", cp_least, k, SCRATCH, answer(0, 72000, 0), 7000);
+  searched("cp_margin_safe of K", cp_margin_safe, k, SCRATCH, answer(0, 142000, 0), 14000);
+  searched("cp_least, 64 numbers lent", cp_least, k, 64, answer(0, 72000, 0), 7000);
+  searched("cp_margin_safe, 64 numbers lent", cp_margin_safe, k, 64, answer(0, 142000, 0), 14000);
+  searched("cp_least, 63 numbers lent", cp_least, k, 63, answer(11, 0, 0), 0);
+  searched("cp_margin_safe, 63 numbers lent", cp_margin_safe, k, 63, answer(11, 0, 0), 0);
+  searched("cp_least without a plan", cp_least, empty, SCRATCH, answer(20, 0, 0), 0);
+  searched("cp_margin_safe without a plan", cp_margin_safe, empty, SCRATCH, answer(20, 0, 0), 0);
+}
+
+/* K with another number of so many bytes at an offset. */
+static cp_planner changed(const char *call, cp_planner before, size_t at, size_t bytes, uint32_t number, cp_planner left) {
+  uint8_t plan[sizeof K];
+  memcpy(plan, K, sizeof K);
+  for (size_t byte = 0; byte < bytes; byte++) plan[at + byte] = (uint8_t)(number >> 8 * (bytes - 1 - byte));
+  return loaded(call, before, plan, sizeof plan, answer(0, 1, 2), left);
+}
+
+static void neighbours(cp_planner k) {
+  cp_planner left = planner_of_k();
+  left.blockings[0] = 1480;
+  k = changed("cp_load of K with blocker 1,480", k, BLOCKER_AT, 2, 1480, left);
+  searched("cp_least of K with blocker 1,480", cp_least, k, SCRATCH, answer(0, 422000, 0), 30000);
+  searched("cp_margin_safe of K with blocker 1,480", cp_margin_safe, k, SCRATCH, answer(0, 472000, 0), 35000);
+  left = planner_of_k();
+  left.top = 71999;
+  k = changed("cp_load of K with top 71,999", k, TOP_AT, 4, 71999, left);
+  searched("cp_least of K with top 71,999", cp_least, k, SCRATCH, answer(22, 1, 1), 7000);
+  left.top = 120000;
+  k = changed("cp_load of K with top 120,000", k, TOP_AT, 4, 120000, left);
+  searched("cp_margin_safe of K with top 120,000", cp_margin_safe, k, SCRATCH, answer(23, 1, 1), 14000);
+}
+
+/* K with port 2, which no flow crosses: rate 1, blocker 2,000. */
+static void uncrossed_port(cp_planner k) {
+  static const uint8_t port_2[] = {0x02, 0x00, 0x08, 0x00, 0x02, 0x00, 0x00, 0x00, 0x01, 0x07, 0xD0};
+  uint8_t plan[sizeof K + sizeof port_2];
+  cp_planner left = planner_of_k();
+  memcpy(plan, K, sizeof K);
+  memcpy(plan + sizeof K, port_2, sizeof port_2);
+  left.rates[1] = 1;
+  left.blockings[1] = 2000;
+  k = loaded("cp_load of K with port 2", k, plan, sizeof plan, answer(0, 2, 2), left);
+  searched("cp_least of K with port 2", cp_least, k, SCRATCH, answer(0, 72000, 0), 7000);
+  same_slacked("cp_slack of port 2, not crossed", cp_slack(k, 2, 72000), 24, 0);
+}
+
+static void field(const char *call, size_t length, size_t offset, cp_field_read want) {
+  cp_field_read got = cp_field(K, length, offset);
+  same(call, "refusal", got.refusal, want.refusal);
+  same(call, "tag", got.tag, want.tag);
+  same(call, "offset", got.offset, want.offset);
+  SAME_TABLE(call, numbers, got, want);
+}
+
+static void fields(void) {
+  static const uint8_t twice[] = {0, 1, 0, 1, 0x86, 0xA0, 0, 1, 0, 0xE6, 0, 1, 0, 2, 0, 1};
+  field("cp_field of K's header", sizeof K, 0, (cp_field_read){.tag = 1, .offset = PORT_AT, .numbers = {1000, 1000000}});
+  field("cp_field of K's port", sizeof K, PORT_AT, (cp_field_read){.tag = 2, .offset = FLOW_1_AT, .numbers = {1, 100}});
+  field("cp_field of K's flow 1", sizeof K, FLOW_1_AT,
+        (cp_field_read){.tag = 3, .offset = FLOW_2_AT, .numbers = {1, 100000, 1, 230, 1}});
+  field("cp_field of K's flow 2", sizeof K, FLOW_2_AT,
+        (cp_field_read){.tag = 3, .offset = sizeof K, .numbers = {2, 110000, 1, 605, 1}});
+  field("cp_field of K cut short", sizeof K - 1, FLOW_2_AT, (cp_field_read){.refusal = 2, .offset = FLOW_2_AT});
+  field("cp_field at byte 2 of K", sizeof K, 2, (cp_field_read){.refusal = 3, .offset = 2});
+  same("cp_repeats of ports 1, 2, 1", "the answer", cp_repeats(twice, sizeof twice), 1);
+  same("cp_repeats of ports 1, 2", "the answer", cp_repeats(twice, sizeof twice - 2), 0);
+  same("cp_repeats of K's flow 2", "the answer", cp_repeats(K + FLOW_2_AT + 3, 12), 0);
+}
+
+int main(void) {
+  static const uint8_t lone_tag[] = {0x04, 0x00, 0x01};
+  cp_planner none, k;
+  memset(&none, 0, sizeof none);
+  same_planner("cp_empty", cp_empty(), none);
+  same_answer("cp_check without a plan", cp_check(cp_empty(), 72000), answer(20, 0, 0));
+  same_slacked("cp_slack without a plan", cp_slack(cp_empty(), 1, 72000), 20, 0);
+  loaded("cp_load of 04 0001", cp_empty(), lone_tag, sizeof lone_tag, answer(2, 0, 0), none);
+  k = loaded("cp_load of K", cp_empty(), K, sizeof K, answer(0, 1, 2), planner_of_k());
+  k = loaded("cp_load of 51 bytes of K", k, K, sizeof K - 1, answer(2, FLOW_2_AT, 0), planner_of_k());
+  rows(k);
+  searches(cp_empty(), k);
+  neighbours(k);
+  uncrossed_port(k);
+  fields();
+  printf("header: %u passed, %u failed\n", passed, failed);
+  return failed != 0;
+}
