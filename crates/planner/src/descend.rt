@@ -38,9 +38,6 @@ pub(crate) fn seek(planner: Planner, out: &mut [u64]) -> u64
     let top = planner.top as u64;
     let mut below = top;
     let found = loop {
-        if below == 0 {
-            break 1;
-        }
         demands(
             &planner.periods,
             &planner.counts,

@@ -1,6 +1,6 @@
 -- `planner::descend::seek` meets its contract. Round the outer loop every duration from below + 1 to top is admissible; in the
 -- loop over the ports none below q needs more than most for its demand at below.
-use mathlib.Core.Path.{_≡_, sym, ap, subst, _∙_}
+use mathlib.Core.Path.{_≡_, sym, _∙_}
 use mathlib.Core.Bool.{true}
 use mathlib.Core.Logic.{⊎-elim}
 use Prim.Native.Nat.{suc, _-_}
@@ -10,9 +10,8 @@ use lib.ListN.{length}
 use borrow.Author.Needs.{needs}
 use Rattle.cqf.specs.Limits.{portSlots}
 use Rattle.cqf.specs.Plan.{wellFormed}
-use Rattle.cqf.specs.Condition.{marginSafe}
 use Rattle.cqf.specs.laws.Ranges.{top-most}
-use Rattle.cqf.specs.laws.Search.{Descended, descent-start, descent-bottom}
+use Rattle.cqf.specs.laws.Search.{Descended, descent-start}
 use Rattle.tables.specs.Tables.{planOf}
 use Rattle.planner.specs.laws.Sums.{slot-ready}
 use Rattle.planner.specs.laws.Scratch.{filled, filled-length, filled-short, filled-most, filled-served}
@@ -36,7 +35,7 @@ abbrev μ-loop : tie.MeasureT-loop
 -- what the loop over the ports gives
 left-ports
     : (c : tie.Left-ports Inv-ports μ-ports Inv-loop μ-loop)
-    → Left (planOf (c .before .before .before .before .before .before .before .before .before .before .before .before .before .before .before .before .before .before .before .before .args .t1)) (c .before .before .before .before .before .before .before .before .before .before .before .before .before .before .before .before .before .before .loop .below) (c .ports-test .most)
+    → Left (planOf (c .before .before .before .before .before .before .before .before .before .before .before .before .before .before .before .before .before .before .before .args .t1)) (c .before .before .before .before .before .before .before .before .before .before .before .before .before .before .before .before .before .loop .below) (c .ports-test .most)
 left-ports c =
     let s = c .before .ports .inv in
     ⊎-elim
@@ -52,15 +51,14 @@ loop-holds c = (c .before .pre .0, c .before .pre .1, descent-start _ (c .before
 
 demands-requires : tie.Need-demands-requires Inv-ports μ-ports Inv-loop μ-loop
 demands-requires c κs =
-    let l = c .before .before .before .before .before .before .before .before .before .before .before .before .before .loop in
+    let l = c .before .before .before .before .before .before .before .before .before .before .before .before .loop in
     (search needs, (record { slot = slot-ready _ (l .inv .0) }, (omega (arith, top-most _ (l .inv .0), l .inv .2 .within), l .inv .1)))
 
 ports-holds : tie.Need-ports-holds Inv-ports μ-ports Inv-loop μ-loop
 ports-holds c =
     let d = c .before .before in
-    let i = d .before .before .before .before .before .before .before .before .before .before .before .before .before in
-    let l = i .before .loop in
-    fitting-start (filled _ (l .inv .0) (omega (arith, l .inv .2 .within)) (d .demands .ensures)) (l .inv .2) (i .if1 .left)
+    let l = d .before .before .before .before .before .before .before .before .before .before .before .before .before .loop in
+    fitting-start (filled _ (l .inv .0) (omega (arith, l .inv .2 .within)) (d .demands .ensures)) (l .inv .2)
 
 mul-need : tie.Need-mul-need Inv-ports μ-ports Inv-loop μ-loop
 mul-need c = omega arith
@@ -100,7 +98,7 @@ ports-less c = omega arith
 ports-again : tie.Need-ports-again Inv-ports μ-ports Inv-loop μ-loop
 ports-again c =
     let i = c .before .before .before .before .before .before in
-    fitting-next (i .before .ports .inv) (i .ports-test .taken) _ (c .before .before .need .ensures) _ (c .before .larger .ensures) (c .if2 .left)
+    fitting-next (i .before .ports .inv) (i .ports-test .taken) _ (c .before .before .need .ensures) _ (c .before .larger .ensures) (c .if1 .left)
 
 add-found : tie.Need-add-found Inv-ports μ-ports Inv-loop μ-loop
 add-found c = omega (arith, filled-short (c .before .before .ports .inv .filled))
@@ -109,50 +107,35 @@ sub-below : tie.Need-sub-below Inv-ports μ-ports Inv-loop μ-loop
 sub-below c = left-from (left-ports (c .before .before))
 
 loop-less : tie.Need-loop-less Inv-ports μ-ports Inv-loop μ-loop
-loop-less c = omega (arith, c .before .if3 .left, left-from (left-ports (c .before .before)))
+loop-less c = omega (arith, c .before .if2 .left, left-from (left-ports (c .before .before)))
 
 loop-again : tie.Need-loop-again Inv-ports μ-ports Inv-loop μ-loop
 loop-again c =
     let l = c .before .before in
     let s = l .before .ports .inv in
-    (s .filled .formed, filled-length (s .filled), left-down s (left-ports l) (c .before .if3 .left))
-
--- what the outer loop gives
-out-long : (c : tie.Joined1 Inv-ports μ-ports Inv-loop μ-loop) → length (c .if1 .out) ≡ portSlots
-out-long c =
-    ⊎-elim
-    (λ w. ap length (w .1) ∙ c .before .loop .inv .1)
-    (λ w. ap length (w .19) ∙ filled-length (w .16 .inv .filled))
-    (c .if1 .came)
-
-found-safe
-    : (c : tie.Joined1 Inv-ports μ-ports Inv-loop μ-loop)
-    → c .if1 .found ≡ marginSafe (planOf (c .before .before .before .args .t1))
-found-safe c =
-    let i = c .before .loop .inv in
-    ⊎-elim
-    (λ w. w .2 ∙ sym (descent-bottom _ (i .0) (subst (Descended _) (ap suc (w .0 .taken)) (i .2))))
-    (λ w. w .20 ∙ add-one _ ∙ sym (left-stop (w .16 .inv) (left-ports (record { before = record { before = _; ports = w .16 }; ports-test = w .17 })) (w .18 .taken)))
-    (c .if1 .came)
+    (s .filled .formed, filled-length (s .filled), left-down s (left-ports l) (c .before .if2 .left))
 
 same-length : tie.Need-same-length Inv-ports μ-ports Inv-loop μ-loop
-same-length c = out-long (c .before) ∙ sym (c .before .before .before .before .pre .1)
+same-length c = filled-length (c .before .before .before .ports .inv .filled) ∙ sym (c .before .before .before .before .before .before .before .before .before .before .before .before .before .before .before .before .before .before .before .before .before .pre .1)
 
 returns : tie.Need-returns Inv-ports μ-ports Inv-loop μ-loop
-returns c = (found-safe (c .before), λ h. absurd (omega (arith, c .if4 .taken)))
+returns c =
+    (add-one _ ∙ sym (left-stop (left-ports (c .before .before)) (c .before .if2 .taken)), λ h. absurd (omega (arith, c .if3 .taken)))
 
 demands-at-requires : tie.Need-demands-at-requires Inv-ports μ-ports Inv-loop μ-loop
 demands-at-requires c κs =
-    let i = c .before .before .before .loop .inv in
-    (i .0, omega (arith, c .before .if4 .left, i .2 .within), out-long (c .before .before))
+    let f = c .before .before .before .before .ports .inv .filled in
+    (f .formed, omega (arith, c .before .if3 .left, f .within), filled-length f)
 
 same-length-2 : tie.Need-same-length-2 Inv-ports μ-ports Inv-loop μ-loop
 same-length-2 c =
-    let j = c .before .before .before .before .before in
-    c .before .before .demands-at .kept .1 .1 .0 ∙ out-long j ∙ sym (j .before .before .before .pre .1)
+    c .before .before .demands-at .kept .1 .1 .0
+    ∙ filled-length (c .before .before .before .before .before .before .before .ports .inv .filled)
+    ∙ sym (c .before .before .before .before .before .before .before .before .before .before .before .before .before .before .before .before .before .before .before .before .before .before .before .before .before .pre .1)
 
 returns-2 : tie.Need-returns-2 Inv-ports μ-ports Inv-loop μ-loop
-returns-2 c = (found-safe (c .before .before .before .before .before), λ h. c .before .before .demands-at .ensures)
+returns-2 c =
+    (add-one _ ∙ sym (left-stop (left-ports (c .before .before .before .before .before .before)) (c .before .before .before .before .before .if2 .taken)), λ h. c .before .before .demands-at .ensures)
 
 pub seek-spec : {M : Type 1} → statement M
 seek-spec =
