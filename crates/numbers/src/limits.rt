@@ -26,7 +26,7 @@ const MAX_COUNT: u64 = 64;
 
 pub const MAX_HOPS: u64 = 16;
 
-fn between(lo: u64, hi: u64, n: u64) -> bool
+pub fn between(lo: u64, hi: u64, n: u64) -> bool
     ensures { λ r. ⌜ r ≡ within lo hi n ⌝ }
 {
     if n < lo {

@@ -6,6 +6,8 @@ use mathlib.Core.Option.{some}
 use mathlib.Core.Bool.{Bool, true, false, cond, true≢false}
 use Prim.Native.Nat.{ℕ, _≤_}
 use native.Mathlib.Omega.{arith}
+use borrow.Author.Tests.{le-leb}
+use Rattle.cqf.specs.Bounded.{within}
 use Rattle.cqf.specs.Plan.{Plan, wellFormed}
 use Rattle.cqf.specs.Condition.{admissible, failing, lowestFailing}
 use Rattle.cqf.specs.LargeEnough.{LargeEnough}
@@ -64,7 +66,8 @@ pub demand3 : (tables : Plan) (T : ℕ) → Demand3 tables T (checkAnswer tables
 demand3 tables T calls bytes p ports flows left held reads low high =
     let formed : wellFormed p ≡ true = accepted-formed bytes p ports flows reads in
     let same : tables ≡ p = left ∙ after-held calls bytes held p ports flows reads in
-    rw (same, check-within p T formed low high) (plain-means p T (accepted-large-enough bytes p ports flows reads T low high))
+    let ranged : within 1 (p .top) T ≡ true = rw (le-leb 1 T low, le-leb T (p .top) high) in
+    rw (same, check-within p T formed ranged) (plain-means p T (accepted-large-enough bytes p ports flows reads T low high))
 
 -- two rows of calls whose last accepted plans have the same fields, in any order, leave planners that answer alike
 pub order-free

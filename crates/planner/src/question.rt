@@ -5,6 +5,7 @@ use super::demand::demands_at;
 use super::failing::failing_at;
 use super::failing::workload;
 use numbers::limits::MAX_PORT;
+use numbers::limits::between;
 use numbers::port::window;
 use tables::Planner;
 use tables::formed;
@@ -40,11 +41,7 @@ pub fn check(planner: Planner, duration: u64) -> CheckAnswer
     if !formed(planner) {
         return CheckAnswer::NoPlan;
     }
-    if duration < 1 {
-        return CheckAnswer::BadDuration;
-    }
-    let top = planner.top as u64;
-    if top < duration {
+    if !between(1, planner.top as u64, duration) {
         return CheckAnswer::BadDuration;
     }
     let mut out = [0u64; 64];
@@ -75,17 +72,10 @@ pub fn slack(planner: Planner, port: u64, duration: u64) -> SlackAnswer
     if !formed(planner) {
         return SlackAnswer::NoPlan;
     }
-    if duration < 1 {
+    if !between(1, planner.top as u64, duration) {
         return SlackAnswer::BadDuration;
     }
-    let top = planner.top as u64;
-    if top < duration {
-        return SlackAnswer::BadDuration;
-    }
-    if port < 1 {
-        return SlackAnswer::NotCrossed;
-    }
-    if MAX_PORT < port {
+    if !between(1, MAX_PORT, port) {
         return SlackAnswer::NotCrossed;
     }
     let q = (port - 1) as usize;

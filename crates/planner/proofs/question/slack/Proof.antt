@@ -10,17 +10,19 @@ use borrow.Author.Needs.{needs}
 use borrow.Author.Tests.{not-true, not-false, lt-ltb}
 use mir.Syntax.{w64}
 use mir.ValLaws.{toZ-ofZ}
-use Rattle.cqf.specs.Limits.{portSlots, maxTop}
+use Rattle.cqf.specs.Bounded.{within}
+use Rattle.cqf.specs.Limits.{portSlots, maxTop, portOk}
 use Rattle.cqf.specs.Plan.{Plan, rateOf, blockingOf, wellFormed}
 use Rattle.cqf.specs.Condition.{demand}
 use Rattle.cqf.specs.laws.Ranges.{top-most}
 use Rattle.cqf.specs.laws.Tabulate.{tabulate-at}
+use Rattle.plan.specs.laws.Within.{within-low, within-high, slot-below}
 use Rattle.tables.specs.Tables.{planOf}
 use Rattle.loading.specs.Outcome.{result}
 use Rattle.planner.specs.Failing.{workloadOf, mostDemand}
 use Rattle.planner.specs.laws.Sums.{slot-ready, demand-most}
 use Rattle.planner.specs.laws.Fails.{crossed-demand, slack-is}
-use Rattle.planner.specs.laws.Answers.{slack-none, slack-low, slack-high, slack-no-port, slack-past-ports, slack-uncrossed, slack-crossed}
+use Rattle.planner.specs.laws.Answers.{slack-none, slack-out, slack-no-port, slack-uncrossed, slack-crossed}
 use Rattle.planner.proofs.question.slack.Statement.{statement}
 use Rattle.planner.proofs.question.slack.Tie as tie
 
@@ -28,40 +30,52 @@ use Rattle.planner.proofs.question.slack.Tie as tie
 abbrev held : tie.Start → Plan
 held s = planOf (s .args .t1)
 
--- past the first refusals: the plan is well formed, and the duration from 1 to top
-module _ (c : tie.Else3) where
+-- past the refusals: the plan is well formed, the duration from 1 to top, and the port from 1 to 64
+formed : (c : tie.Else1) → wellFormed (held (c .before .before)) ≡ true
+formed c = sym (c .before .formed .ensures) ∙ not-false _ (c .if1 .left)
+
+module _ (c : tie.Else2) where
+  abbrev first : tie.Else1
+  first = c .before .before
+
   abbrev begin : tie.Start
-  begin = c .before .before .before .before
+  begin = first .before .before
 
-  formed : wellFormed (held begin) ≡ true
-  formed = sym (c .before .before .before .formed .ensures) ∙ not-false _ (c .before .before .if1 .left)
-
-  high : begin .args .duration ≤ held begin .top
-  high = c .if3 .left
+  ranged : within 1 (held begin .top) (begin .args .duration) ≡ true
+  ranged = sym (c .before .between .ensures) ∙ not-false _ (c .if2 .left)
 
   fits : begin .args .duration ≤ maxTop
-  fits = omega (arith, top-most (held begin) formed, high)
+  fits = omega (arith, top-most (held begin) (formed first), within-high 1 (held begin .top) (begin .args .duration) ranged)
+
+abbrev second : tie.Else3 → tie.Else2
+second c = c .before .before
+
+number : (c : tie.Else3) → portOk (begin (second c) .args .port) ≡ true
+number c = sym (c .before .between2 .ensures) ∙ not-false _ (c .if3 .left)
 
 -- the demand of the port asked for
 module _ (c : tie.After-port-demands) where
   abbrev past : tie.Else3
-  past = c .before .before .before
+  past = c .before
+
+  abbrev start : tie.Start
+  start = begin (second past)
 
   abbrev slot : ℕ
-  slot = begin past .args .port - 1
+  slot = start .args .port - 1
 
   small : slot < portSlots
-  small = omega arith
+  small = slot-below portSlots (start .args .port) (number past)
 
-  bits-are : getD (c .port-demands .result) slot 0 ≡ demand (held (begin past)) slot (begin past .args .duration)
+  bits-are : getD (c .port-demands .result) slot 0 ≡ demand (held start) slot (start .args .duration)
   bits-are =
       ap (λ l. getD l slot 0) (c .port-demands .ensures)
-      ∙ tabulate-at portSlots (λ q. demand (held (begin past)) q (begin past .args .duration)) slot small
+      ∙ tabulate-at portSlots (λ q. demand (held start) q (start .args .duration)) slot small
 
   bits-most : getD (c .port-demands .result) slot 0 ≤ mostDemand
   bits-most =
-      let p = held (begin past) in
-      omega (arith, bits-are, demand-most p (slot-ready p (formed past)) (begin past .args .duration) (fits past) slot)
+      let p = held start in
+      omega (arith, bits-are, demand-most p (slot-ready p (formed (first (second past)))) (start .args .duration) (fits (second past)) slot)
 
 formed-requires : tie.Need-formed-requires
 formed-requires c κs = tt
@@ -69,46 +83,47 @@ formed-requires c κs = tt
 returns : tie.Need-returns
 returns c = sym (slack-none (held (c .before .before)) _ _ (sym (c .before .formed .ensures) ∙ not-true _ (c .if1 .taken)))
 
+cast-between : tie.Need-cast-between
+cast-between c = search needs
+
+between-requires : tie.Need-between-requires
+between-requires c κs = tt
+
 returns-2 : tie.Need-returns-2
 returns-2 c =
-    let yes = sym (c .before .before .formed .ensures) ∙ not-false _ (c .before .if1 .left) in
-    sym (slack-low (held (c .before .before .before)) _ _ yes (c .if2 .taken))
+    let first = c .before .before in
+    sym
+    (slack-out (held (first .before .before)) _ _ (formed first) (sym (c .before .between .ensures) ∙ not-true _ (c .if2 .taken)))
 
-cast-top : tie.Need-cast-top
-cast-top c = search needs
+between-requires-2 : tie.Need-between-requires-2
+between-requires-2 c κs = tt
 
 returns-3 : tie.Need-returns-3
 returns-3 c =
-    let yes = sym (c .before .before .before .formed .ensures) ∙ not-false _ (c .before .before .if1 .left) in
-    sym (slack-high (held (c .before .before .before .before)) _ _ yes (c .if3 .taken))
-
-returns-4 : tie.Need-returns-4
-returns-4 c =
-    let at = c .before in
-    sym (slack-no-port (held (begin at)) _ _ (formed at) (at .before .if2 .left) (high at) (c .if4 .taken))
-
-returns-5 : tie.Need-returns-5
-returns-5 c =
     let at = c .before .before in
-    sym (slack-past-ports (held (begin at)) _ _ (formed at) (at .before .if2 .left) (high at) (c .if5 .taken))
+    sym
+    (slack-no-port (held (begin at)) _ _ (formed (first at)) (ranged at) (sym (c .before .between2 .ensures) ∙ not-true _ (c .if3 .taken)))
+
+sub-q : tie.Need-sub-q
+sub-q c = within-low 1 portSlots _ (number c)
 
 port-demands-requires : tie.Need-port-demands-requires
-port-demands-requires c κs = (formed (c .before .before), high (c .before .before))
+port-demands-requires c κs = (formed (first (second c)), within-high _ _ _ (ranged (second c)))
 
 mul-bits : tie.Need-mul-bits
-mul-bits c = search needs
+mul-bits c = omega (arith, small c)
 
 array-read-bits : tie.Need-array-read-bits
 array-read-bits c = small c
 
-returns-6 : tie.Need-returns-6
-returns-6 c =
+returns-4 : tie.Need-returns-4
+returns-4 c =
     let demands = c .before in
-    let at = past demands in
-    let none = crossed-demand (held (begin at)) (formed at) (begin at .args .duration) (at .before .if2 .left) (slot demands) in
+    let at = second (past demands) in
+    let none = crossed-demand (held (begin at)) (formed (first at)) (begin at .args .duration) (within-low _ _ _ (ranged at)) (slot demands) in
     sym
-    (slack-uncrossed (held (begin at)) _ _ (formed at) (at .before .if2 .left) (high at)
-    (none ∙ ap (ltb 0) (sym (bits-are demands) ∙ c .if6 .taken)))
+    (slack-uncrossed (held (begin at)) _ _ (formed (first at)) (ranged at)
+    (none ∙ ap (ltb 0) (sym (bits-are demands) ∙ c .if4 .taken)))
 
 window-requires : tie.Need-window-requires
 window-requires c κs = tt
@@ -128,22 +143,22 @@ element-copy-out-port-slack-2 c = small (c .before .before .before)
 port-slack-requires : tie.Need-port-slack-requires
 port-slack-requires c κs =
     let demands = c .before .before .before .before in
-    (omega (arith, c .before .before .window .ensures, fits (past demands)), bits-most demands)
+    (omega (arith, c .before .before .window .ensures, fits (second (past demands))), bits-most demands)
 
-returns-7 : tie.Need-returns-7
-returns-7 c =
+returns-5 : tie.Need-returns-5
+returns-5 c =
     let demands = c .before .before .before .before .before in
-    let at = past demands in
+    let at = second (past demands) in
     let p = held (begin at) in
     let T = begin at .args .duration in
     let q = slot demands in
-    let some : 0 < demand p q T = omega (arith, bits-are demands, c .before .before .before .before .if6 .left) in
-    let yes = crossed-demand p (formed at) T (at .before .if2 .left) q ∙ lt-ltb 0 (demand p q T) some in
+    let some : 0 < demand p q T = omega (arith, bits-are demands, c .before .before .before .before .if4 .left) in
+    let yes = crossed-demand p (formed (first at)) T (within-low _ _ _ (ranged at)) q ∙ lt-ltb 0 (demand p q T) some in
     let products =
     ap₂ (λ (w bits : ℕ). subℕ (rateOf p q * w) (workloadOf (blockingOf p q) bits)) (c .before .before .before .window .ensures) (bits-are demands) in
     ap result (toZ-ofZ w64 (c .port-slack .result) (record { sfits = c .port-slack .ok }))
     ∙ sym
-    (slack-crossed p (begin at .args .port) T (formed at) (at .before .if2 .left) (high at) (c .before .before .before .before .before .before .before .if4 .left) (c .before .before .before .before .before .before .if5 .left) yes
+    (slack-crossed p (begin at .args .port) T (formed (first at)) (ranged at) (number (past demands)) yes
     (c .port-slack .ensures ∙ products ∙ sym (slack-is p q T)))
 
 pub slack-spec : {M : Type 1} → statement M
@@ -152,19 +167,20 @@ slack-spec =
     (tie.spec
     formed-requires
     returns
+    cast-between
+    between-requires
     returns-2
-    cast-top
+    between-requires-2
     returns-3
-    returns-4
-    returns-5
+    sub-q
     port-demands-requires
     mul-bits
     array-read-bits
-    returns-6
+    returns-4
     window-requires
     mul-port-slack
     element-copy-out-port-slack
     mul-port-slack-2
     element-copy-out-port-slack-2
     port-slack-requires
-    returns-7)
+    returns-5)
