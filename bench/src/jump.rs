@@ -110,7 +110,7 @@ fn climb<const CHECKED: bool>(planner: &Planner, out: &mut [u64; PORTS]) -> (u64
 fn descend<const CHECKED: bool>(planner: &Planner, out: &mut [u64; PORTS]) -> (u64, u64) {
     let top = planner.top as u64;
     let (mut below, mut rounds) = (top, 0);
-    while below != 0 {
+    let found = loop {
         rounds += 1;
         demands::<CHECKED>(planner, below, out);
         let mut most = 1;
@@ -121,14 +121,14 @@ fn descend<const CHECKED: bool>(planner: &Planner, out: &mut [u64; PORTS]) -> (u
             }
         }
         if below < most {
-            break;
+            break below + 1;
         }
         below = most - 1;
+    };
+    if found <= top {
+        demands::<CHECKED>(planner, found, out);
     }
-    if below < top {
-        demands::<CHECKED>(planner, below + 1, out);
-    }
-    (below + 1, rounds)
+    (found, rounds)
 }
 
 /// The answer `least` gives, and the rounds.
