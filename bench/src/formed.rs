@@ -1,4 +1,4 @@
-//! Whether a load could have made these tables, step by step as in crates/tables/src/sound.rt.
+//! Whether these tables hold a plan that the rules accept, step by step as in crates/tables/src/sound.rt.
 
 use crate::answers::Planner;
 use crate::jump::{FLOWS, MAX_HOPS, PORTS};

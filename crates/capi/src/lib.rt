@@ -1,21 +1,19 @@
 // The planner for C and Rust: the calls with their answers as numbers (include/cycle_planner.h).
+use crate::answers::check_numbers;
+use crate::answers::field_numbers;
+use crate::answers::load_numbers;
+use crate::answers::search_numbers;
+use crate::answers::slack_numbers;
+use planner::Planner;
 ghost use mathlib.Core.Path.{_≡_};
 ghost use Rattle.cqf.specs.Plan.{noPlan};
 ghost use Rattle.plan.specs.Field.{fieldAt, repeats};
-ghost use Rattle.plan.specs.Answer.{readingOf};
 ghost use Rattle.tables.specs.Tables.{planOf};
-ghost use Rattle.loading.specs.Answer.{loadOf};
-ghost use Rattle.planner.specs.Answer.{checkOf, slackOf, searchOf};
 ghost use Rattle.loading.specs.Outcome.{loadAnswer, loadLeaves};
 ghost use Rattle.planner.specs.Outcome.{checkAnswer, slackAnswer, leastAnswer, leastLeaves, marginSafeAnswer, marginSafeLeaves};
 ghost use Rattle.capi.specs.Numbers.{loadNumbers, checkNumbers, slackNumbers, searchNumbers, fieldNumbers};
-use plan::Field;
-use plan::Reading;
-use planner::CheckAnswer;
-use planner::LoadAnswer;
-use planner::Planner;
-use planner::SearchAnswer;
-use planner::SlackAnswer;
+
+mod answers; // answers.rt: each answer as numbers
 
 #[repr(C)]
 pub struct Answered {
@@ -42,110 +40,6 @@ pub struct FieldNumbers {
     pub tag: u32,
     pub offset: u64,
     pub numbers: [u64; 5],
-}
-
-fn numbered(refusal: u32, first: u64, second: u64) -> Answered
-    ensures { λ r. ⌜ r ≡ (record { refusal = refusal; first = first; second = second }) ⌝ }
-{
-    Answered {
-        refusal,
-        first,
-        second,
-    }
-}
-
-fn load_numbers(answer: LoadAnswer) -> Answered
-    ensures { λ r. ⌜ r ≡ loadNumbers (loadOf answer) ⌝ }
-{
-    match answer {
-        LoadAnswer::Held { ports, flows } => numbered(0, ports as u64, flows as u64),
-        LoadAnswer::Refused { fault, offset } => numbered(
-            plan::fault_number(fault) as u32,
-            offset as u64,
-            0,
-        ),
-    }
-}
-
-fn check_numbers(answer: CheckAnswer) -> Answered
-    ensures { λ r. ⌜ r ≡ checkNumbers (checkOf answer) ⌝ }
-{
-    match answer {
-        CheckAnswer::Admissible => numbered(0, 0, 0),
-        CheckAnswer::NoPlan => numbered(20, 0, 0),
-        CheckAnswer::BadDuration => numbered(10, 0, 0),
-        CheckAnswer::Failing { port, count } => numbered(21, port as u64, count as u64),
-    }
-}
-
-fn slack_numbers(answer: SlackAnswer) -> Slacked
-    ensures { λ r. ⌜ r ≡ slackNumbers (slackOf answer) ⌝ }
-{
-    match answer {
-        SlackAnswer::Slack(slack) => Slacked { refusal: 0, slack },
-        SlackAnswer::NoPlan => Slacked {
-            refusal: 20,
-            slack: 0,
-        },
-        SlackAnswer::BadDuration => Slacked {
-            refusal: 10,
-            slack: 0,
-        },
-        SlackAnswer::NotCrossed => Slacked {
-            refusal: 24,
-            slack: 0,
-        },
-    }
-}
-
-fn search_numbers(number: u32, answer: SearchAnswer) -> Answered
-    ensures { λ r. ⌜ r ≡ searchNumbers (searchOf number answer) ⌝ }
-{
-    match answer {
-        SearchAnswer::Duration(duration) => numbered(0, duration, 0),
-        SearchAnswer::NoPlan => numbered(20, 0, 0),
-        SearchAnswer::ShortScratch => numbered(11, 0, 0),
-        SearchAnswer::Failing { port, count } => numbered(number, port as u64, count as u64),
-    }
-}
-
-fn field_numbers(reading: Reading) -> FieldNumbers
-    ensures { λ r. ⌜ r ≡ fieldNumbers (readingOf reading) ⌝ }
-{
-    match reading {
-        Reading::Refused { fault, offset } => FieldNumbers {
-            refusal: plan::fault_number(fault) as u32,
-            tag: 0,
-            offset: offset as u64,
-            numbers: [0, 0, 0, 0, 0],
-        },
-        Reading::Field { field, next } => match field {
-            Field::Header(h) => FieldNumbers {
-                refusal: 0,
-                tag: 1,
-                offset: next as u64,
-                numbers: [h.guard as u64, h.top as u64, 0, 0, 0],
-            },
-            Field::Port(p) => FieldNumbers {
-                refusal: 0,
-                tag: 2,
-                offset: next as u64,
-                numbers: [p.number as u64, p.rate as u64, p.blocking as u64, 0, 0],
-            },
-            Field::Flow(f) => FieldNumbers {
-                refusal: 0,
-                tag: 3,
-                offset: next as u64,
-                numbers: [
-                    f.number as u64,
-                    f.period as u64,
-                    f.count as u64,
-                    f.length as u64,
-                    f.hops as u64,
-                ],
-            },
-        },
-    }
 }
 
 #[no_mangle]

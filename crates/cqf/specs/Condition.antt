@@ -81,6 +81,7 @@ unfoldable pub lowestFailing : Plan → ℕ → ℕ
 unfolding fails lowest
 lowestFailing p T = suc (lowest portSlots (fails p T))
 
+-- no crossed port fails at T
 unfoldable pub admissible : Plan → ℕ → Bool
 unfolding failing
 admissible p T = eqb (failing p T) 0
@@ -95,10 +96,12 @@ unfoldable pub smallest : (ℕ → Bool) → ℕ → ℕ
 unfolding lowest
 smallest good top = suc (lowest top (λ i. good (suc i)))
 
+-- the least duration: the smallest admissible one from 1 to top, or one above top where there is none
 unfoldable pub least : Plan → ℕ
 unfolding smallest admissible
 least p = smallest (admissible p) (p .top)
 
+-- the margin-safe duration: the smallest from which each up to top is admissible, or one above top where there is none
 unfoldable pub marginSafe : Plan → ℕ
 unfolding smallest safeFrom
 marginSafe p = smallest (safeFrom p) (p .top)

@@ -14,8 +14,21 @@ flowSlots = 256
 abbrev pub maxHops : ℕ
 maxHops = 16
 
+-- the longest top and the periods, in ns; frames in a period; bytes in a frame
 abbrev pub maxTop : ℕ
 maxTop = 100000000
+
+abbrev pub minPeriod : ℕ
+minPeriod = 1000
+
+abbrev pub maxPeriod : ℕ
+maxPeriod = 100000000
+
+abbrev pub maxCount : ℕ
+maxCount = 64
+
+abbrev pub maxLength : ℕ
+maxLength = 2000
 
 -- guard band S in ns
 abbrev pub guardOk : ℕ → Bool
@@ -35,7 +48,7 @@ rateOk n = within 1 100000 n
 
 -- a frame's length in bytes, destination address through check sequence
 abbrev pub lengthOk : ℕ → Bool
-lengthOk n = within 64 2000 n
+lengthOk n = within 64 maxLength n
 
 -- 0 stands for no blocking frame
 abbrev pub blockingOk : ℕ → Bool
@@ -47,11 +60,11 @@ flowOk n = within 1 flowSlots n
 
 -- a period in ns
 abbrev pub periodOk : ℕ → Bool
-periodOk n = within 1000 100000000 n
+periodOk n = within minPeriod maxPeriod n
 
 -- frames in a period
 abbrev pub countOk : ℕ → Bool
-countOk n = within 1 64 n
+countOk n = within 1 maxCount n
 
 -- ports on a route
 abbrev pub hopsOk : ℕ → Bool

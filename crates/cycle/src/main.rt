@@ -10,7 +10,7 @@ use planner::Planner;
 use planner::SearchAnswer;
 
 // One byte more than a plan may have: a longer input is read no further.
-const ROOM: usize = 16_385;
+const ROOM: usize = loading::MAX_BYTES + 1;
 
 pub enum Input {
     Bytes(usize),

@@ -22,7 +22,7 @@ pub struct LoadOutcome {
 }
 
 // Document 01: a plan has 1 to 16,384 bytes.
-const MAX_BYTES: usize = 16_384;
+pub const MAX_BYTES: usize = 16_384;
 
 // The plan in these bytes is held in place of the one before, where the rules find no refusal; otherwise the planner is given
 // back as it came.

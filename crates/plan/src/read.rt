@@ -31,9 +31,9 @@ ghost use Rattle.cqf.specs.Limits.{guardOk, topOk, portOk, rateOk, lengthOk, bl
 ghost use Rattle.plan.specs.Field.{headerIn, portInValue, flowIn, fieldIn, fieldAt};
 ghost use Rattle.plan.specs.Answer.{readingOf};
 
-const HEADER_TAG: u8 = 1;
+pub const HEADER_TAG: u8 = 1;
 
-const PORT_TAG: u8 = 2;
+pub const PORT_TAG: u8 = 2;
 
 pub const FLOW_TAG: u8 = 3;
 

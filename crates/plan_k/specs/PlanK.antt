@@ -24,14 +24,14 @@ bytesK =
     ∷ 0x03 ∷ 0x00 ∷ 0x0c ∷ 0x00 ∷ 0x02 ∷ 0x00 ∷ 0x01 ∷ 0xad ∷ 0xb0 ∷ 0x00 ∷ 0x01 ∷ 0x02 ∷ 0x5d ∷ 0x00 ∷ 0x01
     ∷ []
 
--- what the plain question and the spare of port 1 answer at a duration
+-- what the plain question and the slack of port 1 answer at a duration
 pub record Row : Type 0 where
   pub duration : ℕ
   pub checked : Answer (Unit {0})
-  pub spare : Answer ℤ
+  pub slack : Answer ℤ
 
 abbrev at : ℕ → Answer (Unit {0}) → Answer ℤ → Row
-at T checked spare = record { duration = T; checked = checked; spare = spare }
+at T checked z = record { duration = T; checked = checked; slack = z }
 
 abbrev fails-one : Answer (Unit {0})
 fails-one = refusal 21 (1 ∷ 1 ∷ [])

@@ -9,7 +9,7 @@ ghost use mathlib.Core.List.{[]};
 ghost use Prim.Native.Nat.{ℕ, _+_, _*_, _^_, _≤_, _<_};
 ghost use lib.ListN.{length, getD};
 ghost use Rattle.cqf.specs.Bounded.{distinct, every, row, tabulate};
-ghost use Rattle.cqf.specs.Limits.{portSlots, maxTop, portOk};
+ghost use Rattle.cqf.specs.Limits.{portSlots, maxTop, portOk, minPeriod, maxPeriod, maxCount, maxLength};
 ghost use Rattle.cqf.specs.Plan.{wellFormed};
 ghost use Rattle.cqf.specs.Condition.{bitsOf, ceilDiv, demand};
 ghost use Rattle.tables.specs.Tables.{planOf};
@@ -25,7 +25,7 @@ fn periods_begun(duration: u32, period: u32) -> u32
 
 // The wire bits of the frames that a flow brings.
 fn flow_bits(period: u32, count: u16, bytes: u16, duration: u32) -> u64
-    requires { ⌜ (1000 ≤ period) × (period ≤ maxTop) × (count ≤ 64) × (bytes ≤ 2000) × (duration ≤ maxTop) ⌝ }
+    requires { ⌜ (minPeriod ≤ period) × (period ≤ maxPeriod) × (count ≤ maxCount) × (bytes ≤ maxLength) × (duration ≤ maxTop) ⌝ }
     ensures { λ r. ⌜ r ≡ count * ceilDiv duration period * bitsOf bytes ⌝ }
 {
     let begun = periods_begun(duration, period);

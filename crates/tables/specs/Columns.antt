@@ -5,7 +5,7 @@ use mathlib.Core.Bool.{true, cond}
 use Prim.Native.Nat.{ℕ, suc, _+_, _*_, _≤_, _<_}
 use lib.ListN.{length, getD}
 use Rattle.cqf.specs.Bounded.{elem, distinct, every, row}
-use Rattle.cqf.specs.Limits.{portSlots, flowSlots, maxHops, maxTop, portOk}
+use Rattle.cqf.specs.Limits.{portSlots, flowSlots, maxHops, portOk, minPeriod, maxPeriod, maxCount, maxLength}
 use Rattle.cqf.specs.Plan.{Plan}
 
 -- the columns in the order of the tables; one that the function is not lent is empty, and guard and top are 0
@@ -34,10 +34,10 @@ pub record FlowColumns (periods counts lengths hops routes : List ℕ) : Type 0 
 -- a flow's slot that is empty or in range, over distinct ports; whether the ports are in the plan does not matter here
 pub record Ready (period count bytes hops : ℕ) (route : List ℕ) : Type 0 where
   pub absent : period ≡ 0 → hops ≡ 0
-  pub period-least : (period ≡ 0 → ⊥) → 1000 ≤ period
-  pub period-most : period ≤ maxTop
-  pub count-most : count ≤ 64
-  pub bytes-most : bytes ≤ 2000
+  pub period-least : (period ≡ 0 → ⊥) → minPeriod ≤ period
+  pub period-most : period ≤ maxPeriod
+  pub count-most : count ≤ maxCount
+  pub bytes-most : bytes ≤ maxLength
   pub hops-most : hops ≤ maxHops
   pub ports : every portOk route ≡ true
   pub once : distinct route ≡ true

@@ -1,4 +1,4 @@
-// Whether the tables hold a plan that the rules accept: a planner that no load made is answered as one that holds no plan.
+// Whether the tables hold a plan that the rules accept; any other tables are answered as ones that hold no plan.
 use super::FLOWS;
 use super::HOPS;
 use super::PORTS;

@@ -1,3 +1,4 @@
+-- `capi::cp_field` meets its contract: the planner's answer as numbers.
 use borrow.Author.Needs.{needs}
 use mathlib.Core.Path.{_∙_, ap}
 use Rattle.capi.specs.Numbers.{fieldNumbers}

@@ -1,3 +1,4 @@
+-- `capi::cp_least` meets its contract: the planner's answer as numbers.
 use mathlib.Core.Path.{_∙_, ap}
 use borrow.Author.Needs.{needs}
 use Rattle.capi.specs.Numbers.{searchNumbers}

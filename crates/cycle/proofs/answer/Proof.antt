@@ -1,3 +1,4 @@
+-- `cycle::answer` meets its contract: what was read is within the buffer.
 use mathlib.Core.Path.{sym}
 use lib.Seq.{length-take-le}
 use borrow.Author.Needs.{needs}

@@ -1,4 +1,4 @@
-//! Planners that no call made: 20 to every question, unless a load could have left the same tables.
+//! Planners that no call made: 20 to every question, unless the rules accept the plan in their tables.
 
 use super::{ask_all, loads::one_load};
 use crate::answers::{Planner, PLANNER_BYTES};

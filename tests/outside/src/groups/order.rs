@@ -34,9 +34,10 @@ pub fn run(tally: &mut Tally) {
             let mut scratches = [[turn; 70], [turn; 70]];
             let (got, want) = (ffi::least(&other, &mut scratches[0]), ffi::least(&one, &mut scratches[1]));
             tally.same(format_args!("cp_least in another order"), got, want);
+            tally.same(format_args!("scratch after cp_least in another order"), scratches[0], scratches[1]);
             let (got, want) = (ffi::margin_safe(&other, &mut scratches[0]), ffi::margin_safe(&one, &mut scratches[1]));
             tally.same(format_args!("cp_margin_safe in another order"), got, want);
-            tally.same(format_args!("scratch in another order"), scratches[0], scratches[1]);
+            tally.same(format_args!("scratch after cp_margin_safe in another order"), scratches[0], scratches[1]);
         }
     }
 }

@@ -29,9 +29,7 @@ pub fn run(tally: &mut Tally) {
             if let Ok(plan) = read(&bytes) {
                 held = Some(plan);
             }
-            let before = planner.to_bytes();
             ask_all(tally, &planner, held.as_ref(), &mut rng);
-            tally.same(format_args!("questions leave the planner alone"), planner.to_bytes() == before, true);
         }
     }
     tally.must_have_seen("check", &[0, 10, 20, 21]);

@@ -1,4 +1,4 @@
-//! Planner values: the one that a load makes of a plan, which ones a load could have made, and the plan that such a one tells.
+//! Planner values: the one that a load makes of a plan, which ones hold a plan that the rules accept, and the plan that such a one tells.
 
 use super::{read::repeats, Flow, Plan, Port};
 use crate::answers::Planner;
@@ -40,7 +40,7 @@ fn flow_of(tables: &Planner, slot: usize, ports: &BTreeMap<u64, Port>) -> Option
     sound.then_some(Some(Flow { period, count, length, route }))
 }
 
-/// The plan in a planner's tables, or none where no load makes such tables.
+/// The plan in a planner's tables, or none where the rules accept no such tables.
 pub fn plan_of(tables: &Planner) -> Option<Plan> {
     let (guard, top) = (u64::from(tables.guard), u64::from(tables.top));
     if guard > 1_000_000 || !(1..=100_000_000).contains(&top) {

@@ -1,4 +1,4 @@
--- `names_from` meets its contract. The invariant: the ports from i on decide whether the route holds the port.
+-- `names_from` meets its contract. The invariant: the ports from k on decide whether the route holds the port.
 use Prim.Native.Nat.{_-_, _+_}
 use mathlib.Core.Path.{_≡_, refl, sym, _∙_}
 use mathlib.Core.Bool.{_||_}
@@ -12,8 +12,6 @@ use Rattle.plan.specs.Field.{routeIn}
 use Rattle.plan.specs.laws.Route.{names-step, names-past}
 use Rattle.plan.proofs.route.names_from.Statement.{statement}
 use Rattle.plan.proofs.route.names_from.Tie as tie
-
--- `names_from` meets its contract. The invariant: the ports from k on decide whether the route holds the port.
 
 abbrev Inv-loop : tie.InvT-loop
 Inv-loop value from port hops k₀ k = elem port (drop from (routeIn value)) ≡ elem port (drop k (routeIn value))

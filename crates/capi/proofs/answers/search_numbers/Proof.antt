@@ -1,6 +1,7 @@
+-- `capi::answers::search_numbers` meets its contract: each case of the answer as its numbers.
 use borrow.Author.Needs.{needs}
-use Rattle.capi.proofs.search_numbers.Statement.{statement}
-use Rattle.capi.proofs.search_numbers.Tie as tie
+use Rattle.capi.proofs.answers.search_numbers.Statement.{statement}
+use Rattle.capi.proofs.answers.search_numbers.Tie as tie
 
 enum-known-answer : tie.Need-enum-known-answer
 enum-known-answer c = search needs

@@ -1,6 +1,7 @@
+-- `capi::answers::load_numbers` meets its contract: each case of the answer as its numbers.
 use borrow.Author.Needs.{needs}
-use Rattle.capi.proofs.load_numbers.Statement.{statement}
-use Rattle.capi.proofs.load_numbers.Tie as tie
+use Rattle.capi.proofs.answers.load_numbers.Statement.{statement}
+use Rattle.capi.proofs.answers.load_numbers.Tie as tie
 
 enum-known-answer : tie.Need-enum-known-answer
 enum-known-answer c = search needs

@@ -1,6 +1,7 @@
+-- `capi::answers::field_numbers` meets its contract: each case of the reading as its numbers.
 use borrow.Author.Needs.{needs}
-use Rattle.capi.proofs.field_numbers.Statement.{statement}
-use Rattle.capi.proofs.field_numbers.Tie as tie
+use Rattle.capi.proofs.answers.field_numbers.Statement.{statement}
+use Rattle.capi.proofs.answers.field_numbers.Tie as tie
 
 enum-known-reading : tie.Need-enum-known-reading
 enum-known-reading c = search needs

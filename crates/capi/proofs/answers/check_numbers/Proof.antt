@@ -1,6 +1,7 @@
+-- `capi::answers::check_numbers` meets its contract: each case of the answer as its numbers.
 use borrow.Author.Needs.{needs}
-use Rattle.capi.proofs.check_numbers.Statement.{statement}
-use Rattle.capi.proofs.check_numbers.Tie as tie
+use Rattle.capi.proofs.answers.check_numbers.Statement.{statement}
+use Rattle.capi.proofs.answers.check_numbers.Tie as tie
 
 enum-told : tie.Need-enum-told
 enum-told c = search needs
