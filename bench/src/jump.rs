@@ -2,7 +2,7 @@
 //! CHECKED says whether the sum over the hops tests its indices, as safe Rust does; the form test makes it needless.
 
 use crate::answers::{Answer, Planner};
-use crate::formed::formed;
+use crate::valid::valid_plan;
 
 pub const PORTS: usize = 64;
 pub const FLOWS: usize = 256;
@@ -133,7 +133,7 @@ fn descend<const CHECKED: bool>(planner: &Planner, out: &mut [u64; PORTS]) -> (u
 
 /// The answer `least` gives, and the rounds.
 pub fn least<const CHECKED: bool>(planner: &Planner, scratch: &mut [u64]) -> (Answer, u64) {
-    if !formed(planner) {
+    if !valid_plan(planner) {
         return (Answer::refused(20), 0);
     }
     if scratch.len() < PORTS {
@@ -149,7 +149,7 @@ pub fn least<const CHECKED: bool>(planner: &Planner, scratch: &mut [u64]) -> (An
 
 /// The answer `margin_safe` gives, and the rounds.
 pub fn margin_safe<const CHECKED: bool>(planner: &Planner, scratch: &mut [u64]) -> (Answer, u64) {
-    if !formed(planner) {
+    if !valid_plan(planner) {
         return (Answer::refused(20), 0);
     }
     if scratch.len() < PORTS {

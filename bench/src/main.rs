@@ -6,7 +6,7 @@ mod answers;
 #[allow(dead_code)]
 #[path = "../../tests/outside/src/ffi.rs"]
 mod ffi;
-mod formed;
+mod valid;
 mod found;
 mod jump;
 mod plans;

@@ -1,7 +1,7 @@
 //! Both searches by trying one duration after the other, on the planner's own tables.
 
 use crate::answers::{Answer, Planner};
-use crate::formed::formed;
+use crate::valid::valid_plan;
 use crate::jump::{demands, fails, refused_at_top, window, PORTS};
 
 fn admissible(planner: &Planner, duration: u64, scratch: &mut [u64; PORTS]) -> bool {
@@ -12,7 +12,7 @@ fn admissible(planner: &Planner, duration: u64, scratch: &mut [u64; PORTS]) -> b
 
 /// Durations from 1 up, at most so many: the answer if it was reached, and how many were tried.
 pub fn least(planner: &Planner, scratch: &mut [u64; PORTS], most: u64) -> (Option<Answer>, u64) {
-    if !formed(planner) {
+    if !valid_plan(planner) {
         return (Some(Answer::refused(20)), 0);
     }
     let top = planner.top as u64;
@@ -27,7 +27,7 @@ pub fn least(planner: &Planner, scratch: &mut [u64; PORTS], most: u64) -> (Optio
 
 /// Durations from top down, at most so many.
 pub fn margin_safe(planner: &Planner, scratch: &mut [u64; PORTS], most: u64) -> (Option<Answer>, u64) {
-    if !formed(planner) {
+    if !valid_plan(planner) {
         return (Some(Answer::refused(20)), 0);
     }
     let top = planner.top as u64;

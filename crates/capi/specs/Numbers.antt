@@ -4,32 +4,32 @@ use mathlib.Core.List.{List, [], _∷_}
 use lib.IntN.{ℤ, pos}
 use Rattle.loading.specs.Outcome.{Answer, result, refusal, Fields}
 use Rattle.plan.specs.Field.{header, port, flow, FieldRead, field, refused, headerTag, portTag, flowTag}
-use Rattle.capi.specs.declared.Answered.{Answered}
-use Rattle.capi.specs.declared.Slacked.{Slacked}
+use Rattle.capi.specs.declared.AnswerNumbers.{AnswerNumbers}
+use Rattle.capi.specs.declared.SlackNumbers.{SlackNumbers}
 use Rattle.capi.specs.declared.FieldNumbers.{FieldNumbers}
 
-abbrev pub answered : ℕ → ℕ → ℕ → Answered
-answered number first second = record { refusal = number; first = first; second = second }
+abbrev pub answerNumbers : ℕ → ℕ → ℕ → AnswerNumbers
+answerNumbers number first second = record { refusal = number; first = first; second = second }
 
 -- a refusal's number and the first two of what it carries
-abbrev pub refusedWith : ℕ → List ℕ → Answered
-refusedWith number [] = answered number 0 0
-refusedWith number (a ∷ []) = answered number a 0
-refusedWith number (a ∷ b ∷ rest) = answered number a b
+abbrev pub refusedWith : ℕ → List ℕ → AnswerNumbers
+refusedWith number [] = answerNumbers number 0 0
+refusedWith number (a ∷ []) = answerNumbers number a 0
+refusedWith number (a ∷ b ∷ rest) = answerNumbers number a b
 
-abbrev pub loadNumbers : Answer Fields → Answered
-loadNumbers (result fields) = answered 0 (fields .ports) (fields .flows)
+abbrev pub loadNumbers : Answer Fields → AnswerNumbers
+loadNumbers (result fields) = answerNumbers 0 (fields .ports) (fields .flows)
 loadNumbers (refusal number values) = refusedWith number values
 
-abbrev pub checkNumbers : Answer (Unit {0}) → Answered
-checkNumbers (result u) = answered 0 0 0
+abbrev pub checkNumbers : Answer (Unit {0}) → AnswerNumbers
+checkNumbers (result u) = answerNumbers 0 0 0
 checkNumbers (refusal number values) = refusedWith number values
 
-abbrev pub searchNumbers : Answer ℕ → Answered
-searchNumbers (result duration) = answered 0 duration 0
+abbrev pub searchNumbers : Answer ℕ → AnswerNumbers
+searchNumbers (result duration) = answerNumbers 0 duration 0
 searchNumbers (refusal number values) = refusedWith number values
 
-abbrev pub slackNumbers : Answer ℤ → Slacked
+abbrev pub slackNumbers : Answer ℤ → SlackNumbers
 slackNumbers (result z) = record { refusal = 0; slack = z }
 slackNumbers (refusal number values) = record { refusal = number; slack = pos 0 }
 

@@ -1,15 +1,15 @@
 // Each answer of the planner as numbers: document 01's refusal, 0 for a result, and what it carries.
-use crate::Answered;
+use crate::AnswerNumbers;
 use crate::FieldNumbers;
-use crate::Slacked;
+use crate::SlackNumbers;
 use plan::Field;
-use plan::Reading;
+use plan::FieldRead;
 use planner::CheckAnswer;
 use planner::LoadAnswer;
 use planner::SearchAnswer;
 use planner::SlackAnswer;
 ghost use mathlib.Core.Path.{_≡_};
-ghost use Rattle.plan.specs.Answer.{readingOf};
+ghost use Rattle.plan.specs.Answer.{fieldReadOf};
 ghost use Rattle.loading.specs.Answer.{loadOf};
 ghost use Rattle.planner.specs.Answer.{checkOf, slackOf, searchOf};
 ghost use Rattle.capi.specs.Numbers.{loadNumbers, checkNumbers, slackNumbers, searchNumbers, fieldNumbers};
@@ -26,17 +26,17 @@ const PORT: u32 = plan::read::PORT_TAG as u32;
 
 const FLOW: u32 = plan::read::FLOW_TAG as u32;
 
-fn numbered(refusal: u32, first: u64, second: u64) -> Answered
+fn numbered(refusal: u32, first: u64, second: u64) -> AnswerNumbers
     ensures { λ r. ⌜ r ≡ (record { refusal = refusal; first = first; second = second }) ⌝ }
 {
-    Answered {
+    AnswerNumbers {
         refusal,
         first,
         second,
     }
 }
 
-pub(crate) fn load_numbers(answer: LoadAnswer) -> Answered
+pub(crate) fn load_numbers(answer: LoadAnswer) -> AnswerNumbers
     ensures { λ r. ⌜ r ≡ loadNumbers (loadOf answer) ⌝ }
 {
     match answer {
@@ -49,7 +49,7 @@ pub(crate) fn load_numbers(answer: LoadAnswer) -> Answered
     }
 }
 
-pub(crate) fn check_numbers(answer: CheckAnswer) -> Answered
+pub(crate) fn check_numbers(answer: CheckAnswer) -> AnswerNumbers
     ensures { λ r. ⌜ r ≡ checkNumbers (checkOf answer) ⌝ }
 {
     match answer {
@@ -60,27 +60,27 @@ pub(crate) fn check_numbers(answer: CheckAnswer) -> Answered
     }
 }
 
-pub(crate) fn slack_numbers(answer: SlackAnswer) -> Slacked
+pub(crate) fn slack_numbers(answer: SlackAnswer) -> SlackNumbers
     ensures { λ r. ⌜ r ≡ slackNumbers (slackOf answer) ⌝ }
 {
     match answer {
-        SlackAnswer::Slack(slack) => Slacked { refusal: 0, slack },
-        SlackAnswer::NoPlan => Slacked {
+        SlackAnswer::Slack(slack) => SlackNumbers { refusal: 0, slack },
+        SlackAnswer::NoPlan => SlackNumbers {
             refusal: NO_PLAN,
             slack: 0,
         },
-        SlackAnswer::BadDuration => Slacked {
+        SlackAnswer::BadDuration => SlackNumbers {
             refusal: BAD_DURATION,
             slack: 0,
         },
-        SlackAnswer::NotCrossed => Slacked {
+        SlackAnswer::NotCrossed => SlackNumbers {
             refusal: 24,
             slack: 0,
         },
     }
 }
 
-pub(crate) fn search_numbers(number: u32, answer: SearchAnswer) -> Answered
+pub(crate) fn search_numbers(number: u32, answer: SearchAnswer) -> AnswerNumbers
     ensures { λ r. ⌜ r ≡ searchNumbers (searchOf number answer) ⌝ }
 {
     match answer {
@@ -91,17 +91,17 @@ pub(crate) fn search_numbers(number: u32, answer: SearchAnswer) -> Answered
     }
 }
 
-pub(crate) fn field_numbers(reading: Reading) -> FieldNumbers
-    ensures { λ r. ⌜ r ≡ fieldNumbers (readingOf reading) ⌝ }
+pub(crate) fn field_numbers(reading: FieldRead) -> FieldNumbers
+    ensures { λ r. ⌜ r ≡ fieldNumbers (fieldReadOf reading) ⌝ }
 {
     match reading {
-        Reading::Refused { fault, offset } => FieldNumbers {
+        FieldRead::Refused { fault, offset } => FieldNumbers {
             refusal: plan::fault_number(fault) as u32,
             tag: 0,
             offset: offset as u64,
             numbers: [0, 0, 0, 0, 0],
         },
-        Reading::Field { field, next } => match field {
+        FieldRead::Field { field, next } => match field {
             Field::Header(h) => FieldNumbers {
                 refusal: 0,
                 tag: HEADER,

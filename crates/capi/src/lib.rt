@@ -16,7 +16,7 @@ ghost use Rattle.capi.specs.Numbers.{loadNumbers, checkNumbers, slackNum
 mod answers; // answers.rt: each answer as numbers
 
 #[repr(C)]
-pub struct Answered {
+pub struct AnswerNumbers {
     pub refusal: u32,
     pub first: u64,
     pub second: u64,
@@ -25,11 +25,11 @@ pub struct Answered {
 #[repr(C)]
 pub struct Loaded {
     pub planner: Planner,
-    pub answer: Answered,
+    pub answer: AnswerNumbers,
 }
 
 #[repr(C)]
-pub struct Slacked {
+pub struct SlackNumbers {
     pub refusal: u32,
     pub slack: i64,
 }
@@ -78,28 +78,28 @@ pub extern "C" fn cp_load(planner: Planner, plan: &[u8]) -> Loaded
 }
 
 #[no_mangle]
-pub extern "C" fn cp_check(planner: Planner, duration: u64) -> Answered
+pub extern "C" fn cp_check(planner: Planner, duration: u64) -> AnswerNumbers
     ensures { λ r. ⌜ r ≡ checkNumbers (checkAnswer (planOf planner) duration) ⌝ }
 {
     check_numbers(planner::check(planner, duration))
 }
 
 #[no_mangle]
-pub extern "C" fn cp_slack(planner: Planner, port: u64, duration: u64) -> Slacked
+pub extern "C" fn cp_slack(planner: Planner, port: u64, duration: u64) -> SlackNumbers
     ensures { λ r. ⌜ r ≡ slackNumbers (slackAnswer (planOf planner) port duration) ⌝ }
 {
     slack_numbers(planner::slack(planner, port, duration))
 }
 
 #[no_mangle]
-pub extern "C" fn cp_least(planner: Planner, scratch: &mut [u64]) -> Answered
+pub extern "C" fn cp_least(planner: Planner, scratch: &mut [u64]) -> AnswerNumbers
     ensures { λ r. ⌜ (r ≡ searchNumbers (leastAnswer (planOf planner) (now (scratch .entry)))) × (now (scratch .exit) ≡ leastLeaves (planOf planner) (now (scratch .entry))) ⌝ }
 {
     search_numbers(22, planner::least(planner, scratch))
 }
 
 #[no_mangle]
-pub extern "C" fn cp_margin_safe(planner: Planner, scratch: &mut [u64]) -> Answered
+pub extern "C" fn cp_margin_safe(planner: Planner, scratch: &mut [u64]) -> AnswerNumbers
     ensures { λ r. ⌜ (r ≡ searchNumbers (marginSafeAnswer (planOf planner) (now (scratch .entry)))) × (now (scratch .exit) ≡ marginSafeLeaves (planOf planner) (now (scratch .entry))) ⌝ }
 {
     search_numbers(23, planner::margin_safe(planner, scratch))

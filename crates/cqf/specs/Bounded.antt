@@ -55,6 +55,6 @@ every b [] = true
 every b (x ∷ xs) = b x && every b xs
 
 -- the h numbers of a list from position at on
-unfoldable pub row : List ℕ → ℕ → ℕ → List ℕ
-row l at zero = []
-row l at (suc h) = lib.ListN.getD l at 0 ∷ row l (suc at) h
+unfoldable pub sublist : List ℕ → ℕ → ℕ → List ℕ
+sublist l at zero = []
+sublist l at (suc h) = lib.ListN.getD l at 0 ∷ sublist l (suc at) h

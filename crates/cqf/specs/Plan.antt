@@ -5,7 +5,7 @@ use mathlib.Core.List.{List, _∷_}
 use mathlib.Core.Bool.{Bool, _&&_, _||_}
 use lib.ListN.{getD, replicate}
 use lib.Dec.{eqb, ltb}
-use Rattle.cqf.specs.Bounded.{anyTo, allTo, elem, distinct, every, row}
+use Rattle.cqf.specs.Bounded.{anyTo, allTo, elem, distinct, every, sublist}
 use Rattle.cqf.specs.Limits.{portSlots, flowSlots, maxHops, guardOk, topOk, portOk, rateOk, lengthOk, blockingOk, periodOk, countOk, hopsOk}
 
 pub record Plan : Type 0 where
@@ -56,7 +56,7 @@ hopsOf p f = getD (p .hops) f 0
 
 -- its route: port numbers, in the order in which a frame meets them
 abbrev pub routeOf : Plan → ℕ → List ℕ
-routeOf p f = row (p .routes) (f * maxHops) (hopsOf p f)
+routeOf p f = sublist (p .routes) (f * maxHops) (hopsOf p f)
 
 -- whether slot f holds a flow
 abbrev pub present : Plan → ℕ → Bool
@@ -71,14 +71,14 @@ abbrev pub portIn : List ℕ → ℕ → Bool
 portIn rates n = portOk n && ltb 0 (getD (0 ∷ rates) n 0)
 
 -- whether slot q is empty, or holds a port in range
-unfoldable pub portSound : Plan → ℕ → Bool
-portSound p q =
+unfoldable pub validPort : Plan → ℕ → Bool
+validPort p q =
     (eqb (rateOf p q) 0 && eqb (blockingOf p q) 0)
     || (rateOk (rateOf p q) && blockingOk (blockingOf p q))
 
 -- whether slot f is empty, or holds a flow in range over distinct ports of the plan
-unfoldable pub flowSound : Plan → ℕ → Bool
-flowSound p f =
+unfoldable pub validFlow : Plan → ℕ → Bool
+validFlow p f =
     (eqb (periodOf p f) 0 && eqb (countOf p f) 0 && eqb (lengthOf p f) 0 && eqb (hopsOf p f) 0)
     || (periodOk (periodOf p f)
     && countOk (countOf p f)
@@ -88,11 +88,11 @@ flowSound p f =
     && distinct (routeOf p f))
 
 -- whether the tables hold a plan that the rules accept: what every accepted plan is, and what the questions test first
-unfoldable pub wellFormed : Plan → Bool
-unfolding portSound flowSound
-wellFormed p =
+unfoldable pub validPlan : Plan → Bool
+unfolding validPort validFlow
+validPlan p =
     topOk (p .top)
     && guardOk (p .guard)
-    && allTo portSlots (portSound p)
-    && allTo flowSlots (flowSound p)
+    && allTo portSlots (validPort p)
+    && allTo flowSlots (validFlow p)
     && anyTo flowSlots (present p)

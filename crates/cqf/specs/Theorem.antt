@@ -1,10 +1,10 @@
--- The large-enough-cycle theorem: for every well-formed plan and every duration T from 1, T is admissible exactly when no
+-- The large-enough-cycle theorem: for every valid plan and every duration T from 1, T is admissible exactly when no
 -- emission that keeps every contract leaves a frame unsent, and then every frame of every such emission is on time.
 use mathlib.Core.Path.{_≡_, sym, _∙_}
 use mathlib.Core.Bool.{true, false}
 use mathlib.Mathlib.Data.Bool.Basic.{eq-false-of-not-eq-true}
 use Prim.Native.Nat.{ℕ, _<_}
-use Rattle.cqf.specs.Plan.{Plan, wellFormed}
+use Rattle.cqf.specs.Plan.{Plan, validPlan}
 use Rattle.cqf.specs.Condition.{admissible}
 use Rattle.cqf.specs.LargeEnough.{Counterexample, LargeEnough}
 use Rattle.cqf.specs.laws.Places.{running≢stopped}
@@ -12,17 +12,17 @@ use Rattle.cqf.specs.laws.Accepted.{goes-on, on-time}
 use Rattle.cqf.specs.laws.Refused.{counterexample}
 
 -- a duration with a counterexample is not admissible: the run of its emission would never stop
-counterexample-refused : (p : Plan) → wellFormed p ≡ true → (T : ℕ) → 0 < T → Counterexample p T → admissible p T ≡ false
-counterexample-refused p formed T long bad = eq-false-of-not-eq-true no
+counterexample-refused : (p : Plan) → validPlan p ≡ true → (T : ℕ) → 0 < T → Counterexample p T → admissible p T ≡ false
+counterexample-refused p valid T long bad = eq-false-of-not-eq-true no
   where
     no : admissible p T ≡ true → ⊥
     no good =
-        let end = goes-on p formed T long good (bad .emission) (bad .keeps) (bad .overruns .cycle) in
+        let end = goes-on p valid T long good (bad .emission) (bad .keeps) (bad .overruns .cycle) in
         running≢stopped (end .0) (sym (end .1) ∙ bad .overruns .unsent)
 
-pub large-enough : (p : Plan) → wellFormed p ≡ true → (T : ℕ) → 0 < T → LargeEnough p T
-large-enough p formed T long =
+pub large-enough : (p : Plan) → validPlan p ≡ true → (T : ℕ) → 0 < T → LargeEnough p T
+large-enough p valid T long =
     record {
-      refused = (counterexample p formed T long, counterexample-refused p formed T long);
-      accepted = λ good e keeps f k _. on-time p formed T long good e keeps f k;
+      refused = (counterexample p valid T long, counterexample-refused p valid T long);
+      accepted = λ good e keeps f k _. on-time p valid T long good e keeps f k;
     }

@@ -1,7 +1,7 @@
 -- Laws of the definitions, one subject a file.
 pub mod Bounded
 pub mod Lists
-pub mod Formed
+pub mod Valid
 pub mod Bounds
 pub mod Route
 pub mod Slot

@@ -2,12 +2,12 @@
 use Rattle.cqf.specs.Plan.{Plan}
 use Rattle.plan.specs.Answer.{faultNumber}
 use Rattle.plan.specs.Draft as plan
-use Rattle.plan.specs.Reading.{Reading, accepted, rejected, Step, stop, more}
+use Rattle.plan.specs.Reading.{PlanRead, accepted, rejected, Step, stop, more}
 use Rattle.loading.specs.declared.LoadAnswer.{LoadAnswer}
 use Rattle.loading.specs.declared.LoadOutcome.{LoadOutcome}
 use Rattle.loading.specs.declared.reading.Draft.{Draft}
 use Rattle.loading.specs.declared.reading.Progress.{Progress}
-use Rattle.loading.specs.declared.reading.Stepped.{Stepped}
+use Rattle.loading.specs.declared.reading.StepOutcome.{StepOutcome}
 use Rattle.tables.specs.Tables.{planOf}
 
 -- the tables so far
@@ -23,13 +23,13 @@ abbrev pub progressOf : plan.Draft → Progress → Step
 progressOf d (Progress.More next) = more next d
 progressOf d (Progress.Stop fault offset) = stop (faultNumber fault) offset
 
-abbrev pub stepOf : Stepped → Step
+abbrev pub stepOf : StepOutcome → Step
 stepOf r = progressOf (draftOf (r .draft)) (r .progress)
 
 -- a whole plan read
-abbrev pub answerOf : Plan → LoadAnswer → Reading
+abbrev pub answerOf : Plan → LoadAnswer → PlanRead
 answerOf p (LoadAnswer.Held ports flows) = accepted p ports flows
 answerOf p (LoadAnswer.Refused fault offset) = rejected (faultNumber fault) offset
 
-abbrev pub readOf : LoadOutcome → Reading
+abbrev pub readOf : LoadOutcome → PlanRead
 readOf r = answerOf (planOf (r .planner)) (r .answer)

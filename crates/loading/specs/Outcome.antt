@@ -2,7 +2,7 @@
 use Prim.Native.Nat.{ℕ}
 use mathlib.Core.List.{List, [], _∷_}
 use Rattle.cqf.specs.Plan.{Plan}
-use Rattle.plan.specs.Reading.{Reading, accepted, rejected, readPlan}
+use Rattle.plan.specs.Reading.{PlanRead, accepted, rejected, readPlan}
 
 -- a result, or a refusal's number in document 01 and what it carries
 pub data Answer (A : Type 0) : Type 0 where
@@ -14,11 +14,11 @@ pub record Fields : Type 0 where
   pub ports : ℕ
   pub flows : ℕ
 
-abbrev pub readingAnswer : Reading → Answer Fields
+abbrev pub readingAnswer : PlanRead → Answer Fields
 readingAnswer (accepted p ports flows) = result (record { ports = ports; flows = flows })
 readingAnswer (rejected number offset) = refusal number (offset ∷ [])
 
-abbrev pub readingLeaves : Plan → Reading → Plan
+abbrev pub readingLeaves : Plan → PlanRead → Plan
 readingLeaves held (accepted p ports flows) = p
 readingLeaves held (rejected number offset) = held
 

@@ -7,7 +7,7 @@ use crate::store::is_taken;
 use crate::store::with_field;
 use plan::Fault;
 use plan::Field;
-use plan::Reading;
+use plan::FieldRead;
 use plan::read::read_field;
 use plan::route::repeats_port;
 use plan::split::field_value;
@@ -16,7 +16,7 @@ ghost use Prim.Native.Nat.{_≤_};
 ghost use mathlib.Core.Path.{_≡_};
 ghost use lib.ListN.{length};
 ghost use Rattle.plan.specs.Field.{field, fieldAt};
-ghost use Rattle.plan.specs.Draft.{loops, added, portsIn, flowsIn};
+ghost use Rattle.plan.specs.Draft.{fieldRepeats, added, portsIn, flowsIn};
 ghost use Rattle.plan.specs.Reading.{stepAt, closing, readFrom, maxBytes};
 ghost use Rattle.plan.specs.Ranges.{NumbersOk, RouteFits};
 ghost use Rattle.plan.specs.Answer.{fieldOf};
@@ -36,14 +36,14 @@ pub(crate) enum Progress {
     Stop { fault: Fault, offset: usize },
 }
 
-pub(crate) struct Stepped {
+pub(crate) struct StepOutcome {
     pub draft: Draft,
     pub progress: Progress,
 }
 
 // Test 7: whether the field's route holds a port twice.
-fn is_looping(field: Field, value: &[u8]) -> bool
-    ensures { λ r. ⌜ r ≡ loops (fieldOf field) (now (value .entry)) ⌝ }
+fn field_repeats(field: Field, value: &[u8]) -> bool
+    ensures { λ r. ⌜ r ≡ fieldRepeats (fieldOf field) (now (value .entry)) ⌝ }
 {
     match field {
         Field::Header(_) => false,
@@ -87,14 +87,14 @@ fn with_added(draft: Draft, field: Field, value: &[u8]) -> Draft
 }
 
 // A field that passed the tests 2 to 5: the tests 6 and 7, and the field stored.
-fn enter(plan: &[u8], at: usize, draft: Draft, x: Field, next: usize) -> Stepped
+fn take_field(plan: &[u8], at: usize, draft: Draft, x: Field, next: usize) -> StepOutcome
     requires { ⌜ (draft .ports ≤ maxBytes) × (draft .flows ≤ maxBytes) × (fieldAt (now plan) at ≡ field (fieldOf x) next) ⌝ }
     ensures { λ r. ⌜ stepOf r ≡ stepAt (now (plan .entry)) at (draftOf draft) ⌝ }
 {
     let planner = draft.planner;
     let taken = is_taken(planner, x);
     if taken {
-        return Stepped {
+        return StepOutcome {
             draft,
             progress: Progress::Stop {
                 fault: Fault::Duplicate,
@@ -103,9 +103,9 @@ fn enter(plan: &[u8], at: usize, draft: Draft, x: Field, next: usize) -> Stepped
         };
     }
     let value = field_value(plan, at);
-    let looping = is_looping(x, value);
-    if looping {
-        return Stepped {
+    let repeated = field_repeats(x, value);
+    if repeated {
+        return StepOutcome {
             draft,
             progress: Progress::Stop {
                 fault: Fault::RepeatedPort,
@@ -113,20 +113,20 @@ fn enter(plan: &[u8], at: usize, draft: Draft, x: Field, next: usize) -> Stepped
             },
         };
     }
-    Stepped {
+    StepOutcome {
         draft: with_added(draft, x, value),
         progress: Progress::More { next },
     }
 }
 
 // One field.
-fn step(plan: &[u8], at: usize, draft: Draft) -> Stepped
+fn step(plan: &[u8], at: usize, draft: Draft) -> StepOutcome
     requires { ⌜ (draft .ports ≤ maxBytes) × (draft .flows ≤ maxBytes) ⌝ }
     ensures { λ r. ⌜ stepOf r ≡ stepAt (now (plan .entry)) at (draftOf draft) ⌝ }
 {
     match read_field(plan, at) {
-        Reading::Field { field, next } => enter(plan, at, draft, field, next),
-        Reading::Refused { fault, offset } => Stepped {
+        FieldRead::Field { field, next } => take_field(plan, at, draft, field, next),
+        FieldRead::Refused { fault, offset } => StepOutcome {
             draft,
             progress: Progress::Stop { fault, offset },
         },

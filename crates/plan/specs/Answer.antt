@@ -5,7 +5,7 @@ use Rattle.plan.specs.declared.Fault.the-variants.{Size, Truncated, Unkn
 use Rattle.plan.specs.declared.Head.{Head}
 use Rattle.plan.specs.declared.Head.the-variants.{Whole, Cut}
 use Rattle.plan.specs.declared.Field as declaredField
-use Rattle.plan.specs.declared.Reading as declaredReading
+use Rattle.plan.specs.declared.FieldRead as declaredRead
 use Rattle.plan.specs.Field.{HeadRead, head, cut, Field, header, port, flow, FieldRead, field, refused}
 
 abbrev pub faultNumber : Fault → ℕ
@@ -28,6 +28,6 @@ fieldOf (declaredField.Field.Header h) = header (h .guard) (h .top)
 fieldOf (declaredField.Field.Port p) = port (p .number) (p .rate) (p .blocking)
 fieldOf (declaredField.Field.Flow f) = flow (f .number) (f .period) (f .count) (f .length) (f .hops)
 
-abbrev pub readingOf : declaredReading.Reading → FieldRead
-readingOf (declaredReading.Reading.Field x next) = field (fieldOf x) next
-readingOf (declaredReading.Reading.Refused fault offset) = refused (faultNumber fault) offset
+abbrev pub fieldReadOf : declaredRead.FieldRead → FieldRead
+fieldReadOf (declaredRead.FieldRead.Field x next) = field (fieldOf x) next
+fieldReadOf (declaredRead.FieldRead.Refused fault offset) = refused (faultNumber fault) offset

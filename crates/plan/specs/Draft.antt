@@ -26,11 +26,11 @@ taken p (port n rate blocking) = ltb 0 (getD (p .rates) (n - 1) 0)
 taken p (flow n period count length hops) = ltb 0 (getD (p .periods) (n - 1) 0)
 
 -- test 7: only a flow has a route
-unfoldable pub loops : Field → List ℕ → Bool
+unfoldable pub fieldRepeats : Field → List ℕ → Bool
 unfolding repeats
-loops (header guard top) v = false
-loops (port n rate blocking) v = false
-loops (flow n period count length hops) v = repeats v
+fieldRepeats (header guard top) v = false
+fieldRepeats (port n rate blocking) v = false
+fieldRepeats (flow n period count length hops) v = repeats v
 
 -- the tables with a field stored; its numbers are from 1 on, and v is its value
 unfoldable pub store : Plan → Field → List ℕ → Plan

@@ -14,7 +14,7 @@ pub data AllFields : List (List ℕ) → Type 0 where
   none : AllFields []
   more : {b : List ℕ} {bs : List (List ℕ)} → IsField b → AllFields bs → AllFields (b ∷ bs)
 
--- s is a row of whole fields, and t a permutation of it
+-- s is a sequence of whole fields, and t a permutation of it
 pub record SameFields (s t : List ℕ) : Type 0 where
   pub first : List (List ℕ)
   pub second : List (List ℕ)

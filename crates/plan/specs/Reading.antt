@@ -8,16 +8,16 @@ use Rattle.cqf.specs.Bounded.{within, every}
 use Rattle.cqf.specs.Plan.{Plan, portIn}
 use Rattle.plan.specs.Bytes.{headSize, tagAt, sizeAt, wholeAt, valueAt}
 use Rattle.plan.specs.Field.{FieldRead, field, refused, flowTag, fieldAt, routeIn}
-use Rattle.plan.specs.Draft.{Draft, blank, taken, loops, added}
+use Rattle.plan.specs.Draft.{Draft, blank, taken, fieldRepeats, added}
 
 -- a plan has 1 to 16,384 bytes
 abbrev pub maxBytes : ℕ
 maxBytes = 16384
 
 -- the plan with its numbers of port and flow fields, or a refusal's number and its offset
-pub data Reading : Type 0 where
-  accepted : Plan → (ports flows : ℕ) → Reading
-  rejected : (number offset : ℕ) → Reading
+pub data PlanRead : Type 0 where
+  accepted : Plan → (ports flows : ℕ) → PlanRead
+  rejected : (number offset : ℕ) → PlanRead
 
 -- one field: refused, or read with the offset after it
 pub data Step : Type 0 where
@@ -29,7 +29,7 @@ abbrev pub fieldStep : List ℕ → ℕ → Draft → FieldRead → Step
 fieldStep s at d (refused number offset) = stop number offset
 fieldStep s at d (field x next) =
     cond (taken (d .tables) x) (stop 6 at)
-    (cond (loops x (valueAt s at)) (stop 7 at)
+    (cond (fieldRepeats x (valueAt s at)) (stop 7 at)
     (more next (added d x (valueAt s at))))
 
 unfoldable pub stepAt : List ℕ → ℕ → Draft → Step
@@ -53,7 +53,7 @@ absentFrom (suc n) s at rates =
     ]
 
 -- all fields are read: tests 8 and 9
-unfoldable pub closing : List ℕ → Draft → Reading
+unfoldable pub closing : List ℕ → Draft → PlanRead
 unfolding absentFrom
 closing s d =
     cond (eqb (d .tables .top) 0 || eqb (d .flows) 0) (rejected 8 (length s))
@@ -62,7 +62,7 @@ closing s d =
     (accepted (d .tables) (d .ports) (d .flows)))
 
 -- the fields from this offset on. The first number bounds how many are read: the plan's length is enough.
-unfoldable pub readFrom : ℕ → List ℕ → ℕ → Draft → Reading
+unfoldable pub readFrom : ℕ → List ℕ → ℕ → Draft → PlanRead
 unfolding stepAt closing
 readFrom zero s at d = closing s d
 readFrom (suc n) s at d =
@@ -71,6 +71,6 @@ readFrom (suc n) s at d =
       | false ↦ closing s d
     ]
 
-unfoldable pub readPlan : List ℕ → Reading
+unfoldable pub readPlan : List ℕ → PlanRead
 unfolding readFrom blank
 readPlan s = elim (within 1 maxBytes (length s)) [ true ↦ readFrom (length s) s 0 blank | false ↦ rejected 1 0 ]

@@ -10,7 +10,7 @@ pub mod Named
 pub mod Tables
 pub mod Slots
 pub mod Drafts
-pub mod Sound
+pub mod Valid
 pub mod Commute
 pub mod Stored
 pub mod Order

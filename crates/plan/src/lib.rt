@@ -58,7 +58,7 @@ pub enum Field {
     Flow(Flow),
 }
 
-pub enum Reading {
+pub enum FieldRead {
     Field { field: Field, next: usize },
     Refused { fault: Fault, offset: usize },
 }

@@ -2,11 +2,11 @@
 
 use crate::Fault;
 use crate::Field;
+use crate::FieldRead;
 use crate::Flow;
 use crate::Head;
 use crate::Header;
 use crate::Port;
-use crate::Reading;
 use crate::number::be16;
 use crate::number::be32;
 use crate::route::FLOW_SIZE;
@@ -29,7 +29,7 @@ ghost use mathlib.Core.Path.{_≡_};
 ghost use mathlib.Core.Bool.{_&&_};
 ghost use Rattle.cqf.specs.Limits.{guardOk, topOk, portOk, rateOk, lengthOk, blockingOk, flowOk, periodOk, countOk};
 ghost use Rattle.plan.specs.Field.{headerIn, portInValue, flowIn, fieldIn, fieldAt};
-ghost use Rattle.plan.specs.Answer.{readingOf};
+ghost use Rattle.plan.specs.Answer.{fieldReadOf};
 
 pub const HEADER_TAG: u8 = 1;
 
@@ -78,11 +78,11 @@ fn flow_in_range(x: Flow) -> bool
     length_ok(x.length)
 }
 
-fn header_of(value: &[u8], at: usize, next: usize) -> Reading
-    ensures { λ r. ⌜ readingOf r ≡ headerIn (now (value .entry)) at next ⌝ }
+fn header_of(value: &[u8], at: usize, next: usize) -> FieldRead
+    ensures { λ r. ⌜ fieldReadOf r ≡ headerIn (now (value .entry)) at next ⌝ }
 {
     if value.len() != HEADER_SIZE {
-        return Reading::Refused {
+        return FieldRead::Refused {
             fault: Fault::WrongLength,
             offset: at,
         };
@@ -92,22 +92,22 @@ fn header_of(value: &[u8], at: usize, next: usize) -> Reading
         top: be32(value, 4),
     };
     if !header_in_range(x) {
-        return Reading::Refused {
+        return FieldRead::Refused {
             fault: Fault::OutOfRange,
             offset: at,
         };
     }
-    Reading::Field {
+    FieldRead::Field {
         field: Field::Header(x),
         next,
     }
 }
 
-fn port_of(value: &[u8], at: usize, next: usize) -> Reading
-    ensures { λ r. ⌜ readingOf r ≡ portInValue (now (value .entry)) at next ⌝ }
+fn port_of(value: &[u8], at: usize, next: usize) -> FieldRead
+    ensures { λ r. ⌜ fieldReadOf r ≡ portInValue (now (value .entry)) at next ⌝ }
 {
     if value.len() != PORT_SIZE {
-        return Reading::Refused {
+        return FieldRead::Refused {
             fault: Fault::WrongLength,
             offset: at,
         };
@@ -118,30 +118,30 @@ fn port_of(value: &[u8], at: usize, next: usize) -> Reading
         blocking: be16(value, 6),
     };
     if !port_in_range(x) {
-        return Reading::Refused {
+        return FieldRead::Refused {
             fault: Fault::OutOfRange,
             offset: at,
         };
     }
-    Reading::Field {
+    FieldRead::Field {
         field: Field::Port(x),
         next,
     }
 }
 
-fn flow_of(value: &[u8], at: usize, next: usize) -> Reading
-    ensures { λ r. ⌜ readingOf r ≡ flowIn (now (value .entry)) at next ⌝ }
+fn flow_of(value: &[u8], at: usize, next: usize) -> FieldRead
+    ensures { λ r. ⌜ fieldReadOf r ≡ flowIn (now (value .entry)) at next ⌝ }
 {
     let size = value.len();
     let hops = hops_in(size);
     if !hops_ok(hops) {
-        return Reading::Refused {
+        return FieldRead::Refused {
             fault: Fault::WrongLength,
             offset: at,
         };
     }
     if size != FLOW_SIZE + 2 * hops {
-        return Reading::Refused {
+        return FieldRead::Refused {
             fault: Fault::WrongLength,
             offset: at,
         };
@@ -154,26 +154,26 @@ fn flow_of(value: &[u8], at: usize, next: usize) -> Reading
         hops: hops as u8,
     };
     if !flow_in_range(x) {
-        return Reading::Refused {
+        return FieldRead::Refused {
             fault: Fault::OutOfRange,
             offset: at,
         };
     }
     if !route_in_range(value) {
-        return Reading::Refused {
+        return FieldRead::Refused {
             fault: Fault::OutOfRange,
             offset: at,
         };
     }
-    Reading::Field {
+    FieldRead::Field {
         field: Field::Flow(x),
         next,
     }
 }
 
 // The field by its tag, with its value: tests 3, 4 and 5.
-fn field_of(tag: u8, value: &[u8], at: usize, next: usize) -> Reading
-    ensures { λ r. ⌜ readingOf r ≡ fieldIn tag (now (value .entry)) at next ⌝ }
+fn field_of(tag: u8, value: &[u8], at: usize, next: usize) -> FieldRead
+    ensures { λ r. ⌜ fieldReadOf r ≡ fieldIn tag (now (value .entry)) at next ⌝ }
 {
     if tag == HEADER_TAG {
         return header_of(value, at, next);
@@ -184,15 +184,15 @@ fn field_of(tag: u8, value: &[u8], at: usize, next: usize) -> Reading
     if tag == FLOW_TAG {
         return flow_of(value, at, next);
     }
-    Reading::Refused {
+    FieldRead::Refused {
         fault: Fault::UnknownTag,
         offset: at,
     }
 }
 
 // The field at this offset, with the offset after it, or the first of tests 2 to 5 that refuses it.
-pub fn read_field(plan: &[u8], at: usize) -> Reading
-    ensures { λ r. ⌜ readingOf r ≡ fieldAt (now (plan .entry)) at ⌝ }
+pub fn read_field(plan: &[u8], at: usize) -> FieldRead
+    ensures { λ r. ⌜ fieldReadOf r ≡ fieldAt (now (plan .entry)) at ⌝ }
 {
     match split_head(plan, at) {
         Head::Whole { tag, size } => {
@@ -200,7 +200,7 @@ pub fn read_field(plan: &[u8], at: usize) -> Reading
             let value = field_value(plan, at);
             field_of(tag, value, at, next)
         }
-        Head::Cut => Reading::Refused {
+        Head::Cut => FieldRead::Refused {
             fault: Fault::Truncated,
             offset: at,
         },

@@ -1,16 +1,16 @@
--- Plan K of document 01 from its 52 bytes, and the rows marked P: one statement over one list.
+-- Plan K of document 01 from its 52 bytes, and the table marked P: one statement over one list.
 use mathlib.Core.Path.{_≡_, refl}
 use mathlib.Core.List.{List, [], _∷_, map}
 use mathlib.Core.Option.{some}
 use Prim.Native.Nat.{ℕ}
 use lib.IntN.{ℤ, pos, negsuc}
-use Rattle.cqf.specs.Bounded.{sumTo, countTo, anyTo, allTo, lowest, elem, distinct, every, row}
-use Rattle.cqf.specs.Plan.{noPlan, wellFormed, portSound, flowSound}
+use Rattle.cqf.specs.Bounded.{sumTo, countTo, anyTo, allTo, lowest, elem, distinct, every, sublist}
+use Rattle.cqf.specs.Plan.{noPlan, validPlan, validPort, validFlow}
 use Rattle.cqf.specs.Condition.{bitsOf, wireBits, blockingBits, ceilDiv, frames, demand, window, capacity, workload, slack, crossed, fails, failing, lowestFailing, admissible}
 use Rattle.cqf.specs.Worked.{planK}
 use Rattle.plan.specs.Bytes.{number2, number4, sizeAt, wholeAt, valueAt, numbers2}
 use Rattle.plan.specs.Field.{routeIn, headerIn, portInValue, flowIn, fieldIn, fieldAt, repeats}
-use Rattle.plan.specs.Draft.{blank, taken, loops, store, added}
+use Rattle.plan.specs.Draft.{blank, taken, fieldRepeats, store, added}
 use Rattle.plan.specs.Reading.{stepAt, namesAbsent, absentFrom, closing, readFrom, readPlan, accepted}
 use Rattle.loading.specs.Outcome.{Answer, result, refusal, loadAnswer, loadLeaves}
 use Rattle.planner.specs.Outcome.{checkAnswer, slackAnswer}
@@ -25,19 +25,19 @@ bytesK =
     ∷ []
 
 -- what the plain question and the slack of port 1 answer at a duration
-pub record Row : Type 0 where
+pub record Line : Type 0 where
   pub duration : ℕ
   pub checked : Answer (Unit {0})
   pub slack : Answer ℤ
 
-abbrev at : ℕ → Answer (Unit {0}) → Answer ℤ → Row
+abbrev at : ℕ → Answer (Unit {0}) → Answer ℤ → Line
 at T checked z = record { duration = T; checked = checked; slack = z }
 
 abbrev fails-one : Answer (Unit {0})
 fails-one = refusal 21 (1 ∷ 1 ∷ [])
 
-rows : List Row
-rows =
+table : List Line
+table =
     at 71999 fails-one (result (negsuc 99))
     ∷ at 72000 (result tt) (result (pos 0))
     ∷ at 100000 (result tt) (result (pos 2800000))
@@ -53,20 +53,20 @@ rows =
 
 -- K is accepted, with one port and two flows, and its tables are planK
 readK : readPlan bytesK ≡ accepted planK 1 2
-unfolding bytesK planK noPlan readPlan readFrom blank stepAt fieldAt fieldIn headerIn portInValue flowIn number2 number4 sizeAt wholeAt valueAt numbers2 routeIn repeats every distinct elem taken loops store added closing absentFrom namesAbsent
+unfolding bytesK planK noPlan readPlan readFrom blank stepAt fieldAt fieldIn headerIn portInValue flowIn number2 number4 sizeAt wholeAt valueAt numbers2 routeIn repeats every distinct elem taken fieldRepeats store added closing absentFrom namesAbsent
 readK = refl
 
 -- K is the plan held after its load
 heldK : heldBytes (load bytesK ∷ []) ≡ some bytesK
-unfolding bytesK noPlan heldBytes heldFrom readPlan readFrom blank stepAt fieldAt fieldIn headerIn portInValue flowIn number2 number4 sizeAt wholeAt valueAt numbers2 routeIn repeats every distinct elem taken loops store added closing absentFrom namesAbsent
+unfolding bytesK noPlan heldBytes heldFrom readPlan readFrom blank stepAt fieldAt fieldIn headerIn portInValue flowIn number2 number4 sizeAt wholeAt valueAt numbers2 routeIn repeats every distinct elem taken fieldRepeats store added closing absentFrom namesAbsent
 heldK = refl
 
--- every row, of the planner that holds the plan in K's bytes
-rowsOfK
-    : map (λ (r : Row). at (r .duration) (checkAnswer (after (load bytesK ∷ [])) (r .duration)) (slackAnswer (after (load bytesK ∷ [])) 1 (r .duration))) rows
-    ≡ rows
-unfolding bytesK rows after afterFrom loadLeaves noPlan readPlan readFrom blank stepAt fieldAt fieldIn headerIn portInValue flowIn number2 number4 sizeAt wholeAt valueAt numbers2 routeIn repeats every distinct elem taken loops store added closing absentFrom namesAbsent checkAnswer slackAnswer wellFormed portSound flowSound allTo anyTo row admissible failing lowestFailing lowest countTo fails crossed capacity window workload blockingBits demand sumTo frames ceilDiv wireBits bitsOf slack
-rowsOfK = refl
+-- every line of the table, of the planner that holds the plan in K's bytes
+tableOfK
+    : map (λ (r : Line). at (r .duration) (checkAnswer (after (load bytesK ∷ [])) (r .duration)) (slackAnswer (after (load bytesK ∷ [])) 1 (r .duration))) table
+    ≡ table
+unfolding bytesK table after afterFrom loadLeaves noPlan readPlan readFrom blank stepAt fieldAt fieldIn headerIn portInValue flowIn number2 number4 sizeAt wholeAt valueAt numbers2 routeIn repeats every distinct elem taken fieldRepeats store added closing absentFrom namesAbsent checkAnswer slackAnswer validPlan validPort validFlow allTo anyTo sublist admissible failing lowestFailing lowest countTo fails crossed capacity window workload blockingBits demand sumTo frames ceilDiv wireBits bitsOf slack
+tableOfK = refl
 
 -- a field cut short is 2 at its tag, whatever the tag
 cutShort : loadAnswer (0x04 ∷ 0x00 ∷ 0x01 ∷ []) ≡ refusal 2 (0 ∷ [])

@@ -1,9 +1,9 @@
--- Rows of calls from the empty planner, each given the planner as the call before left it.
+-- Sequences of calls from the empty planner, each given the planner as the call before left it.
 use Prim.Native.Nat.{ℕ}
 use mathlib.Core.List.{List, [], _∷_}
 use mathlib.Core.Option.{Option, none, some}
 use Rattle.cqf.specs.Plan.{Plan, noPlan}
-use Rattle.plan.specs.Reading.{Reading, accepted, rejected, readPlan}
+use Rattle.plan.specs.Reading.{PlanRead, accepted, rejected, readPlan}
 use Rattle.loading.specs.Outcome.{loadLeaves}
 
 pub data Call : Type 0 where
@@ -26,13 +26,13 @@ unfolding loadLeaves
 afterFrom p [] = p
 afterFrom p (c ∷ cs) = afterFrom (leaves p c) cs
 
--- the planner after a row of calls
+-- the planner after a sequence of calls
 unfoldable pub after : List Call → Plan
 unfolding afterFrom noPlan
 after calls = afterFrom noPlan calls
 
 -- the bytes of the last load in which the rules find no refusal
-abbrev pub accepting : Option (List ℕ) → List ℕ → Reading → Option (List ℕ)
+abbrev pub accepting : Option (List ℕ) → List ℕ → PlanRead → Option (List ℕ)
 accepting held s (accepted p ports flows) = some s
 accepting held s (rejected number offset) = held
 

@@ -1,5 +1,5 @@
 -- What each question answers and leaves, for any held plan and any input. Tables that are not well
--- formed count as no plan held (refusal 20): no row of calls from the empty planner leaves such, but for the empty one itself.
+-- valid count as no plan held (refusal 20): no sequence of calls from the empty planner leaves such, but for the empty one itself.
 use Prim.Native.Nat.{ℕ, _-_}
 use mathlib.Core.List.{List, [], _∷_, _++_}
 use mathlib.Core.Bool.{cond, _&&_}
@@ -8,14 +8,14 @@ use lib.IntN.{ℤ}
 use lib.ListN.{length, drop}
 use Rattle.cqf.specs.Bounded.{within, tabulate}
 use Rattle.cqf.specs.Limits.{portSlots, portOk}
-use Rattle.cqf.specs.Plan.{Plan, wellFormed}
+use Rattle.cqf.specs.Plan.{Plan, validPlan}
 use Rattle.cqf.specs.Condition.{demand, slack, crossed, admissible, failing, lowestFailing, least, marginSafe}
 use Rattle.loading.specs.Outcome.{Answer, result, refusal}
 
 -- 20, then 10, then what the question says
 abbrev pub asked : {A : Type 0} → Plan → ℕ → Answer A → Answer A
 asked p T answer =
-    cond (wellFormed p)
+    cond (validPlan p)
     (cond (within 1 (p .top) T) answer (refusal 10 (0 ∷ [])))
     (refusal 20 (0 ∷ []))
 
@@ -25,19 +25,19 @@ failingAt number p T = refusal number (lowestFailing p T ∷ failing p T ∷ [])
 
 -- the plain question
 unfoldable pub checkAnswer : Plan → ℕ → Answer (Unit {0})
-unfolding admissible failing lowestFailing wellFormed
+unfolding admissible failing lowestFailing validPlan
 checkAnswer p T = asked p T (cond (admissible p T) (result tt) (failingAt 21 p T))
 
 -- the spare of port n
 unfoldable pub slackAnswer : Plan → ℕ → ℕ → Answer ℤ
-unfolding crossed slack wellFormed
+unfolding crossed slack validPlan
 slackAnswer p n T =
     asked p T (cond (portOk n && crossed p (n - 1)) (result (slack p (n - 1) T)) (refusal 24 (0 ∷ [])))
 
 -- a search for a duration from 1 to top: 20, then 11, then the refusal of this number where there is none
 abbrev pub searched : ℕ → Plan → ℕ → List ℕ → Answer ℕ
 searched number p found scratch =
-    cond (wellFormed p)
+    cond (validPlan p)
     (cond (leb portSlots (length scratch))
     (cond (leb found (p .top)) (result found) (failingAt number p (p .top)))
     (refusal 11 (0 ∷ [])))
@@ -46,22 +46,22 @@ searched number p found scratch =
 -- what it leaves in the scratch: each port's demand at the duration found, or at top; the rest as it was
 abbrev pub searchLeaves : Plan → ℕ → List ℕ → List ℕ
 searchLeaves p found scratch =
-    cond (wellFormed p && leb portSlots (length scratch))
+    cond (validPlan p && leb portSlots (length scratch))
     (tabulate portSlots (λ q. demand p q (cond (leb found (p .top)) found (p .top))) ++ drop portSlots scratch)
     scratch
 
 unfoldable pub leastAnswer : Plan → List ℕ → Answer ℕ
-unfolding least failing lowestFailing wellFormed
+unfolding least failing lowestFailing validPlan
 leastAnswer p scratch = searched 22 p (least p) scratch
 
 unfoldable pub leastLeaves : Plan → List ℕ → List ℕ
-unfolding least demand wellFormed tabulate
+unfolding least demand validPlan tabulate
 leastLeaves p scratch = searchLeaves p (least p) scratch
 
 unfoldable pub marginSafeAnswer : Plan → List ℕ → Answer ℕ
-unfolding marginSafe failing lowestFailing wellFormed
+unfolding marginSafe failing lowestFailing validPlan
 marginSafeAnswer p scratch = searched 23 p (marginSafe p) scratch
 
 unfoldable pub marginSafeLeaves : Plan → List ℕ → List ℕ
-unfolding marginSafe demand wellFormed tabulate
+unfolding marginSafe demand validPlan tabulate
 marginSafeLeaves p scratch = searchLeaves p (marginSafe p) scratch

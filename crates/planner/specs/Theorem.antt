@@ -1,4 +1,4 @@
--- The theorems over rows of calls. Demand 3: the answer of the plain question to a duration of the held plan means what it says
+-- The theorems over sequences of calls. Demand 3: the answer of the plain question to a duration of the held plan means what it says
 -- of every emission and its whole run. And the order of a plan's fields changes no answer.
 use mathlib.Core.Path.{_≡_, refl, sym, ap, _∙_}
 use mathlib.Core.List.{List}
@@ -8,21 +8,21 @@ use Prim.Native.Nat.{ℕ, _≤_}
 use native.Mathlib.Omega.{arith}
 use borrow.Author.Tests.{le-leb}
 use Rattle.cqf.specs.Bounded.{within}
-use Rattle.cqf.specs.Plan.{Plan, wellFormed}
+use Rattle.cqf.specs.Plan.{Plan, validPlan}
 use Rattle.cqf.specs.Condition.{admissible, failing, lowestFailing}
 use Rattle.cqf.specs.LargeEnough.{LargeEnough}
 use Rattle.cqf.specs.Theorem.{large-enough}
 use Rattle.plan.specs.FieldOrder.{SameFields}
 use Rattle.plan.specs.Reading.{accepted, readPlan}
 use Rattle.plan.specs.laws.Order.{field-order}
-use Rattle.plan.specs.laws.Sound.{accepted-formed}
+use Rattle.plan.specs.laws.Valid.{accepted-valid}
 use Rattle.loading.specs.Outcome.{result}
 use Rattle.planner.specs.Outcome.{failingAt, checkAnswer, slackAnswer, leastAnswer, leastLeaves, marginSafeAnswer, marginSafeLeaves}
-use Rattle.planner.specs.Demand3.{Means, Demand3}
+use Rattle.planner.specs.Meaning.{Means, MeansHeld}
 use Rattle.planner.specs.SameAnswers.{SameAnswers}
 use Rattle.planner.specs.Calls.{Call, after, heldBytes}
 use Rattle.planner.specs.laws.Answers.{verdict, check-within}
-use Rattle.planner.specs.laws.Rows.{after-held, after-loaded}
+use Rattle.planner.specs.laws.Calls.{after-held, after-loaded}
 
 -- the verdict of the plain question means what the theorem says
 plain-means : (p : Plan) (T : ℕ) → LargeEnough p T → Means p T (verdict p T)
@@ -59,17 +59,17 @@ pub accepted-large-enough
     → 1 ≤ T
     → T ≤ p .top
     → LargeEnough p T
-accepted-large-enough s p ports flows reads T low high = large-enough p (accepted-formed s p ports flows reads) T low
+accepted-large-enough s p ports flows reads T low high = large-enough p (accepted-valid s p ports flows reads) T low
 
 -- demand 3, of the plain question's own answer
-pub demand3 : (tables : Plan) (T : ℕ) → Demand3 tables T (checkAnswer tables T)
-demand3 tables T calls bytes p ports flows left held reads low high =
-    let formed : wellFormed p ≡ true = accepted-formed bytes p ports flows reads in
+pub check-means : (tables : Plan) (T : ℕ) → MeansHeld tables T (checkAnswer tables T)
+check-means tables T calls bytes p ports flows left held reads low high =
+    let valid : validPlan p ≡ true = accepted-valid bytes p ports flows reads in
     let same : tables ≡ p = left ∙ after-held calls bytes held p ports flows reads in
     let ranged : within 1 (p .top) T ≡ true = rw (le-leb 1 T low, le-leb T (p .top) high) in
-    rw (same, check-within p T formed ranged) (plain-means p T (accepted-large-enough bytes p ports flows reads T low high))
+    rw (same, check-within p T valid ranged) (plain-means p T (accepted-large-enough bytes p ports flows reads T low high))
 
--- two rows of calls whose last accepted plans have the same fields, in any order, leave planners that answer alike
+-- two sequences of calls whose last accepted plans have the same fields, in any order, leave planners that answer alike
 pub order-free
     : (calls others : List Call) (s t : List ℕ)
     → heldBytes calls ≡ some s

@@ -1,5 +1,5 @@
 -- Laws of the calls.
-pub mod Rows
+pub mod Calls
 pub mod Sums
 pub mod Sets
 pub mod Fails

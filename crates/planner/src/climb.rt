@@ -7,14 +7,14 @@ use super::need::need;
 use numbers::port::window;
 use tables::PORTS;
 use tables::Planner;
-use tables::formed;
+use tables::valid_plan;
 ghost use mathlib.Core.Path.{_≡_};
 ghost use mathlib.Core.Bool.{true};
 ghost use Prim.Native.Nat.{_≤_};
 ghost use lib.ListN.{length};
 ghost use Rattle.cqf.specs.Bounded.{tabulate};
 ghost use Rattle.cqf.specs.Limits.{portSlots};
-ghost use Rattle.cqf.specs.Plan.{wellFormed};
+ghost use Rattle.cqf.specs.Plan.{validPlan};
 ghost use Rattle.cqf.specs.Condition;
 ghost use Rattle.tables.specs.Tables.{planOf};
 ghost use Rattle.planner.specs.Answer.{searchOf};
@@ -23,7 +23,7 @@ ghost use Rattle.planner.specs.Outcome.{leastAnswer, leastLeaves};
 // The least admissible duration, or one above top where there is none. No duration below t is admissible, and a port that fails
 // at t fails up to what it needs there. Where there is one, out is left with the demands at it.
 pub(crate) fn seek(planner: Planner, out: &mut [u64]) -> u64
-    requires { ⌜ (wellFormed (planOf planner) ≡ true) × (length (now out) ≡ portSlots) ⌝ }
+    requires { ⌜ (validPlan (planOf planner) ≡ true) × (length (now out) ≡ portSlots) ⌝ }
     ensures { λ r. ⌜ r ≡ Condition.least (planOf planner) ⌝ }
     ensures { λ r. ⌜ (r ≤ planner .top → now (out .exit) ≡ tabulate portSlots (λ q. Condition.demand (planOf planner) q r)) ⌝ }
 {
@@ -40,14 +40,14 @@ pub(crate) fn seek(planner: Planner, out: &mut [u64]) -> u64
             t,
             &mut out[..],
         );
-        let span = window(guard, t);
+        let usable = window(guard, t);
         let mut next: u64 = 0;
         let mut q: usize = 0;
         'ports: while q < PORTS {
             let rate = planner.rates[q];
             let blocking = planner.blockings[q];
             let bits = out[q];
-            if port_fails(rate, blocking, span, bits) {
+            if port_fails(rate, blocking, usable, bits) {
                 next = need(guard, rate, blocking, bits);
                 break 'ports;
             }
@@ -68,7 +68,7 @@ pub(crate) fn seek(planner: Planner, out: &mut [u64]) -> u64
 pub fn least(planner: Planner, scratch: &mut [u64]) -> SearchAnswer
     ensures { λ r. ⌜ (searchOf 22 r ≡ leastAnswer (planOf planner) (now (scratch .entry))) × (now (scratch .exit) ≡ leastLeaves (planOf planner) (now (scratch .entry))) ⌝ }
 {
-    if !formed(planner) {
+    if !valid_plan(planner) {
         return SearchAnswer::NoPlan;
     }
     let size = scratch.len();

@@ -8,12 +8,12 @@ ghost use mathlib.Core.Bool.{true};
 ghost use mathlib.Core.List.{[]};
 ghost use Prim.Native.Nat.{ℕ, _+_, _*_, _^_, _≤_, _<_};
 ghost use lib.ListN.{length, getD};
-ghost use Rattle.cqf.specs.Bounded.{distinct, every, row, tabulate};
+ghost use Rattle.cqf.specs.Bounded.{distinct, every, sublist, tabulate};
 ghost use Rattle.cqf.specs.Limits.{portSlots, maxTop, portOk, minPeriod, maxPeriod, maxCount, maxLength};
-ghost use Rattle.cqf.specs.Plan.{wellFormed};
+ghost use Rattle.cqf.specs.Plan.{validPlan};
 ghost use Rattle.cqf.specs.Condition.{bitsOf, ceilDiv, demand};
 ghost use Rattle.tables.specs.Tables.{planOf};
-ghost use Rattle.tables.specs.Columns.{columns, FlowColumns, FlowsReady, Marked};
+ghost use Rattle.tables.specs.Columns.{columns, FlowColumns, FlowsInRange, Marked};
 
 // The periods that begin within a duration: the quotient rounded up.
 fn periods_begun(duration: u32, period: u32) -> u32
@@ -35,9 +35,9 @@ fn flow_bits(period: u32, count: u16, bytes: u16, duration: u32) -> u64
 // The bits are added at each port of a route.
 fn add_route<'a>(routes: &'a [u8], base: usize, hops: usize, bits: u64, out: &mut [u64])
     requires { ⌜ (base + hops ≤ length (now routes)) × (length (now out) ≡ portSlots) ⌝ }
-    requires { ⌜ (every portOk (row (now routes) base hops) ≡ true) × (distinct (row (now routes) base hops) ≡ true) ⌝ }
+    requires { ⌜ (every portOk (sublist (now routes) base hops) ≡ true) × (distinct (sublist (now routes) base hops) ≡ true) ⌝ }
     requires { ⌜ ((q : ℕ) → q < portSlots → getD (now out) q 0 + bits < 2 ^ 64) ⌝ }
-    ensures { λ r. ⌜ Marked (now (out .entry)) (now (out .exit)) (row (now (routes .entry)) base hops) bits ⌝ }
+    ensures { λ r. ⌜ Marked (now (out .entry)) (now (out .exit)) (sublist (now (routes .entry)) base hops) bits ⌝ }
 {
     let mut i: usize = 0;
     while i < hops {
@@ -69,7 +69,7 @@ pub(crate) fn demands<'a>(
     out: &mut [u64],
 )
     requires { ⌜ FlowColumns (now periods) (now counts) (now lengths) (now hops) (now routes) ⌝ }
-    requires { ⌜ FlowsReady (now periods) (now counts) (now lengths) (now hops) (now routes) ⌝ }
+    requires { ⌜ FlowsInRange (now periods) (now counts) (now lengths) (now hops) (now routes) ⌝ }
     requires { ⌜ (duration ≤ maxTop) × (length (now out) ≡ portSlots) ⌝ }
     ensures { λ r. ⌜ now (out .exit) ≡ tabulate portSlots (λ q. demand (columns [] [] (now (periods .entry)) (now (counts .entry)) (now (lengths .entry)) (now (hops .entry)) (now (routes .entry))) q duration) ⌝ }
 {
@@ -88,7 +88,7 @@ pub(crate) fn demands<'a>(
 
 // The same for a held plan, outside the rounds of a search.
 pub(crate) fn demands_at(planner: Planner, duration: u64, out: &mut [u64])
-    requires { ⌜ (wellFormed (planOf planner) ≡ true) × (duration ≤ planner .top) × (length (now out) ≡ portSlots) ⌝ }
+    requires { ⌜ (validPlan (planOf planner) ≡ true) × (duration ≤ planner .top) × (length (now out) ≡ portSlots) ⌝ }
     ensures { λ r. ⌜ now (out .exit) ≡ tabulate portSlots (λ q. demand (planOf planner) q duration) ⌝ }
 {
     demands(

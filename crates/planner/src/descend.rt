@@ -6,14 +6,14 @@ use super::failing::failing_at;
 use super::need::need;
 use tables::PORTS;
 use tables::Planner;
-use tables::formed;
+use tables::valid_plan;
 ghost use mathlib.Core.Path.{_≡_};
 ghost use mathlib.Core.Bool.{true};
 ghost use Prim.Native.Nat.{max, _≤_};
 ghost use lib.ListN.{length};
 ghost use Rattle.cqf.specs.Bounded.{tabulate};
 ghost use Rattle.cqf.specs.Limits.{portSlots};
-ghost use Rattle.cqf.specs.Plan.{wellFormed};
+ghost use Rattle.cqf.specs.Plan.{validPlan};
 ghost use Rattle.cqf.specs.Condition;
 ghost use Rattle.tables.specs.Tables.{planOf};
 ghost use Rattle.planner.specs.Answer.{searchOf};
@@ -30,7 +30,7 @@ fn larger(a: u64, b: u64) -> u64
 // no port fails at below, none does from there down to the most that one needs there. Where there is one, out is left with the
 // demands at it.
 pub(crate) fn seek(planner: Planner, out: &mut [u64]) -> u64
-    requires { ⌜ (wellFormed (planOf planner) ≡ true) × (length (now out) ≡ portSlots) ⌝ }
+    requires { ⌜ (validPlan (planOf planner) ≡ true) × (length (now out) ≡ portSlots) ⌝ }
     ensures { λ r. ⌜ r ≡ Condition.marginSafe (planOf planner) ⌝ }
     ensures { λ r. ⌜ (r ≤ planner .top → now (out .exit) ≡ tabulate portSlots (λ q. Condition.demand (planOf planner) q r)) ⌝ }
 {
@@ -75,7 +75,7 @@ pub(crate) fn seek(planner: Planner, out: &mut [u64]) -> u64
 pub fn margin_safe(planner: Planner, scratch: &mut [u64]) -> SearchAnswer
     ensures { λ r. ⌜ (searchOf 23 r ≡ marginSafeAnswer (planOf planner) (now (scratch .entry))) × (now (scratch .exit) ≡ marginSafeLeaves (planOf planner) (now (scratch .entry))) ⌝ }
 {
-    if !formed(planner) {
+    if !valid_plan(planner) {
         return SearchAnswer::NoPlan;
     }
     let size = scratch.len();

@@ -12,7 +12,7 @@ ghost use Prim.Native.Nat.{ℕ, _≤_, _<_};
 ghost use lib.ListN.{length, getD};
 ghost use Rattle.cqf.specs.Bounded.{tabulate};
 ghost use Rattle.cqf.specs.Limits.{portSlots, maxTop};
-ghost use Rattle.cqf.specs.Plan.{wellFormed};
+ghost use Rattle.cqf.specs.Plan.{validPlan};
 ghost use Rattle.cqf.specs.Condition.{demand, failing, lowestFailing};
 ghost use Rattle.tables.specs.Tables.{planOf};
 ghost use Rattle.planner.specs.Failing.{setTo, workloadOf, failsBy, failsIn, mostDemand};
@@ -63,12 +63,12 @@ pub(crate) fn failing_set<'a>(
 
 // The ports that fail at a duration: the lowest, and how many. Each port's demand is left in out.
 pub(crate) fn failing_at(planner: Planner, duration: u64, out: &mut [u64]) -> FailingPorts
-    requires { ⌜ (wellFormed (planOf planner) ≡ true) × (1 ≤ duration) × (duration ≤ planner .top) × (length (now out) ≡ portSlots) ⌝ }
+    requires { ⌜ (validPlan (planOf planner) ≡ true) × (1 ≤ duration) × (duration ≤ planner .top) × (length (now out) ≡ portSlots) ⌝ }
     ensures { λ r. ⌜ (r .port ≡ lowestFailing (planOf planner) duration) × (r .count ≡ failing (planOf planner) duration) ⌝ }
     ensures { λ r. ⌜ now (out .exit) ≡ tabulate portSlots (λ q. demand (planOf planner) q duration) ⌝ }
 {
     demands_at(planner, duration, &mut out[..]);
-    let span = window(planner.guard, duration);
-    let set = failing_set(&planner.rates, &planner.blockings, span, &out[..]);
+    let usable = window(planner.guard, duration);
+    let set = failing_set(&planner.rates, &planner.blockings, usable, &out[..]);
     failing_ports(set)
 }

@@ -8,24 +8,24 @@ use numbers::limits::MAX_PORT;
 use numbers::limits::between;
 use numbers::port::window;
 use tables::Planner;
-use tables::formed;
+use tables::valid_plan;
 ghost use mathlib.Core.Path.{_≡_};
 ghost use mathlib.Core.Bool.{true};
 ghost use Prim.Native.Nat.{_*_, _≤_};
 ghost use lib.IntN.{subℕ};
 ghost use Rattle.cqf.specs.Bounded.{tabulate};
 ghost use Rattle.cqf.specs.Limits.{portSlots, maxTop};
-ghost use Rattle.cqf.specs.Plan.{wellFormed};
+ghost use Rattle.cqf.specs.Plan.{validPlan};
 ghost use Rattle.cqf.specs.Condition.{demand};
 ghost use Rattle.tables.specs.Tables.{planOf};
 ghost use Rattle.planner.specs.Answer.{checkOf, slackOf};
 ghost use Rattle.planner.specs.Failing.{workloadOf, mostDemand};
-ghost use Rattle.planner.specs.Demand3.{Demand3};
+ghost use Rattle.planner.specs.Meaning.{MeansHeld};
 ghost use Rattle.planner.specs.Outcome.{checkAnswer, slackAnswer};
 
 // Each port's demand.
 fn port_demands(planner: Planner, duration: u64) -> [u64; 64]
-    requires { ⌜ (wellFormed (planOf planner) ≡ true) × (duration ≤ planner .top) ⌝ }
+    requires { ⌜ (validPlan (planOf planner) ≡ true) × (duration ≤ planner .top) ⌝ }
     ensures { λ r. ⌜ r ≡ tabulate portSlots (λ q. demand (planOf planner) q duration) ⌝ }
 {
     let mut out = [0u64; 64];
@@ -33,12 +33,12 @@ fn port_demands(planner: Planner, duration: u64) -> [u64; 64]
     out
 }
 
-// Is this duration admissible? What the answer means is demand 3: after every row of calls that leads to this planner.
+// Is this duration admissible? What the answer means is demand 3: after every sequence of calls that leads to this planner.
 pub fn check(planner: Planner, duration: u64) -> CheckAnswer
     ensures answers { λ r. ⌜ checkOf r ≡ checkAnswer (planOf planner) duration ⌝ }
-    ensures means { λ r. ⌜ Demand3 (planOf planner) duration (checkOf r) ⌝ }
+    ensures means { λ r. ⌜ MeansHeld (planOf planner) duration (checkOf r) ⌝ }
 {
-    if !formed(planner) {
+    if !valid_plan(planner) {
         return CheckAnswer::NoPlan;
     }
     if !between(1, planner.top as u64, duration) {
@@ -69,7 +69,7 @@ fn port_slack(rate: u32, blocking: u16, window: u64, bits: u64) -> i64
 pub fn slack(planner: Planner, port: u64, duration: u64) -> SlackAnswer
     ensures { λ r. ⌜ slackOf r ≡ slackAnswer (planOf planner) port duration ⌝ }
 {
-    if !formed(planner) {
+    if !valid_plan(planner) {
         return SlackAnswer::NoPlan;
     }
     if !between(1, planner.top as u64, duration) {

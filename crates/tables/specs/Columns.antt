@@ -4,7 +4,7 @@ use mathlib.Core.List.{List}
 use mathlib.Core.Bool.{true, cond}
 use Prim.Native.Nat.{ℕ, suc, _+_, _*_, _≤_, _<_}
 use lib.ListN.{length, getD}
-use Rattle.cqf.specs.Bounded.{elem, distinct, every, row}
+use Rattle.cqf.specs.Bounded.{elem, distinct, every, sublist}
 use Rattle.cqf.specs.Limits.{portSlots, flowSlots, maxHops, portOk, minPeriod, maxPeriod, maxCount, maxLength}
 use Rattle.cqf.specs.Plan.{Plan}
 
@@ -32,7 +32,7 @@ pub record FlowColumns (periods counts lengths hops routes : List ℕ) : Type 0 
   pub routes-long : length routes ≡ flowSlots * maxHops
 
 -- a flow's slot that is empty or in range, over distinct ports; whether the ports are in the plan does not matter here
-pub record Ready (period count bytes hops : ℕ) (route : List ℕ) : Type 0 where
+pub record FlowInRange (period count bytes hops : ℕ) (route : List ℕ) : Type 0 where
   pub absent : period ≡ 0 → hops ≡ 0
   pub period-least : (period ≡ 0 → ⊥) → minPeriod ≤ period
   pub period-most : period ≤ maxPeriod
@@ -42,11 +42,11 @@ pub record Ready (period count bytes hops : ℕ) (route : List ℕ) : Type 0 whe
   pub ports : every portOk route ≡ true
   pub once : distinct route ≡ true
 
-pub record FlowsReady (periods counts lengths hops routes : List ℕ) : Type 0 where
+pub record FlowsInRange (periods counts lengths hops routes : List ℕ) : Type 0 where
   pub slot
       : (f : ℕ)
       → f < flowSlots
-      → Ready (getD periods f 0) (getD counts f 0) (getD lengths f 0) (getD hops f 0) (row routes (f * maxHops) (getD hops f 0))
+      → FlowInRange (getD periods f 0) (getD counts f 0) (getD lengths f 0) (getD hops f 0) (sublist routes (f * maxHops) (getD hops f 0))
 
 -- a table l that has v more than l₀ at each port of r, and as much elsewhere
 abbrev pub Marked : (l₀ l r : List ℕ) → ℕ → Type 0

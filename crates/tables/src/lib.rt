@@ -10,9 +10,9 @@ pub const FLOWS: usize = numbers::limits::MAX_FLOW as usize;
 
 pub const HOPS: usize = numbers::limits::MAX_HOPS as usize;
 
-mod sound; // sound.rt: whether the tables hold a plan that the rules accept
+mod valid; // valid.rt: whether the tables hold a plan that the rules accept
 
-pub use sound::formed;
+pub use valid::valid_plan;
 
 // The held plan: port n in slot n - 1, flow n in slot n - 1, a flow's route at its slot times 16. An absent port has rate 0,
 // an absent flow period 0; top is 0 where no plan is held.

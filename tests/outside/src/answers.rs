@@ -10,7 +10,7 @@ pub struct Answer {
 
 #[repr(C)]
 #[derive(Clone, Copy, PartialEq, Eq, Debug)]
-pub struct Slacked {
+pub struct SlackNumbers {
     pub refusal: u32,
     pub slack: i64,
 }
@@ -82,8 +82,8 @@ impl Answer {
     }
 }
 
-impl Slacked {
-    pub fn refused(refusal: u32) -> Slacked {
-        Slacked { refusal, slack: 0 }
+impl SlackNumbers {
+    pub fn refused(refusal: u32) -> SlackNumbers {
+        SlackNumbers { refusal, slack: 0 }
     }
 }

@@ -1,6 +1,6 @@
 //! The C interface of the planner. A Rust slice is never null, an empty one neither.
 
-use crate::answers::{Answer, FieldRead, Planner, Slacked};
+use crate::answers::{Answer, FieldRead, Planner, SlackNumbers};
 
 #[repr(C)]
 struct Loaded {
@@ -14,7 +14,7 @@ extern "C" {
     fn cp_empty() -> Planner;
     fn cp_load(planner: Planner, plan: *const u8, length: usize) -> Loaded;
     fn cp_check(planner: Planner, duration: u64) -> Answer;
-    fn cp_slack(planner: Planner, port: u64, duration: u64) -> Slacked;
+    fn cp_slack(planner: Planner, port: u64, duration: u64) -> SlackNumbers;
     fn cp_least(planner: Planner, scratch: *mut u64, length: usize) -> Answer;
     fn cp_margin_safe(planner: Planner, scratch: *mut u64, length: usize) -> Answer;
     fn cp_field(plan: *const u8, length: usize, offset: usize) -> FieldRead;
@@ -34,7 +34,7 @@ pub fn check(planner: &Planner, duration: u64) -> Answer {
     unsafe { cp_check(planner.clone(), duration) }
 }
 
-pub fn slack(planner: &Planner, port: u64, duration: u64) -> Slacked {
+pub fn slack(planner: &Planner, port: u64, duration: u64) -> SlackNumbers {
     unsafe { cp_slack(planner.clone(), port, duration) }
 }
 

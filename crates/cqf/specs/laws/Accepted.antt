@@ -6,13 +6,13 @@ use native.Mathlib.Nat.{div-add-mod', mod-lt, add-mul, suc-mul}
 use native.Mathlib.Omega.{arith}
 use lib.ListN.{length, getD}
 use Rattle.cqf.specs.Limits.{portSlots}
-use Rattle.cqf.specs.Plan.{Plan, routeOf, wellFormed}
+use Rattle.cqf.specs.Plan.{Plan, routeOf, validPlan}
 use Rattle.cqf.specs.Condition.{frames, admissible}
 use Rattle.cqf.specs.Emission.{Emission, Keeps, cyclesOf}
 use Rattle.cqf.specs.Run.{Places, source, isGone, running, run, overrun, overrunAt, queuedBits, Leaves}
 use Rattle.cqf.specs.LargeEnough.{OnTime}
 use Rattle.cqf.specs.laws.Bounded.{anyTo-none}
-use Rattle.cqf.specs.laws.Formed.{held-period, present-held}
+use Rattle.cqf.specs.laws.Valid.{held-period, present-held}
 use Rattle.cqf.specs.laws.Arrivals.{at-most, cycle-of}
 use Rattle.cqf.specs.laws.Places.{track, moved, run-goes, run-track, track-there, track-gone}
 use Rattle.cqf.specs.laws.Condition.{none-fails, no-overrun}
@@ -34,12 +34,12 @@ delay p T long t h end from to =
     let more = suc-mul h T in
     (omega arith, omega arith)
 
-module _ (p : Plan) (formed : wellFormed p ≡ true) (T : ℕ) (long : 0 < T) (good : admissible p T ≡ true) (e : Emission) (keeps : Keeps p e) where
+module _ (p : Plan) (valid : validPlan p ≡ true) (T : ℕ) (long : 0 < T) (good : admissible p T ≡ true) (e : Emission) (keeps : Keeps p e) where
   -- no flow emits more than its frames in a cycle
   few : (f own : ℕ) → emittedIn (cyclesOf T e) f own ≤ frames p f T
   few f own =
       at-most p e keeps f T own
-      (λ h. let flow = present-held p formed f h in (flow .count-least, held-period p f flow))
+      (λ h. let flow = present-held p valid f h in (flow .count-least, held-period p f flow))
       long
 
   -- no port leaves a frame unsent
@@ -52,7 +52,7 @@ module _ (p : Plan) (formed : wellFormed p ≡ true) (T : ℕ) (long : 0 < T) (g
       anyTo-none
       portSlots
       (λ q. overrunAt p T (queuedBits p (cyclesOf T e) places q) q)
-      (λ q l. no-overrun p T q _ (none-fails p T good q l) (bits-most p T (cyclesOf T e) c places goes formed few q))
+      (λ q l. no-overrun p T q _ (none-fails p T good q l) (bits-most p T (cyclesOf T e) c places goes valid few q))
 
   -- the run goes on
   pub goes-on : (c : ℕ) → (places : Places) × (run p T (cyclesOf T e) c ≡ running places)

@@ -91,7 +91,7 @@ pub at-most
     → 0 < T
     → countTo (length (cyclesOf T e f)) (λ k. eqb (getD (cyclesOf T e f) k 0) c) ≤ frames p f T
 unfolding countTo frames
-at-most p e keeps f T c sound h = go (present p f) refl
+at-most p e keeps f T c valid h = go (present p f) refl
   where
     in-cycle : (k : ℕ) → eqb (getD (cyclesOf T e f) k 0) c ≡ true → getD (e f) k 0 / T ≡ c
     in-cycle k q = sym (cycle-of T (e f) k) ∙ eqb-true _ _ q
@@ -115,5 +115,5 @@ at-most p e keeps f T c sound h = go (present p f) refl
         : (t : Bool)
         → present p f ≡ t
         → countTo (length (cyclesOf T e f)) (λ k. eqb (getD (cyclesOf T e f) k 0) c) ≤ frames p f T
-    go true q = count-within _ (length (cyclesOf T e f)) (frames p f T) (near (sound q .1))
+    go true q = count-within _ (length (cyclesOf T e f)) (frames p f T) (near (valid q .1))
     go false q = rw (keeps .absent f q) zero-le

@@ -8,11 +8,11 @@ use lib.Dec.{eqb, ltb}
 use borrow.Author.Tests.{eqb-true, eqb-false, ltb-true, ltb-false, lt-ltb, le-ltb}
 use Rattle.cqf.specs.Bounded.{countTo}
 use Rattle.cqf.specs.Limits.{portSlots, flowSlots}
-use Rattle.cqf.specs.Plan.{Plan, crosses, wellFormed}
+use Rattle.cqf.specs.Plan.{Plan, crosses, validPlan}
 use Rattle.cqf.specs.Condition.{bitsOf, wireBits, frames, demand, capacity, workload, crossed, fails, failing, admissible}
 use Rattle.cqf.specs.Run.{overrunAt}
 use Rattle.cqf.specs.laws.Bounded.{cond-some, countTo-zero, countTo-pos, sumTo-term, sumTo-pos, anyTo-true, anyTo-some}
-use Rattle.cqf.specs.laws.Formed.{Held, held-period, crosses-held}
+use Rattle.cqf.specs.laws.Valid.{Held, held-period, crosses-held}
 use Rattle.cqf.specs.laws.Ceil.{ceil-positive}
 
 -- more bits are more work
@@ -30,13 +30,13 @@ unfolding frames
 frames-pos p f flow long =
     mul-pos (flow .count-least) (ceil-positive long (held-period p f flow))
 
-pub demand-pos : (p : Plan) (q T : ℕ) → wellFormed p ≡ true → 0 < T → crossed p q ≡ true → 0 < demand p q T
+pub demand-pos : (p : Plan) (q T : ℕ) → validPlan p ≡ true → 0 < T → crossed p q ≡ true → 0 < demand p q T
 unfolding demand crossed
-demand-pos p q T formed long h =
+demand-pos p q T valid long h =
     let s = anyTo-true flowSlots (λ f. crosses p f q) h in
     let term = sumTo-term flowSlots (λ f. cond (crosses p f q) (frames p f T * wireBits p f q) 0) (s .0) (s .1) in
     le-trans
-    (mul-pos (frames-pos p (s .0) (crosses-held p formed (s .0) q (s .1) (s .2)) long) (wireBits-pos p (s .0) q))
+    (mul-pos (frames-pos p (s .0) (crosses-held p valid (s .0) q (s .1) (s .2)) long) (wireBits-pos p (s .0) q))
     (rw (s .2) at term)
 
 -- a port with a demand is crossed
@@ -63,7 +63,7 @@ some-fails p T bad = countTo-pos portSlots (fails p T) (above-zero (countTo port
 -- a port that does not fail leaves nothing unsent of bits up to its demand
 pub no-overrun : (p : Plan) (T q bits : ℕ) → fails p T q ≡ false → bits ≤ demand p q T → overrunAt p T bits q ≡ false
 unfolding overrunAt
-no-overrun p T q bits sound l = go (ltb 0 bits) refl
+no-overrun p T q bits valid l = go (ltb 0 bits) refl
   where
     fits
         : (x : Bool)
@@ -74,20 +74,20 @@ no-overrun p T q bits sound l = go (ltb 0 bits) refl
     fits false h e = absurd (false≢true h)
 
     go : (x : Bool) → ltb 0 bits ≡ x → x && ltb (capacity p q T) (workload p q bits) ≡ false
-    go true h = let some = ltb-true 0 bits h in fits (crossed p q) (demand-crossed p q T (omega arith)) (unfold fails in sound)
+    go true h = let some = ltb-true 0 bits h in fits (crossed p q) (demand-crossed p q T (omega arith)) (unfold fails in valid)
     go false h = refl
 
 -- a port that fails leaves a frame unsent of bits from its demand up
 pub overrun-at
     : (p : Plan) (q T : ℕ)
-    → wellFormed p ≡ true
+    → validPlan p ≡ true
     → 0 < T
     → (bits : ℕ)
     → fails p T q ≡ true
     → demand p q T ≤ bits
     → overrunAt p T bits q ≡ true
 unfolding overrunAt fails
-overrun-at p q T formed long bits failed l =
+overrun-at p q T valid long bits failed l =
     let h = and-eq-true-iff (crossed p q) (ltb (capacity p q T) (workload p q (demand p q T))) .0 failed in
     and-eq-true-iff (ltb 0 bits) (ltb (capacity p q T) (workload p q bits)) .1
-    (lt-ltb _ _ (le-trans (demand-pos p q T formed long (h .0)) l), lt-ltb _ _ (le-trans (ltb-true _ _ (h .1)) (workload-mono p q l)))
+    (lt-ltb _ _ (le-trans (demand-pos p q T valid long (h .0)) l), lt-ltb _ _ (le-trans (ltb-true _ _ (h .1)) (workload-mono p q l)))

@@ -5,7 +5,7 @@ use Prim.Native.Nat.{ℕ, _+_, _*_, _≤_}
 use native.Mathlib.Nat.{le-trans, mul-le-mul, mul-le-mul-left}
 use native.Mathlib.Numerals.{add-one}
 use native.Mathlib.Omega.{arith}
-use Rattle.cqf.specs.Bounded.{sumTo, elem, row}
+use Rattle.cqf.specs.Bounded.{sumTo, elem, sublist}
 use Rattle.cqf.specs.Limits.{flowSlots, maxTop}
 use Rattle.cqf.specs.Plan.{Plan, hopsOf, crosses}
 use Rattle.cqf.specs.Condition.{bitsOf, wireBits, ceilDiv, frames, demand}
@@ -41,7 +41,7 @@ bits-most T {period} {count} {bytes} l h c b =
 
 -- a flow that crosses no port brings nothing
 pub share-none : (p : Plan) (q T f : ℕ) → hopsOf p f ≡ 0 → share p q T f ≡ 0
-unfolding elem row
+unfolding elem sublist
 share-none p q T f e = rw e
 
 -- the sum with one flow more

@@ -1,4 +1,4 @@
--- Laws of the tests on lists of numbers, and of a row of a list.
+-- Laws of the tests on lists of numbers, and of a sublist of a list.
 use mathlib.Core.Path.{_≡_, refl, sym, ap, _∙_}
 use mathlib.Core.Bool.{Bool, true, false, not, _||_, false≢true, true≢false, or-true, and-eq-true-iff}
 use mathlib.Core.List.{List, [], _∷_}
@@ -8,7 +8,7 @@ use native.Mathlib.Omega.{arith}
 use lib.ListN.{length, getD}
 use lib.Dec.{eqb}
 use borrow.Author.Tests.{eqb-true, eq-eqb, not-true}
-use Rattle.cqf.specs.Bounded.{elem, distinct, every, row}
+use Rattle.cqf.specs.Bounded.{elem, distinct, every, sublist}
 
 -- a number that stands in a list stands at a position of it
 pub elem-index : (n : ℕ) (l : List ℕ) → elem n l ≡ true → (i : ℕ) × (i < length l) × (getD l i 0 ≡ n)
@@ -62,15 +62,15 @@ every-at b [] e i h = absurd (not-suc-le-zero h)
 every-at b (x ∷ xs) e zero h = and-eq-true-iff (b x) (every b xs) .0 e .0
 every-at b (x ∷ xs) e (suc i) h = every-at b xs (and-eq-true-iff (b x) (every b xs) .0 e .1) i (le-of-suc-le-suc h)
 
--- a row of h numbers has length h
-pub row-length : (l : List ℕ) (at h : ℕ) → length (row l at h) ≡ h
-unfolding row
-row-length l at zero = refl
-row-length l at (suc h) = ap suc (row-length l (suc at) h)
+-- a sublist of h numbers has length h
+pub sublist-length : (l : List ℕ) (at h : ℕ) → length (sublist l at h) ≡ h
+unfolding sublist
+sublist-length l at zero = refl
+sublist-length l at (suc h) = ap suc (sublist-length l (suc at) h)
 
--- number i of a row
-pub row-at : (l : List ℕ) (at h i : ℕ) → i < h → getD (row l at h) i 0 ≡ getD l (at + i) 0
-unfolding row
-row-at l at zero i less = absurd (not-suc-le-zero less)
-row-at l at (suc h) zero less = ap (λ (n : ℕ). getD l n 0) (omega arith)
-row-at l at (suc h) (suc i) less = row-at l (suc at) h i (le-of-suc-le-suc less) ∙ ap (λ (n : ℕ). getD l n 0) (omega arith)
+-- number i of a sublist
+pub sublist-at : (l : List ℕ) (at h i : ℕ) → i < h → getD (sublist l at h) i 0 ≡ getD l (at + i) 0
+unfolding sublist
+sublist-at l at zero i less = absurd (not-suc-le-zero less)
+sublist-at l at (suc h) zero less = ap (λ (n : ℕ). getD l n 0) (omega arith)
+sublist-at l at (suc h) (suc i) less = sublist-at l (suc at) h i (le-of-suc-le-suc less) ∙ ap (λ (n : ℕ). getD l n 0) (omega arith)

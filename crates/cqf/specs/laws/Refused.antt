@@ -12,14 +12,14 @@ use lib.Dec.{eqb}
 use borrow.Author.Tests.{eqb-true, eqb-false}
 use Rattle.cqf.specs.Bounded.{lowest}
 use Rattle.cqf.specs.Limits.{portSlots, flowSlots, maxHops}
-use Rattle.cqf.specs.Plan.{Plan, periodOf, countOf, hopsOf, routeOf, present, crosses, wellFormed}
+use Rattle.cqf.specs.Plan.{Plan, periodOf, countOf, hopsOf, routeOf, present, crosses, validPlan}
 use Rattle.cqf.specs.Condition.{frames, fails, admissible}
 use Rattle.cqf.specs.Emission.{Emission, Keeps, cyclesOf}
 use Rattle.cqf.specs.Run.{Places, Network, running, stopped, run, overrun, overrunAt, queuedBits, Overruns}
 use Rattle.cqf.specs.LargeEnough.{Counterexample}
 use Rattle.cqf.specs.laws.Bounded.{anyTo-some, lowest-passes, lowest-below}
-use Rattle.cqf.specs.laws.Lists.{elem-index, row-length}
-use Rattle.cqf.specs.laws.Formed.{Held, held-period, present-held, crosses-held, held-present}
+use Rattle.cqf.specs.laws.Lists.{elem-index, sublist-length}
+use Rattle.cqf.specs.laws.Valid.{Held, held-period, present-held, crosses-held, held-present}
 use Rattle.cqf.specs.laws.Burst.{burst, burst-rising, burst-spaced, burst-count}
 use Rattle.cqf.specs.laws.Condition.{some-fails, overrun-at}
 use Rattle.cqf.specs.laws.Places.{run-stops}
@@ -53,7 +53,7 @@ worst : Plan → ℕ → ℕ → Emission
 unfolding hop
 worst p T q f = cond (present p f && crosses p f q) (burst T (maxHops - hop p q f) (countOf p f) (periodOf p f)) []
 
-module _ (p : Plan) (formed : wellFormed p ≡ true) (T : ℕ) (long : 0 < T) (q : ℕ) where
+module _ (p : Plan) (valid : validPlan p ≡ true) (T : ℕ) (long : 0 < T) (q : ℕ) where
   -- what holds of no frames and of the burst of a flow holds of the emission
   worst-cases
       : (P : List ℕ → Type 0) (f : ℕ)
@@ -64,7 +64,7 @@ module _ (p : Plan) (formed : wellFormed p ≡ true) (T : ℕ) (long : 0 < T) (q
   worst-cases P f none some = go (present p f && crosses p f q) refl
     where
       go : (x : Bool) → present p f && crosses p f q ≡ x → P (cond x (burst T (maxHops - hop p q f) (countOf p f) (periodOf p f)) [])
-      go true h = some (present-held p formed f (and-eq-true-iff (present p f) (crosses p f q) .0 h .0))
+      go true h = some (present-held p valid f (and-eq-true-iff (present p f) (crosses p f q) .0 h .0))
       go false h = none
 
   -- it keeps every contract
@@ -101,7 +101,7 @@ module _ (p : Plan) (formed : wellFormed p ≡ true) (T : ℕ) (long : 0 < T) (q
       → crosses p f q ≡ true
       → worst p T q f ≡ burst T (maxHops - hop p q f) (countOf p f) (periodOf p f)
   unfolding worst
-  worst-burst f l h = rw (held-present p f l (crosses-held p formed f q l h), h)
+  worst-burst f l h = rw (held-present p f l (crosses-held p valid f q l h), h)
 
   worst-emitted
       : (f : ℕ)
@@ -110,7 +110,7 @@ module _ (p : Plan) (formed : wellFormed p ≡ true) (T : ℕ) (long : 0 < T) (q
       → frames p f T ≤ emittedIn (cyclesOf T (worst p T q)) f (maxHops - hop p q f)
   unfolding frames
   worst-emitted f l h =
-      let flow = crosses-held p formed f q l h in
+      let flow = crosses-held p valid f q l h in
       rw (worst-burst f l h)
       (le-of-eq (sym (burst-count T (maxHops - hop p q f) (countOf p f) (periodOf p f) long (flow .count-least) (held-period p f flow))))
 
@@ -124,7 +124,7 @@ module _ (p : Plan) (formed : wellFormed p ≡ true) (T : ℕ) (long : 0 < T) (q
       → frames p f T ≤ queuedOf (cyclesOf T (worst p T q)) places f q
   worst-queued places goes f l h =
       let at = hop-at p q f h in
-      let flow = crosses-held p formed f q l h in
+      let flow = crosses-held p valid f q l h in
       le-trans
       (worst-emitted f l h)
       (emitted-queued
@@ -140,7 +140,7 @@ module _ (p : Plan) (formed : wellFormed p ≡ true) (T : ℕ) (long : 0 < T) (q
       (maxHops - hop p q f)
       (at .0)
       (at .1)
-      (omega (arith, at .0, row-length (p .routes) (f * maxHops) (hopsOf p f), flow .hops-most)))
+      (omega (arith, at .0, sublist-length (p .routes) (f * maxHops) (hopsOf p f), flow .hops-most)))
 
   module _ (slot : q < portSlots) (failed : fails p T q ≡ true) where
     -- and the port leaves a frame unsent
@@ -156,7 +156,7 @@ module _ (p : Plan) (formed : wellFormed p ≡ true) (T : ℕ) (long : 0 < T) (q
         (λ s. overrunAt p T (queuedBits p (cyclesOf T (worst p T q)) places s) s)
         q
         slot
-        (overrun-at p q T formed long _ failed bits)
+        (overrun-at p q T valid long _ failed bits)
 
     -- there, unless the run has stopped before
     worst-overruns : Overruns p T (cyclesOf T (worst p T q))
@@ -171,11 +171,11 @@ module _ (p : Plan) (formed : wellFormed p ≡ true) (T : ℕ) (long : 0 < T) (q
             }
 
 -- a duration that is not admissible has its counterexample
-pub counterexample : (p : Plan) → wellFormed p ≡ true → (T : ℕ) → 0 < T → admissible p T ≡ false → Counterexample p T
-counterexample p formed T long bad =
+pub counterexample : (p : Plan) → validPlan p ≡ true → (T : ℕ) → 0 < T → admissible p T ≡ false → Counterexample p T
+counterexample p valid T long bad =
     let s = some-fails p T bad in
     record {
       emission = worst p T (s .0);
-      keeps = worst-keeps p formed T long (s .0);
-      overruns = worst-overruns p formed T long (s .0) (s .1) (s .2);
+      keeps = worst-keeps p valid T long (s .0);
+      overruns = worst-overruns p valid T long (s .0) (s .1) (s .2);
     }

@@ -9,18 +9,18 @@ use native.Mathlib.Omega.{arith}
 use lib.ListN.{getD}
 use lib.Dec.{eqb, leb}
 use borrow.Author.Tests.{ne-eqb, le-leb, lt-leb, lt-ltb, leb-true, not-true}
-use Rattle.cqf.specs.Bounded.{allTo, elem, distinct, every, row}
+use Rattle.cqf.specs.Bounded.{allTo, elem, distinct, every, sublist}
 use Rattle.cqf.specs.Limits.{portSlots, portOk}
 use Rattle.cqf.specs.Plan.{portIn}
 use Rattle.cqf.specs.laws.Bounded.{allTo-at}
 
--- one more port of a row
-pub row-more : (l : List ℕ) (at h : ℕ) → row l at (suc h) ≡ row l at h ++ (getD l (at + h) 0 ∷ [])
-unfolding row
-row-more l at zero = rw add-zero
-row-more l at (suc h) =
+-- one more port of a sublist
+pub sublist-more : (l : List ℕ) (at h : ℕ) → sublist l at (suc h) ≡ sublist l at h ++ (getD l (at + h) 0 ∷ [])
+unfolding sublist
+sublist-more l at zero = rw add-zero
+sublist-more l at (suc h) =
     ap (λ (r : List ℕ). getD l at 0 ∷ r)
-    (row-more l (suc at) h ∙ ap (λ (n : ℕ). row l (suc at) h ++ (getD l n 0 ∷ [])) (omega arith))
+    (sublist-more l (suc at) h ∙ ap (λ (n : ℕ). sublist l (suc at) h ++ (getD l n 0 ∷ [])) (omega arith))
 
 eqb-sym : (m n : ℕ) → eqb m n ≡ eqb n m
 eqb-sym m n = go (ℕ-discrete m n)
@@ -64,21 +64,21 @@ distinct-more (x ∷ r) m =
     go false true false k = refl
     go false false d k = refl
 
--- a route is sound where each port in turn passes the test and stands nowhere before
+-- a route is valid where each port in turn passes the test and stands nowhere before
 pub route-test
     : (b : ℕ → Bool) (l : List ℕ) (at h : ℕ)
-    → every b (row l at h) && distinct (row l at h)
-    ≡ allTo h (λ i. b (getD l (at + i) 0) && not (elem (getD l (at + i) 0) (row l at i)))
+    → every b (sublist l at h) && distinct (sublist l at h)
+    ≡ allTo h (λ i. b (getD l (at + i) 0) && not (elem (getD l (at + i) 0) (sublist l at i)))
 unfolding allTo
-route-test b l at zero = unfold row every distinct in refl
+route-test b l at zero = unfold sublist every distinct in refl
 route-test b l at (suc h) =
     rw (
-      row-more l at h,
-      every-more b (row l at h) (getD l (at + h) 0),
-      distinct-more (row l at h) (getD l (at + h) 0),
+      sublist-more l at h,
+      every-more b (sublist l at h) (getD l (at + h) 0),
+      distinct-more (sublist l at h) (getD l (at + h) 0),
       ← route-test b l at h,
     )
-    (go (every b (row l at h)) (distinct (row l at h)) (b (getD l (at + h) 0)) (not (elem (getD l (at + h) 0) (row l at h))))
+    (go (every b (sublist l at h)) (distinct (sublist l at h)) (b (getD l (at + h) 0)) (not (elem (getD l (at + h) 0) (sublist l at h))))
   where
     go : (e d x y : Bool) → (e && x) && (d && y) ≡ (e && d) && (x && y)
     go true true x y = refl
@@ -109,13 +109,13 @@ module _ (rates : List ℕ) (n : ℕ) where
   portIn-there some fits e =
       rw (le-leb 1 n some, le-leb n portSlots fits, rate-at some, lt-ltb 0 (getD rates (n - 1) 0) (omega (arith, e)))
 
--- the port at i of a sound route: in range, and nowhere before
+-- the port at i of a valid route: in range, and nowhere before
 pub next-port
     : (l : List ℕ) (at h i : ℕ)
-    → every portOk (row l at h) ≡ true
-    → distinct (row l at h) ≡ true
+    → every portOk (sublist l at h) ≡ true
+    → distinct (sublist l at h) ≡ true
     → i < h
-    → (0 < getD l (at + i) 0) × (getD l (at + i) 0 ≤ portSlots) × (elem (getD l (at + i) 0) (row l at i) ≡ false)
+    → (0 < getD l (at + i) 0) × (getD l (at + i) 0 ≤ portSlots) × (elem (getD l (at + i) 0) (sublist l at i) ≡ false)
 next-port l at h i ports once less =
     let all = sym (route-test portOk l at h) ∙ and-eq-true-iff _ _ .1 (ports, once) in
     let t = simp and-eq-true-iff at (allTo-at h _ all i less) in

@@ -6,7 +6,7 @@ use native.Mathlib.Nat.{le-refl, le-trans}
 use native.Mathlib.Decide.{decLt, decLe}
 use native.Mathlib.Omega.{arith}
 use Rattle.cqf.specs.Limits.{portSlots}
-use Rattle.cqf.specs.Plan.{Plan, rateOf, wellFormed}
+use Rattle.cqf.specs.Plan.{Plan, rateOf, validPlan}
 use Rattle.cqf.specs.Condition.{demand, capacity, workload, fails, admissible, least, marginSafe}
 use Rattle.cqf.specs.laws.Condition.{demand-pos, demand-crossed}
 use Rattle.cqf.specs.laws.Need.{need, workload-positive, enough, needed, fails-crossed, fails-over, over-of-fails, admissible-none, not-admissible, jump-up, jump-down}
@@ -25,10 +25,10 @@ pub record Descended (p : Plan) (t : ℕ) : Type 0 where
   pub within : t ≤ suc (p .top)
   pub safe : (u : ℕ) → t ≤ u → u ≤ p .top → admissible p u ≡ true
 
-module _ (p : Plan) (formed : wellFormed p ≡ true) where
+module _ (p : Plan) (valid : validPlan p ≡ true) where
   -- a port with a demand has a rate; it fails exactly where it needs more than the duration
   pub busy-rate : (t q : ℕ) → 0 < demand p q t → 0 < rateOf p q
-  busy-rate t q l = crossed-rate p formed q (demand-crossed p q t l)
+  busy-rate t q l = crossed-rate p valid q (demand-crossed p q t l)
 
   pub fails-need : (t q : ℕ) → fails p t q ≡ true → t < need p q t
   fails-need t q e = over (decLt t (need p q t))
@@ -36,7 +36,7 @@ module _ (p : Plan) (formed : wellFormed p ≡ true) where
       over : Dec (t < need p q t) → t < need p q t
       over (yes l) = l
       over (no l) =
-          absurd (omega (arith, over-of-fails p t q e, enough p q (demand p q t) t (crossed-rate p formed q (fails-crossed p t q e)) (omega arith)))
+          absurd (omega (arith, over-of-fails p t q e, enough p q (demand p q t) t (crossed-rate p valid q (fails-crossed p t q e)) (omega arith)))
 
   pub need-fails : (t q : ℕ) → 0 < demand p q t → t < need p q t → fails p t q ≡ true
   need-fails t q some less = fails-over p t q (demand-crossed p q t some) (over (decLt _ _))
@@ -47,7 +47,7 @@ module _ (p : Plan) (formed : wellFormed p ≡ true) where
           absurd (omega (arith, needed p q (demand p q t) t (busy-rate t q some) (workload-positive p q some) (omega arith)))
 
   pub climb-start : Climbed p 1
-  climb-start = record { first = le-refl 1; within = top-positive p formed; none = λ u h l. absurd (omega arith) }
+  climb-start = record { first = le-refl 1; within = top-positive p valid; none = λ u h l. absurd (omega arith) }
 
   -- where no port fails, this is the least duration
   pub climb-found : (t : ℕ) → Climbed p t → ((q : ℕ) → q < portSlots → fails p t q ≡ false) → least p ≡ t
@@ -62,7 +62,7 @@ module _ (p : Plan) (formed : wellFormed p ≡ true) where
         go (yes less) = s .none u h less
         go (no more) =
             not-admissible p u q slot
-            (jump-up p t u q (crossed-rate p formed q (fails-crossed p t q e)) e (omega arith) l)
+            (jump-up p t u q (crossed-rate p valid q (fails-crossed p t q e)) e (omega arith) l)
 
     pub climb-next : need p q t ≤ p .top → Climbed p (need p q t)
     climb-next l = record { first = omega (arith, fails-need t q e); within = l; none = passed }
@@ -75,7 +75,7 @@ module _ (p : Plan) (formed : wellFormed p ≡ true) where
 
   -- at 1 there is nothing further down
   pub descent-bottom : Descended p 1 → marginSafe p ≡ 1
-  descent-bottom s = margin-safe-is p 1 (le-refl 1) (top-positive p formed) (s .safe) (λ t h e. absurd (omega arith))
+  descent-bottom s = margin-safe-is p 1 (le-refl 1) (top-positive p valid) (s .safe) (λ t h e. absurd (omega arith))
 
   -- a port that fails one below ends the search
   pub descent-stop : (u q : ℕ) → 1 ≤ u → Descended p (suc u) → q < portSlots → fails p u q ≡ true → marginSafe p ≡ suc u
@@ -90,7 +90,7 @@ module _ (p : Plan) (formed : wellFormed p ≡ true) where
           (λ t _ d. ap (admissible p) (omega arith) ∙ bad)
       go (no l) =
           let top : u ≡ p .top = omega (arith, s .within) in
-          margin-safe-none p (top-positive p formed) .1 (ap (admissible p) (sym top) ∙ bad) ∙ ap suc (sym top)
+          margin-safe-none p (top-positive p valid) .1 (ap (admissible p) (sym top) ∙ bad) ∙ ap suc (sym top)
 
   -- where no port needs more than m for its demand one below, all from m are admissible
   pub descent-next
@@ -108,6 +108,6 @@ module _ (p : Plan) (formed : wellFormed p ≡ true) where
           go : Dec (v ≤ u) → admissible p v ≡ true
           go (yes below) =
               jump-down p u v
-              (λ q slot c. (crossed-rate p formed q c, le-trans (fits q slot (demand-pos p q u formed (omega arith) c)) from))
+              (λ q slot c. (crossed-rate p valid q c, le-trans (fits q slot (demand-pos p q u valid (omega arith) c)) from))
               below
           go (no above) = s .safe v (omega arith) most

@@ -11,13 +11,13 @@ use lib.Dec.{eqb}
 use borrow.Author.Tests.{eq-eqb, eqb-true}
 use Rattle.cqf.specs.Bounded.{countTo, distinct}
 use Rattle.cqf.specs.Limits.{flowSlots}
-use Rattle.cqf.specs.Plan.{Plan, routeOf, crosses, wellFormed}
+use Rattle.cqf.specs.Plan.{Plan, routeOf, crosses, validPlan}
 use Rattle.cqf.specs.Condition.{wireBits, frames, demand}
 use Rattle.cqf.specs.Emission.{Cycles}
 use Rattle.cqf.specs.Run.{Places, isQueuedAt, running, run, queuedBits}
 use Rattle.cqf.specs.laws.Bounded.{sumTo-le, countTo-le, countTo-none}
 use Rattle.cqf.specs.laws.Lists.{elem-index, elem-none, distinct-index}
-use Rattle.cqf.specs.laws.Formed.{crosses-held}
+use Rattle.cqf.specs.laws.Valid.{crosses-held}
 use Rattle.cqf.specs.laws.Places.{run-track, track-queued, queued-track}
 
 -- how many frames of flow f are emitted in cycle c
@@ -73,12 +73,12 @@ module _ (p : Plan) (T : ℕ) (cycles : Cycles) (c : ℕ) (places : Places) (goe
 
   -- no more than its demand, where no flow emits more than its frames in a cycle
   pub bits-most
-      : wellFormed p ≡ true
+      : validPlan p ≡ true
       → ((f own : ℕ) → emittedIn cycles f own ≤ frames p f T)
       → (q : ℕ)
       → queuedBits p cycles places q ≤ demand p q T
   unfolding queuedBits demand
-  bits-most formed few q = sumTo-le flowSlots _ _ (λ f l. flow f l (crosses p f q) refl)
+  bits-most valid few q = sumTo-le flowSlots _ _ (λ f l. flow f l (crosses p f q) refl)
     where
       flow
           : (f : ℕ)
@@ -90,7 +90,7 @@ module _ (p : Plan) (T : ℕ) (cycles : Cycles) (c : ℕ) (places : Places) (goe
           let t = elem-index (suc q) (routeOf p f) h in
           mul-le-mul-right
           (wireBits p f q)
-          (le-trans (queued-emitted f q (t .0) (crosses-held p formed f q l h .once) (t .1) (t .2)) (few f (c - suc (t .0))))
+          (le-trans (queued-emitted f q (t .0) (crosses-held p valid f q l h .once) (t .1) (t .2)) (few f (c - suc (t .0))))
       flow f l false h = rw (queued-none f q h) (le-of-eq (zero-mul (wireBits p f q)))
 
   -- no less than its demand, where each flow that crosses it has all its frames queued there

@@ -1,4 +1,4 @@
--- A draft stays sound with each field that is added to it.
+-- A draft stays valid with each field that is added to it.
 use mathlib.Core.Path.{_≡_, refl}
 use mathlib.Core.Logic.{_⊎_, inl, inr}
 use mathlib.Core.List.{List}
@@ -13,27 +13,27 @@ use lib.Seq.{getD-set-same, getD-set-other}
 use borrow.Author.Tests.{lt-ltb}
 use Rattle.cqf.specs.Bounded.{every, distinct}
 use Rattle.cqf.specs.Limits.{portSlots, flowSlots, maxHops, guardOk, topOk}
-use Rattle.cqf.specs.Plan.{Plan, noPlan, periodOf, routeOf, present, portIn, portSound}
+use Rattle.cqf.specs.Plan.{Plan, noPlan, periodOf, routeOf, present, portIn, validPort}
 use Rattle.plan.specs.Field.{header, port, flow, routeIn}
 use Rattle.plan.specs.Draft.{Draft, blank, store, added}
 use Rattle.plan.specs.laws.Passes.{HeaderPasses, PortPasses, FlowPasses}
 use Rattle.plan.specs.laws.Within.{within-low, within-high, slot-below}
-use Rattle.plan.specs.laws.Slots.{soundIn, sound-hops, port-kept, flow-kept, port-filled, flow-filled}
+use Rattle.plan.specs.laws.Slots.{validIn, valid-hops, port-kept, flow-kept, port-filled, flow-filled}
 use Rattle.plan.specs.laws.Tables
 use Rattle.plan.specs.laws.Tables.{Sized, sized-none, sized-store}
 
--- the draft's tables are sound, but for the ports that its routes name: those are in the plan of these rates
-pub record Sound (rates : List ℕ) (d : Draft) : Type 0 where
+-- the draft's tables are valid, but for the ports that its routes name: those are in the plan of these rates
+pub record ValidDraft (rates : List ℕ) (d : Draft) : Type 0 where
   pub sized : Sized (d .tables)
   pub guard : guardOk (d .tables .guard) ≡ true
   pub top : eqb (d .tables .top) 0 || topOk (d .tables .top) ≡ true
-  pub ports : (q : ℕ) → q < portSlots → portSound (d .tables) q ≡ true
-  pub flows : (f : ℕ) → f < flowSlots → soundIn rates (d .tables) f ≡ true
+  pub ports : (q : ℕ) → q < portSlots → validPort (d .tables) q ≡ true
+  pub flows : (f : ℕ) → f < flowSlots → validIn rates (d .tables) f ≡ true
   pub some : (d .flows ≡ 0) ⊎ ((f : ℕ) × (f < flowSlots) × (present (d .tables) f ≡ true))
 
-pub sound-blank : (rates : List ℕ) → Sound rates blank
-unfolding blank noPlan portSound soundIn
-sound-blank rates =
+pub blank-valid : (rates : List ℕ) → ValidDraft rates blank
+unfolding blank noPlan validPort validIn
+blank-valid rates =
     record {
       sized = sized-none;
       guard = refl;
@@ -43,14 +43,14 @@ sound-blank rates =
       some = inl refl;
     }
 
--- a header keeps the tables sound
-pub header-sound
+-- a header keeps the tables valid
+pub header-valid
     : (rates : List ℕ) (d : Draft) (tag g t : ℕ) (v : List ℕ)
     → HeaderPasses tag v g t
-    → Sound rates d
-    → Sound rates (added d (header g t) v)
-unfolding added store portSound soundIn
-header-sound rates d tag g t v h s =
+    → ValidDraft rates d
+    → ValidDraft rates (added d (header g t) v)
+unfolding added store validPort validIn
+header-valid rates d tag g t v h s =
     record {
       sized = sized-store (d .tables) (header g t) v (s .sized);
       guard = h .ok .guard;
@@ -61,13 +61,13 @@ header-sound rates d tag g t v h s =
     }
 
 -- so does a port
-pub port-sound
+pub port-valid
     : (rates : List ℕ) (d : Draft) (tag n r b : ℕ) (v : List ℕ)
     → PortPasses tag v n r b
-    → Sound rates d
-    → Sound rates (added d (port n r b) v)
-unfolding added store soundIn
-port-sound rates d tag n r b v h s =
+    → ValidDraft rates d
+    → ValidDraft rates (added d (port n r b) v)
+unfolding added store validIn
+port-valid rates d tag n r b v h s =
     record {
       sized = sized-store (d .tables) (port n r b) v (s .sized);
       guard = s .guard;
@@ -83,7 +83,7 @@ port-sound rates d tag n r b v h s =
     fits : n - 1 < portSlots
     fits = slot-below portSlots n (h .ok .number)
 
-    slot : (q : ℕ) → q < portSlots → Dec (q ≡ n - 1) → portSound (store p (port n r b) v) q ≡ true
+    slot : (q : ℕ) → q < portSlots → Dec (q ≡ n - 1) → validPort (store p (port n r b) v) q ≡ true
     slot q l (yes e) =
         port-filled (store p (port n r b) v) q
         (rw (e, getD-set-same (p .rates) (n - 1) r 0 (rw (s .sized .rates) fits)) (h .ok .rate))
@@ -95,15 +95,15 @@ port-sound rates d tag n r b v h s =
         (s .ports q l)
 
 -- and a flow over distinct ports of the plan
-pub flow-sound
+pub flow-valid
     : (rates : List ℕ) (d : Draft) (tag n t c l h : ℕ) (v : List ℕ)
     → FlowPasses tag v n t c l h
     → distinct (routeIn v) ≡ true
     → every (portIn rates) (routeIn v) ≡ true
-    → Sound rates d
-    → Sound rates (added d (flow n t c l h) v)
-unfolding added store portSound
-flow-sound rates d tag n t c l h v k once named s =
+    → ValidDraft rates d
+    → ValidDraft rates (added d (flow n t c l h) v)
+unfolding added store validPort
+flow-valid rates d tag n t c l h v k once named s =
     record {
       sized = sized-store (d .tables) (flow n t c l h) v (s .sized);
       guard = s .guard;
@@ -136,7 +136,7 @@ flow-sound rates d tag n t c l h v k once named s =
         let long : 0 < t = omega (arith, within-low _ _ t (k .ok .period)) in
         rw (lt-ltb (n - 1) flowSlots fits, period, lt-ltb 0 t long)
 
-    new : soundIn rates o (n - 1) ≡ true
+    new : validIn rates o (n - 1) ≡ true
     new =
         flow-filled rates o (n - 1)
         (rw period (k .ok .period))
@@ -146,7 +146,7 @@ flow-sound rates d tag n t c l h v k once named s =
         (rw route named)
         (rw route once)
 
-    slot : (f : ℕ) → f < flowSlots → Dec (f ≡ n - 1) → soundIn rates o f ≡ true
+    slot : (f : ℕ) → f < flowSlots → Dec (f ≡ n - 1) → validIn rates o f ≡ true
     slot f less (yes e) = rw e new
     slot f less (no ne) =
         flow-kept rates p o f
@@ -154,5 +154,5 @@ flow-sound rates d tag n t c l h v k once named s =
         (Tables.kept-count p n t c l h v f ne)
         (Tables.kept-bytes p n t c l h v f ne)
         (Tables.kept-hops p n t c l h v f ne)
-        (Tables.kept-route p n t c l h v f ne (k .hops) short (sound-hops rates p f (s .flows f less)))
+        (Tables.kept-route p n t c l h v f ne (k .hops) short (valid-hops rates p f (s .flows f less)))
         (s .flows f less)

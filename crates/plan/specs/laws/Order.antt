@@ -49,11 +49,11 @@ walk-stored
     → Stored bs d e
 unfolding flatten
 walk-stored [] s front at d e p q h (done same end) = nothing same
-walk-stored [] s front at d e p q h (one x after less stands fresh simple rest) =
+walk-stored [] s front at d e p q h (one x after less stands fresh no-repeat rest) =
     absurd (omega (arith, ap length (p ∙ append-nil front)))
 walk-stored (b ∷ bs) s front at d e p q (more is h) (done same end) =
     absurd (omega (arith, ap length p, length-append front (b ++ flatten bs), length-append b (flatten bs), is .headed))
-walk-stored (b ∷ bs) s front at d e p q (more is h) (one x after less stands fresh simple rest) =
+walk-stored (b ∷ bs) s front at d e p q (more is h) (one x after less stands fresh no-repeat rest) =
     let r = field-passes s at x after stands in
     let tag : tagAt s at ≡ tagAt b 0 = rw (p, q) (tag-inside front b (flatten bs) is) in
     let size : sizeAt s at ≡ sizeAt b 0 = rw (p, q) (size-inside front b (flatten bs) is) in

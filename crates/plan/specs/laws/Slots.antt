@@ -8,18 +8,18 @@ use lib.Dec.{eqb}
 use borrow.Author.Tests.{leb-true, eqb-true}
 use Rattle.cqf.specs.Bounded.{every, distinct}
 use Rattle.cqf.specs.Limits.{maxHops, rateOk, blockingOk, lengthOk, periodOk, countOk, hopsOk}
-use Rattle.cqf.specs.Plan.{Plan, rateOf, blockingOf, periodOf, countOf, lengthOf, hopsOf, routeOf, portIn, portSound}
+use Rattle.cqf.specs.Plan.{Plan, rateOf, blockingOf, periodOf, countOf, lengthOf, hopsOf, routeOf, portIn, validPort}
 use Rattle.cqf.specs.laws.Bounded.{or-cases}
 use Rattle.cqf.specs.laws.Slot.{emptyAt, heldAt}
 
 -- whether slot f is empty, or holds a flow in range over distinct ports with these rates
-unfoldable pub soundIn : List ℕ → Plan → ℕ → Bool
-soundIn rates p f = emptyAt p f || heldAt rates p f
+unfoldable pub validIn : List ℕ → Plan → ℕ → Bool
+validIn rates p f = emptyAt p f || heldAt rates p f
 
--- a sound slot has at most 16 hops
-pub sound-hops : (rates : List ℕ) (p : Plan) (f : ℕ) → soundIn rates p f ≡ true → hopsOf p f ≤ maxHops
-unfolding soundIn
-sound-hops rates p f e = or-cases (emptyAt p f) (heldAt rates p f) e empty held
+-- a valid slot has at most 16 hops
+pub valid-hops : (rates : List ℕ) (p : Plan) (f : ℕ) → validIn rates p f ≡ true → hopsOf p f ≤ maxHops
+unfolding validIn
+valid-hops rates p f e = or-cases (emptyAt p f) (heldAt rates p f) e empty held
   where
     empty : emptyAt p f ≡ true → hopsOf p f ≤ maxHops
     empty h = let t = simp and-eq-true-iff at h in omega (arith, eqb-true (hopsOf p f) 0 (t .1))
@@ -27,14 +27,14 @@ sound-hops rates p f e = or-cases (emptyAt p f) (heldAt rates p f) e empty held
     held : heldAt rates p f ≡ true → hopsOf p f ≤ maxHops
     held h = let t = simp and-eq-true-iff at h in leb-true _ _ (t .0 .0 .1 .1)
 
--- a slot whose numbers stay is as sound as it was
+-- a slot whose numbers stay is as valid as it was
 pub port-kept
     : (p o : Plan) (q : ℕ)
     → rateOf o q ≡ rateOf p q
     → blockingOf o q ≡ blockingOf p q
-    → portSound p q ≡ true
-    → portSound o q ≡ true
-unfolding portSound
+    → validPort p q ≡ true
+    → validPort o q ≡ true
+unfolding validPort
 port-kept p o q a b h = rw (a, b) h
 
 pub flow-kept
@@ -44,14 +44,14 @@ pub flow-kept
     → lengthOf o f ≡ lengthOf p f
     → hopsOf o f ≡ hopsOf p f
     → routeOf o f ≡ routeOf p f
-    → soundIn rates p f ≡ true
-    → soundIn rates o f ≡ true
-unfolding soundIn
+    → validIn rates p f ≡ true
+    → validIn rates o f ≡ true
+unfolding validIn
 flow-kept rates p o f a b c d e h = rw (e, a, b, c, d) h
 
--- a slot with a port, or a flow, in range is sound
-pub port-filled : (p : Plan) (q : ℕ) → rateOk (rateOf p q) ≡ true → blockingOk (blockingOf p q) ≡ true → portSound p q ≡ true
-unfolding portSound
+-- a slot with a port, or a flow, in range is valid
+pub port-filled : (p : Plan) (q : ℕ) → rateOk (rateOf p q) ≡ true → blockingOk (blockingOf p q) ≡ true → validPort p q ≡ true
+unfolding validPort
 port-filled p q a b = rw (a, b) (or-true (eqb (rateOf p q) 0 && eqb (blockingOf p q) 0))
 
 pub flow-filled
@@ -62,6 +62,6 @@ pub flow-filled
     → hopsOk (hopsOf p f) ≡ true
     → every (portIn rates) (routeOf p f) ≡ true
     → distinct (routeOf p f) ≡ true
-    → soundIn rates p f ≡ true
-unfolding soundIn
+    → validIn rates p f ≡ true
+unfolding validIn
 flow-filled rates p f a b c d e g = rw (a, b, c, d, e, g) (or-true (emptyAt p f))

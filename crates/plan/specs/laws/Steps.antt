@@ -9,7 +9,7 @@ use lib.Dec.{ltb}
 use lib.ListN.{length}
 use Rattle.plan.specs.Bytes.{headSize, valueAt}
 use Rattle.plan.specs.Field.{Field, header, port, flow, FieldRead, field, refused, fieldAt}
-use Rattle.plan.specs.Draft.{Draft, taken, loops, added, portsIn, flowsIn}
+use Rattle.plan.specs.Draft.{Draft, taken, fieldRepeats, added, portsIn, flowsIn}
 use Rattle.plan.specs.Reading.{rejected, Step, stop, more, fieldStep, stepAt, closing, readFrom}
 use Rattle.plan.specs.laws.Found.{found-forward, found-within}
 
@@ -27,46 +27,46 @@ module _ (s : List ℕ) (at : ℕ) (d : Draft) (x : Field) (m : ℕ) (f : fieldA
   pub step-taken : taken (d .tables) x ≡ true → stepAt s at d ≡ stop 6 at
   step-taken e = passed ∙ rw e
 
-  pub step-loops : taken (d .tables) x ≡ false → loops x (valueAt s at) ≡ true → stepAt s at d ≡ stop 7 at
-  step-loops e g = passed ∙ rw (e, g)
+  pub step-repeats : taken (d .tables) x ≡ false → fieldRepeats x (valueAt s at) ≡ true → stepAt s at d ≡ stop 7 at
+  step-repeats e g = passed ∙ rw (e, g)
 
-  pub step-added : taken (d .tables) x ≡ false → loops x (valueAt s at) ≡ false → stepAt s at d ≡ more m (added d x (valueAt s at))
+  pub step-added : taken (d .tables) x ≡ false → fieldRepeats x (valueAt s at) ≡ false → stepAt s at d ≡ more m (added d x (valueAt s at))
   step-added e g = passed ∙ rw (e, g)
 
 -- a field that was not refused
-pub record Stepped (s : List ℕ) (at : ℕ) (d : Draft) (next : ℕ) (e : Draft) : Type 0 where
+pub record StepOutcome (s : List ℕ) (at : ℕ) (d : Draft) (next : ℕ) (e : Draft) : Type 0 where
   pub part : Field
   pub stands : fieldAt s at ≡ field part next
   pub fresh : taken (d .tables) part ≡ false
-  pub simple : loops part (valueAt s at) ≡ false
+  pub no-repeat : fieldRepeats part (valueAt s at) ≡ false
   pub adds : added d part (valueAt s at) ≡ e
 
-pub step-more : (s : List ℕ) (at : ℕ) (d : Draft) (next : ℕ) (e : Draft) → stepAt s at d ≡ more next e → Stepped s at d next e
+pub step-more : (s : List ℕ) (at : ℕ) (d : Draft) (next : ℕ) (e : Draft) → stepAt s at d ≡ more next e → StepOutcome s at d next e
 unfolding stepAt
 step-more s at d next e h = go (fieldAt s at) refl h
   where
-    go : (r : FieldRead) → fieldAt s at ≡ r → fieldStep s at d r ≡ more next e → Stepped s at d next e
+    go : (r : FieldRead) → fieldAt s at ≡ r → fieldStep s at d r ≡ more next e → StepOutcome s at d next e
     go (refused number offset) q h = let z : _≡_ {A = ℕ} 0 1 = cc in absurd (omega arith)
     go (field x after) q h = six (taken (d .tables) x) refl h
       where
         seven
             : taken (d .tables) x ≡ false
             → (b : Bool)
-            → loops x (valueAt s at) ≡ b
+            → fieldRepeats x (valueAt s at) ≡ b
             → cond b (stop 7 at) (more after (added d x (valueAt s at))) ≡ more next e
-            → Stepped s at d next e
+            → StepOutcome s at d next e
         seven t true l h = let z : _≡_ {A = ℕ} 0 1 = cc in absurd (omega arith)
         seven t false l h =
             let to : after ≡ next = cc in
-            record { part = x; stands = rw (← to) q; fresh = t; simple = l; adds = cc }
+            record { part = x; stands = rw (← to) q; fresh = t; no-repeat = l; adds = cc }
 
         six
             : (b : Bool)
             → taken (d .tables) x ≡ b
-            → cond b (stop 6 at) (cond (loops x (valueAt s at)) (stop 7 at) (more after (added d x (valueAt s at)))) ≡ more next e
-            → Stepped s at d next e
+            → cond b (stop 6 at) (cond (fieldRepeats x (valueAt s at)) (stop 7 at) (more after (added d x (valueAt s at)))) ≡ more next e
+            → StepOutcome s at d next e
         six true t h = let z : _≡_ {A = ℕ} 0 1 = cc in absurd (omega arith)
-        six false t h = seven t (loops x (valueAt s at)) refl h
+        six false t h = seven t (fieldRepeats x (valueAt s at)) refl h
 
 -- a step that goes on reaches a later offset within the plan, and has counted one field more at the most
 pub record Onward (s : List ℕ) (at : ℕ) (d : Draft) (next : ℕ) (d′ : Draft) : Type 0 where

@@ -1,4 +1,4 @@
--- A row of whole fields, stored one after the other: what it leaves does not hang on their order.
+-- A sequence of whole fields, stored one after the other: what it leaves does not hang on their order.
 use mathlib.Core.Path.{_≡_, sym, _∙_, subst}
 use mathlib.Core.List.{List, [], _∷_, List·Permᴰ, List·Permᴰ·nil, List·Permᴰ·cons, List·Permᴰ·swap, List·Permᴰ·trans}
 use mathlib.Core.Bool.{false}

@@ -1,4 +1,4 @@
--- Laws of a row of numbers that is stored into a table.
+-- Laws of a sublist of numbers that is stored into a table.
 use mathlib.Core.Path.{_≡_, refl, ap, _∙_}
 use mathlib.Core.Logic.{_≢_, _⊎_, inl, inr}
 use mathlib.Core.List.{List, [], _∷_}
@@ -6,7 +6,7 @@ use Prim.Native.Nat.{ℕ, zero, suc, _+_, _≤_, _<_}
 use native.Mathlib.Omega.{arith}
 use lib.ListN.{length, getD, set, length-set}
 use lib.Seq.{sets, getD-set-same, getD-set-other, set-comm}
-use Rattle.cqf.specs.Bounded.{row}
+use Rattle.cqf.specs.Bounded.{sublist}
 
 -- position j lies outside the n positions from i on
 abbrev pub Outside : ℕ → ℕ → ℕ → Type 0
@@ -21,34 +21,34 @@ outside-first : {j : ℕ} (i n : ℕ) → Outside j i (suc n) → j ≢ i
 outside-first i n (inl l) = omega arith
 outside-first i n (inr l) = omega arith
 
--- outside the row every number stays
+-- outside the sublist every number stays
 pub sets-outside : (l : List ℕ) (i : ℕ) (vs : List ℕ) (j : ℕ) → Outside j i (length vs) → getD (sets l i vs) j 0 ≡ getD l j 0
 sets-outside l i [] j o = refl
 sets-outside l i (a ∷ vs) j o =
     sets-outside (set l i a) (suc i) vs j (outside-rest i (length vs) o)
     ∙ getD-set-other l i j a 0 (outside-first i (length vs) o)
 
--- the row reads back
-pub row-sets : (l : List ℕ) (i : ℕ) (vs : List ℕ) → i + length vs ≤ length l → row (sets l i vs) i (length vs) ≡ vs
-unfolding row
-row-sets l i [] h = refl
-row-sets l i (a ∷ vs) h =
+-- the sublist reads back
+pub sublist-sets : (l : List ℕ) (i : ℕ) (vs : List ℕ) → i + length vs ≤ length l → sublist (sets l i vs) i (length vs) ≡ vs
+unfolding sublist
+sublist-sets l i [] h = refl
+sublist-sets l i (a ∷ vs) h =
     let first : getD (sets (set l i a) (suc i) vs) i 0 ≡ a =
     sets-outside (set l i a) (suc i) vs i (inl (omega arith)) ∙ getD-set-same l i a 0 (omega arith) in
     let fits : suc i + length vs ≤ length (set l i a) = rw length-set (omega arith) in
-    rw (first, row-sets (set l i a) (suc i) vs fits)
+    rw (first, sublist-sets (set l i a) (suc i) vs fits)
 
--- rows that agree number by number are equal
-pub row-same
+-- sublists that agree number by number are equal
+pub sublist-same
     : (l m : List ℕ) (at h : ℕ)
     → ((k : ℕ) → at ≤ k → k < at + h → getD l k 0 ≡ getD m k 0)
-    → row l at h ≡ row m at h
-unfolding row
-row-same l m at zero same = refl
-row-same l m at (suc h) same =
-    rw (same at (omega arith) (omega arith), row-same l m (suc at) h (λ k a b. same k (omega arith) (omega arith)))
+    → sublist l at h ≡ sublist m at h
+unfolding sublist
+sublist-same l m at zero same = refl
+sublist-same l m at (suc h) same =
+    rw (same at (omega arith) (omega arith), sublist-same l m (suc at) h (λ k a b. same k (omega arith) (omega arith)))
 
--- a store outside the row comes before or after the row's
+-- a store outside the sublist comes before or after the sublist's
 set-sets
     : (l : List ℕ) (j b i : ℕ) (vs : List ℕ)
     → Outside j i (length vs)
@@ -58,7 +58,7 @@ set-sets l j b i (a ∷ vs) o =
     ap (λ (m : List ℕ). sets m (suc i) vs) (set-comm l j i b a (outside-first i (length vs) o))
     ∙ set-sets (set l i a) j b (suc i) vs (outside-rest i (length vs) o)
 
--- two rows that do not meet may be stored in either order
+-- two sublists that do not meet may be stored in either order
 pub sets-comm
     : (l : List ℕ) (i : ℕ) (vs : List ℕ) (j : ℕ) (ws : List ℕ)
     → (i + length vs ≤ j) ⊎ (j + length ws ≤ i)

@@ -12,7 +12,7 @@ use Rattle.cqf.specs.Plan.{Plan, noPlan, periodOf, countOf, lengthOf, hopsOf, r
 use Rattle.plan.specs.Field.{Field, header, port, flow, hopsIn, routeIn}
 use Rattle.plan.specs.Draft.{store}
 use Rattle.plan.specs.laws.Route.{route-length}
-use Rattle.plan.specs.laws.Stores.{Outside, sets-outside, row-sets, row-same}
+use Rattle.plan.specs.laws.Stores.{Outside, sets-outside, sublist-sets, sublist-same}
 
 -- the tables are of the sizes of document 01
 pub record Sized (p : Plan) : Type 0 where
@@ -97,7 +97,7 @@ module _ (p : Plan) (sized : Sized p) (n t c l h : ℕ) (v : List ℕ) (fits : n
       let i : ℕ = (n - 1) * maxHops in
       let long : length (routeIn v) ≡ h = route-length v ∙ sym e in
       let hops : getD (set (p .hops) (n - 1) h) (n - 1) 0 ≡ length (routeIn v) = stored-hops ∙ sym long in
-      rw hops (row-sets (p .routes) i (routeIn v) (omega (arith, sized .routes)))
+      rw hops (sublist-sets (p .routes) i (routeIn v) (omega (arith, sized .routes)))
 
 -- any other slot
 module _ (p : Plan) (n t c l h : ℕ) (v : List ℕ) (f : ℕ) (other : f ≢ n - 1) where
@@ -125,7 +125,7 @@ module _ (p : Plan) (n t c l h : ℕ) (v : List ℕ) (f : ℕ) (other : f ≢ n 
   unfolding store
   kept-route e k short =
       rw kept-hops
-      (row-same (sets (p .routes) ((n - 1) * maxHops) (routeIn v)) (p .routes) (f * maxHops) (hopsOf p f)
+      (sublist-same (sets (p .routes) ((n - 1) * maxHops) (routeIn v)) (p .routes) (f * maxHops) (hopsOf p f)
       (λ j a b. sets-outside (p .routes) ((n - 1) * maxHops) (routeIn v) j (outside j a b)))
     where
       outside : (j : ℕ) → f * maxHops ≤ j → j < f * maxHops + hopsOf p f → Outside j ((n - 1) * maxHops) (length (routeIn v))

@@ -1,4 +1,4 @@
--- The walk over the fields of a plan from the front, as a row of fields that each pass the tests 2 to 7.
+-- The walk over the fields of a plan from the front, as a sequence of fields that each pass the tests 2 to 7.
 use mathlib.Core.Path.{_≡_, refl, sym, _∙_}
 use mathlib.Core.List.{List}
 use mathlib.Core.Bool.{Bool, true, false, cond, _||_}
@@ -11,8 +11,8 @@ use Rattle.cqf.specs.Bounded.{within}
 use Rattle.cqf.specs.Plan.{Plan}
 use Rattle.plan.specs.Bytes.{valueAt}
 use Rattle.plan.specs.Field.{Field, field, fieldAt}
-use Rattle.plan.specs.Draft.{Draft, blank, taken, loops, added}
-use Rattle.plan.specs.Reading.{Reading, accepted, rejected, Step, stop, more, stepAt, absentFrom, closing, readFrom, readPlan, maxBytes}
+use Rattle.plan.specs.Draft.{Draft, blank, taken, fieldRepeats, added}
+use Rattle.plan.specs.Reading.{PlanRead, accepted, rejected, Step, stop, more, stepAt, absentFrom, closing, readFrom, readPlan, maxBytes}
 use Rattle.plan.specs.laws.Steps.{step-more, onward, read-end, read-stop, read-more}
 
 -- from offset at and draft d the fields of s are read to their end, which leaves draft e
@@ -23,12 +23,12 @@ pub data Reads (s : List ℕ) : ℕ → Draft → Draft → Type 0 where
       → at < length s
       → fieldAt s at ≡ field x next
       → taken (d .tables) x ≡ false
-      → loops x (valueAt s at) ≡ false
+      → fieldRepeats x (valueAt s at) ≡ false
       → Reads s next (added d x (valueAt s at)) e
       → Reads s at d e
 
 -- a reading that ends with tests 8 and 9
-pub record Ends (s : List ℕ) (at : ℕ) (d : Draft) (r : Reading) : Type 0 where
+pub record Ends (s : List ℕ) (at : ℕ) (d : Draft) (r : PlanRead) : Type 0 where
   pub final : Draft
   pub walk : Reads s at d final
   pub closes : closing s final ≡ r
@@ -62,7 +62,7 @@ reads-from (suc n) s at d p m k enough e = go (reads-from n s) (ltb at (length s
         again next d′ p m k (omega (arith, onward s at d next d′ q .forward)) (sym (read-more s at d less next d′ q) ∙ e) in
         record {
           final = rest .final;
-          walk = Reads.one {d = d} {e = rest .final} (t .part) next less (t .stands) (t .fresh) (t .simple) (rw (t .adds) (rest .walk));
+          walk = Reads.one {d = d} {e = rest .final} (t .part) next less (t .stands) (t .fresh) (t .no-repeat) (rw (t .adds) (rest .walk));
           closes = rest .closes;
         }
 

@@ -20,6 +20,6 @@ module _ (lo hi n : ℕ) (e : within lo hi n ≡ true) where
 pub slot-below : (slots n : ℕ) → within 1 slots n ≡ true → n - 1 < slots
 slot-below slots n e = omega (arith, within-low 1 slots n e, within-high 1 slots n e)
 
--- a flow's route stays in its row of the routes
-pub row-below : (n h : ℕ) → flowOk n ≡ true → hopsOk h ≡ true → (n - 1) * maxHops + h ≤ flowSlots * maxHops
-row-below n h e f = omega (arith, within-low 1 flowSlots n e, within-high 1 flowSlots n e, within-high 1 maxHops h f)
+-- a flow's route stays in its sublist of the routes
+pub sublist-below : (n h : ℕ) → flowOk n ≡ true → hopsOk h ≡ true → (n - 1) * maxHops + h ≤ flowSlots * maxHops
+sublist-below n h e f = omega (arith, within-low 1 flowSlots n e, within-high 1 flowSlots n e, within-high 1 maxHops h f)

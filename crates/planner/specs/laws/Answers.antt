@@ -7,25 +7,25 @@ use lib.IntN.{ℤ}
 use borrow.Author.Tests.{eq-eqb, ne-eqb}
 use Rattle.cqf.specs.Bounded.{within}
 use Rattle.cqf.specs.Limits.{portOk}
-use Rattle.cqf.specs.Plan.{Plan, wellFormed}
+use Rattle.cqf.specs.Plan.{Plan, validPlan}
 use Rattle.cqf.specs.Condition.{slack, crossed, admissible, failing, lowestFailing}
 use Rattle.loading.specs.Outcome.{Answer, result, refusal}
 use Rattle.planner.specs.Outcome.{asked, failingAt, checkAnswer, slackAnswer}
 
 -- 20, then 10, then what the question says
 module _ {A : Type 0} (p : Plan) (T : ℕ) (answer : Answer A) where
-  asked-none : wellFormed p ≡ false → asked p T answer ≡ refusal 20 (0 ∷ [])
+  asked-none : validPlan p ≡ false → asked p T answer ≡ refusal 20 (0 ∷ [])
   asked-none e = rw e
 
-  asked-out : wellFormed p ≡ true → within 1 (p .top) T ≡ false → asked p T answer ≡ refusal 10 (0 ∷ [])
+  asked-out : validPlan p ≡ true → within 1 (p .top) T ≡ false → asked p T answer ≡ refusal 10 (0 ∷ [])
   asked-out e out = rw (e, out)
 
-  asked-within : wellFormed p ≡ true → within 1 (p .top) T ≡ true → asked p T answer ≡ answer
+  asked-within : validPlan p ≡ true → within 1 (p .top) T ≡ true → asked p T answer ≡ answer
   asked-within e ranged = rw (e, ranged)
 
 -- the plain question
 module _ (p : Plan) (T : ℕ) where
-  -- what it says of a well-formed plan, at a duration from 1 to its top
+  -- what it says of a valid plan, at a duration from 1 to its top
   abbrev pub verdict : Answer (Unit {0})
   verdict = cond (admissible p T) (result tt) (failingAt 21 p T)
 
@@ -33,17 +33,17 @@ module _ (p : Plan) (T : ℕ) where
   unfolding checkAnswer
   check-is = refl
 
-  pub check-none : wellFormed p ≡ false → checkAnswer p T ≡ refusal 20 (0 ∷ [])
+  pub check-none : validPlan p ≡ false → checkAnswer p T ≡ refusal 20 (0 ∷ [])
   check-none e = check-is ∙ asked-none p T verdict e
 
-  pub check-out : wellFormed p ≡ true → within 1 (p .top) T ≡ false → checkAnswer p T ≡ refusal 10 (0 ∷ [])
+  pub check-out : validPlan p ≡ true → within 1 (p .top) T ≡ false → checkAnswer p T ≡ refusal 10 (0 ∷ [])
   check-out e out = check-is ∙ asked-out p T verdict e out
 
-  pub check-within : wellFormed p ≡ true → within 1 (p .top) T ≡ true → checkAnswer p T ≡ verdict
+  pub check-within : validPlan p ≡ true → within 1 (p .top) T ≡ true → checkAnswer p T ≡ verdict
   check-within e ranged = check-is ∙ asked-within p T verdict e ranged
 
   -- by how many ports fail
-  module _ {count : ℕ} (formed : wellFormed p ≡ true) (ranged : within 1 (p .top) T ≡ true) (many : count ≡ failing p T) where
+  module _ {count : ℕ} (valid : validPlan p ≡ true) (ranged : within 1 (p .top) T ≡ true) (many : count ≡ failing p T) where
     none-admissible : count ≡ 0 → admissible p T ≡ true
     unfolding admissible
     none-admissible e = eq-eqb _ _ (sym many ∙ e)
@@ -53,14 +53,14 @@ module _ (p : Plan) (T : ℕ) where
     some-refused ne = ne-eqb _ _ (λ e. ne (many ∙ e))
 
     pub check-good : count ≡ 0 → checkAnswer p T ≡ result tt
-    check-good e = check-within formed ranged ∙ rw (none-admissible e)
+    check-good e = check-within valid ranged ∙ rw (none-admissible e)
 
     pub check-bad
         : {port : ℕ}
         → (count ≡ 0 → ⊥)
         → port ≡ lowestFailing p T
         → checkAnswer p T ≡ refusal 21 (port ∷ count ∷ [])
-    check-bad ne port = check-within formed ranged ∙ rw (some-refused ne, port, many)
+    check-bad ne port = check-within valid ranged ∙ rw (some-refused ne, port, many)
 
 -- the slack of port n
 module _ (p : Plan) (n T : ℕ) where
@@ -71,18 +71,18 @@ module _ (p : Plan) (n T : ℕ) where
   unfolding slackAnswer
   slack-answer-is = refl
 
-  pub slack-none : wellFormed p ≡ false → slackAnswer p n T ≡ refusal 20 (0 ∷ [])
+  pub slack-none : validPlan p ≡ false → slackAnswer p n T ≡ refusal 20 (0 ∷ [])
   slack-none e = slack-answer-is ∙ asked-none p T spare e
 
-  pub slack-out : wellFormed p ≡ true → within 1 (p .top) T ≡ false → slackAnswer p n T ≡ refusal 10 (0 ∷ [])
+  pub slack-out : validPlan p ≡ true → within 1 (p .top) T ≡ false → slackAnswer p n T ≡ refusal 10 (0 ∷ [])
   slack-out e out = slack-answer-is ∙ asked-out p T spare e out
 
-  module _ (formed : wellFormed p ≡ true) (ranged : within 1 (p .top) T ≡ true) where
+  module _ (valid : validPlan p ≡ true) (ranged : within 1 (p .top) T ≡ true) where
     pub slack-no-port : portOk n ≡ false → slackAnswer p n T ≡ refusal 24 (0 ∷ [])
-    slack-no-port none = slack-answer-is ∙ asked-within p T spare formed ranged ∙ (rw none)
+    slack-no-port none = slack-answer-is ∙ asked-within p T spare valid ranged ∙ (rw none)
 
     pub slack-uncrossed : crossed p (n - 1) ≡ false → slackAnswer p n T ≡ refusal 24 (0 ∷ [])
-    slack-uncrossed e = slack-answer-is ∙ asked-within p T spare formed ranged ∙ (rw (e, and-false (portOk n)))
+    slack-uncrossed e = slack-answer-is ∙ asked-within p T spare valid ranged ∙ (rw (e, and-false (portOk n)))
 
     pub slack-crossed
         : {z : ℤ}
@@ -90,4 +90,4 @@ module _ (p : Plan) (n T : ℕ) where
         → crossed p (n - 1) ≡ true
         → z ≡ slack p (n - 1) T
         → slackAnswer p n T ≡ result z
-    slack-crossed ok e is = slack-answer-is ∙ asked-within p T spare formed ranged ∙ (rw (ok, e, is))
+    slack-crossed ok e is = slack-answer-is ∙ asked-within p T spare valid ranged ∙ (rw (ok, e, is))

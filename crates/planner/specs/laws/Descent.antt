@@ -110,16 +110,16 @@ module _ {p : Plan} {out : List ℕ} {below most q : ℕ} (s : Fitting p out bel
         where
           go : Dec (below ≡ 0) → marginSafe p ≡ suc below
           go (yes bottom) =
-              descent-bottom p (s .filled .formed) (subst (Descended p) (ap suc bottom) (s .descended)) ∙ sym (ap suc bottom)
+              descent-bottom p (s .filled .valid) (subst (Descended p) (ap suc bottom) (s .descended)) ∙ sym (ap suc bottom)
           go (no ne) =
               let more : below < r = omega (arith, most-within (omega arith)) in
               let has = some (omega arith) in
-              descent-stop p (s .filled .formed) below q (omega arith) (s .descended) slot
-              (need-fails p (s .filled .formed) below q has (omega (arith, busy has)))
+              descent-stop p (s .filled .valid) below q (omega arith) (s .descended) slot
+              (need-fails p (s .filled .valid) below q has (omega (arith, busy has)))
 
   -- the search goes on one below the most that a port needs
   pub left-down : {last : ℕ} → Left p below last → last ≤ below → Descended p (suc (last - 1))
   left-down {last} (none h f fits) l =
       let down : last ≡ suc (last - 1) = omega arith in
-      subst (Descended p) down (descent-next p (s .filled .formed) below last (s .descended) f l fits)
+      subst (Descended p) down (descent-next p (s .filled .valid) below last (s .descended) f l fits)
   left-down (over e h) l = absurd (omega arith)

@@ -11,7 +11,7 @@ use lib.Count.{ones, trailingZeros}
 use borrow.Author.Tests.{lt-ltb, le-ltb}
 use Rattle.cqf.specs.Bounded.{tabulate}
 use Rattle.cqf.specs.Limits.{portSlots}
-use Rattle.cqf.specs.Plan.{Plan, rateOf, blockingOf, wellFormed}
+use Rattle.cqf.specs.Plan.{Plan, rateOf, blockingOf, validPlan}
 use Rattle.cqf.specs.Condition.{demand, capacity, workload, crossed, slack, fails, failing, lowestFailing}
 use Rattle.cqf.specs.laws.Condition.{demand-pos, demand-crossed}
 use Rattle.cqf.specs.laws.Tabulate.{tabulate-at}
@@ -35,13 +35,13 @@ fails-is : (p : Plan) (T q : ℕ) → fails p T q ≡ crossed p q && ltb (capaci
 unfolding fails
 fails-is p T q = refl
 
-module _ (p : Plan) (formed : wellFormed p ≡ true) (T : ℕ) (long : 0 < T) where
+module _ (p : Plan) (valid : validPlan p ≡ true) (T : ℕ) (long : 0 < T) where
   -- a port is crossed exactly when it has a demand
   pub crossed-demand : (q : ℕ) → crossed p q ≡ ltb 0 (demand p q T)
   crossed-demand q = go (crossed p q) refl
     where
       go : (x : Bool) → crossed p q ≡ x → x ≡ ltb 0 (demand p q T)
-      go true e = sym (lt-ltb 0 (demand p q T) (demand-pos p q T formed long e))
+      go true e = sym (lt-ltb 0 (demand p q T) (demand-pos p q T valid long e))
       go false e =
           let none : demand p q T < 1 = lt-of-not-le (λ l. true≢false (sym (demand-crossed p q T l) ∙ e)) in
           sym (le-ltb 0 (demand p q T) (omega arith))
@@ -54,10 +54,10 @@ module _ (p : Plan) (formed : wellFormed p ≡ true) (T : ℕ) (long : 0 < T) wh
 
   -- the set of the ports that fail by the window and the table of demands
   pub failing-set
-      : {span set : ℕ} {out : List ℕ}
-      → span ≡ T - 2 * p .guard
+      : {usable set : ℕ} {out : List ℕ}
+      → usable ≡ T - 2 * p .guard
       → out ≡ tabulate portSlots (λ q. demand p q T)
-      → set ≡ setTo portSlots (failsIn (p .rates) (p .blockings) span out)
+      → set ≡ setTo portSlots (failsIn (p .rates) (p .blockings) usable out)
       → set ≡ setTo portSlots (fails p T)
   failing-set w d e =
       e

@@ -7,44 +7,44 @@ use native.Mathlib.Omega.{arith}
 use lib.ListN.{length, getD}
 use Rattle.cqf.specs.Bounded.{tabulate}
 use Rattle.cqf.specs.Limits.{portSlots, maxTop}
-use Rattle.cqf.specs.Plan.{Plan, rateOf, wellFormed}
+use Rattle.cqf.specs.Plan.{Plan, rateOf, validPlan}
 use Rattle.cqf.specs.Condition.{demand}
 use Rattle.cqf.specs.laws.Tabulate.{tabulate-length, tabulate-at}
 use Rattle.cqf.specs.laws.Ranges.{top-most}
 use Rattle.cqf.specs.laws.Search.{busy-rate}
 use Rattle.tables.specs.Columns.{columns}
 use Rattle.planner.specs.Failing.{mostDemand}
-use Rattle.planner.specs.laws.Sums.{slot-ready, demand-most, demand-columns}
+use Rattle.planner.specs.laws.Sums.{slot-in-range, demand-most, demand-columns}
 
--- the demands at t, in a well-formed plan
+-- the demands at t, in a valid plan
 pub record Filled (p : Plan) (out : List ℕ) (t : ℕ) : Type 0 where
-  pub formed : wellFormed p ≡ true
+  pub valid : validPlan p ≡ true
   pub within : t ≤ p .top
   pub demands : out ≡ tabulate portSlots (λ q. demand p q t)
 
 pub filled
     : (p : Plan) {out : List ℕ} {t : ℕ}
-    → wellFormed p ≡ true
+    → validPlan p ≡ true
     → t ≤ p .top
     → out ≡ tabulate portSlots (λ q. demand (columns [] [] (p .periods) (p .counts) (p .lengths) (p .hops) (p .routes)) q t)
     → Filled p out t
-filled p {t = t} formed l e =
-    record { formed = formed; within = l; demands = e ∙ ap (tabulate portSlots) (fun-ext (λ q. demand-columns p q t)) }
+filled p {t = t} valid l e =
+    record { valid = valid; within = l; demands = e ∙ ap (tabulate portSlots) (fun-ext (λ q. demand-columns p q t)) }
 
 module _ {p : Plan} {out : List ℕ} {t : ℕ} (s : Filled p out t) where
   pub filled-length : length out ≡ portSlots
   filled-length = ap length (s .demands) ∙ tabulate-length portSlots _
 
   pub filled-short : t ≤ maxTop
-  filled-short = omega (arith, top-most p (s .formed), s .within)
+  filled-short = omega (arith, top-most p (s .valid), s .within)
 
   module _ (q : ℕ) (slot : q < portSlots) where
     pub filled-bits : getD out q 0 ≡ demand p q t
     filled-bits = rw (s .demands) (tabulate-at portSlots (λ q. demand p q t) q slot)
 
     pub filled-most : getD out q 0 ≤ mostDemand
-    filled-most = rw filled-bits (demand-most p (slot-ready p (s .formed)) t filled-short q)
+    filled-most = rw filled-bits (demand-most p (slot-in-range p (s .valid)) t filled-short q)
 
     -- a port with a demand has a rate
     pub filled-served : 0 < getD out q 0 → 0 < rateOf p q
-    filled-served l = busy-rate p (s .formed) t q (rw filled-bits at l)
+    filled-served l = busy-rate p (s .valid) t q (rw filled-bits at l)

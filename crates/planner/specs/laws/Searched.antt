@@ -8,7 +8,7 @@ use lib.Seq.{drop-at}
 use borrow.Author.Tests.{le-leb, lt-leb}
 use Rattle.cqf.specs.Bounded.{tabulate}
 use Rattle.cqf.specs.Limits.{portSlots}
-use Rattle.cqf.specs.Plan.{Plan, wellFormed}
+use Rattle.cqf.specs.Plan.{Plan, validPlan}
 use Rattle.cqf.specs.Condition.{demand, failing, lowestFailing, least, marginSafe}
 use Rattle.loading.specs.Outcome.{Answer, result, refusal}
 use Rattle.planner.specs.Outcome.{searched, searchLeaves, leastAnswer, leastLeaves, marginSafeAnswer, marginSafeLeaves}
@@ -19,13 +19,13 @@ Ends number p found scratch answer exit = (answer ≡ searched number p found sc
 
 pub ends-no-plan
     : (number : ℕ) (p : Plan) (found : ℕ) (scratch : List ℕ)
-    → wellFormed p ≡ false
+    → validPlan p ≡ false
     → Ends number p found scratch (refusal 20 (0 ∷ [])) scratch
 ends-no-plan number p found scratch e = (rw e, rw e)
 
 pub ends-short
     : (number : ℕ) (p : Plan) (found : ℕ) (scratch : List ℕ)
-    → wellFormed p ≡ true
+    → validPlan p ≡ true
     → length scratch < portSlots
     → Ends number p found scratch (refusal 11 (0 ∷ [])) scratch
 ends-short number p found scratch e l = (rw (e, lt-leb _ _ l), rw (e, lt-leb _ _ l))
@@ -33,7 +33,7 @@ ends-short number p found scratch e l = (rw (e, lt-leb _ _ l), rw (e, lt-leb _ _
 -- the duration that it looks for was found, up to top: the demands at it replace the first numbers, and those past them are kept
 pub ends-within
     : (number : ℕ) (p : Plan) (scratch : List ℕ) {wanted found : ℕ} {out : List ℕ}
-    → wellFormed p ≡ true
+    → validPlan p ≡ true
     → portSlots ≤ length scratch
     → found ≡ wanted
     → found ≤ p .top
@@ -48,7 +48,7 @@ ends-within number p scratch {found = found} {out = out} e l is within d =
 -- it is above top, so there is none: the ports that fail at top, and the demands there where the first numbers were replaced before
 pub ends-above
     : (number : ℕ) (p : Plan) (scratch work : List ℕ) {wanted found port count : ℕ} {out : List ℕ}
-    → wellFormed p ≡ true
+    → validPlan p ≡ true
     → portSlots ≤ length scratch
     → length work ≡ portSlots
     → found ≡ wanted

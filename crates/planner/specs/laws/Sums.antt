@@ -1,4 +1,4 @@
--- Laws of the demands as they are summed up, flow by flow, from columns that are ready for it.
+-- Laws of the demands as they are summed up, flow by flow, from columns that are in-range for it.
 use mathlib.Core.Path.{_≡_, refl, sym, ap, _∙_}
 use mathlib.Core.Logic.{_⊎_, inl, inr}
 use mathlib.Core.Bool.{Bool, true, false, cond, and-eq-true-iff}
@@ -9,16 +9,16 @@ use native.Mathlib.Decide.{ℕ-discrete}
 use native.Mathlib.Omega.{arith}
 use lib.ListN.{length, getD}
 use lib.Seq.{ext-getD}
-use Rattle.cqf.specs.Bounded.{sumTo, every, distinct, row, tabulate}
+use Rattle.cqf.specs.Bounded.{sumTo, every, distinct, sublist, tabulate}
 use Rattle.cqf.specs.Limits.{portSlots, flowSlots, maxTop, portOk}
-use Rattle.cqf.specs.Plan.{Plan, periodOf, countOf, lengthOf, hopsOf, routeOf, crosses, portIn, wellFormed}
+use Rattle.cqf.specs.Plan.{Plan, periodOf, countOf, lengthOf, hopsOf, routeOf, crosses, portIn, validPlan}
 use Rattle.cqf.specs.Condition.{bitsOf, wireBits, ceilDiv, frames, demand}
 use Rattle.cqf.specs.laws.Bounds.{sumTo-most}
-use Rattle.cqf.specs.laws.Formed.{Empty, Held, slot-cases}
+use Rattle.cqf.specs.laws.Valid.{Empty, Held, slot-cases}
 use Rattle.cqf.specs.laws.Tabulate.{tabulate-length, tabulate-at}
 use Rattle.cqf.specs.laws.Demand.{share, demand-sum, mostBits, bits-most, share-none, sum-next}
 use Rattle.planner.specs.Failing.{mostDemand}
-use Rattle.tables.specs.Columns.{columns, Ready, Marked}
+use Rattle.tables.specs.Columns.{columns, FlowInRange, Marked}
 
 -- a stronger test that each number of a list passes
 every-weaker : (a b : ℕ → Bool) → ((n : ℕ) → a n ≡ true → b n ≡ true) → (l : List ℕ) → every a l ≡ true → every b l ≡ true
@@ -28,16 +28,16 @@ every-weaker a b h (x ∷ l) e =
     let t = and-eq-true-iff (a x) (every a l) .0 e in
     and-eq-true-iff (b x) (every b l) .1 (h x (t .0), every-weaker a b h l (t .1))
 
--- every slot of the flows' columns is ready
-abbrev pub AllReady : Plan → Type 0
-AllReady p = (f : ℕ) → f < flowSlots → Ready (periodOf p f) (countOf p f) (lengthOf p f) (hopsOf p f) (routeOf p f)
+-- every slot of the flows' columns is in-range
+abbrev pub AllInRange : Plan → Type 0
+AllInRange p = (f : ℕ) → f < flowSlots → FlowInRange (periodOf p f) (countOf p f) (lengthOf p f) (hopsOf p f) (routeOf p f)
 
--- those of a well-formed plan are
-pub slot-ready : (p : Plan) → wellFormed p ≡ true → AllReady p
-unfolding row every distinct
-slot-ready p formed f l = go (slot-cases p formed f l)
+-- those of a valid plan are
+pub slot-in-range : (p : Plan) → validPlan p ≡ true → AllInRange p
+unfolding sublist every distinct
+slot-in-range p valid f l = go (slot-cases p valid f l)
   where
-    go : Empty p f ⊎ Held p f → Ready (periodOf p f) (countOf p f) (lengthOf p f) (hopsOf p f) (routeOf p f)
+    go : Empty p f ⊎ Held p f → FlowInRange (periodOf p f) (countOf p f) (lengthOf p f) (hopsOf p f) (routeOf p f)
     go (inl e) =
         record {
           absent = λ _. e .hops;
@@ -99,11 +99,11 @@ module _ (p : Plan) (T : ℕ) where
       let h′ : q < portSlots = omega arith in
       sums q h′ ∙ sym (demand-sum p q T) ∙ sym (tabulate-at portSlots (λ q. demand p q T) q h′))
 
-module _ (p : Plan) (ready : AllReady p) (T : ℕ) (fits : T ≤ maxTop) where
+module _ (p : Plan) (in-range : AllInRange p) (T : ℕ) (fits : T ≤ maxTop) where
   -- one flow brings at most its most bits
   pub flow-most : (f : ℕ) → f < flowSlots → (periodOf p f ≡ 0 → ⊥) → bitsAt p T f ≤ mostBits
   flow-most f l there =
-      let r = ready f l in
+      let r = in-range f l in
       bits-most T fits (r .period-least there) (r .count-most) (r .bytes-most)
 
   share-most : (q f : ℕ) → f < flowSlots → share p q T f ≤ mostBits
@@ -115,7 +115,7 @@ module _ (p : Plan) (ready : AllReady p) (T : ℕ) (fits : T ≤ maxTop) where
       part false h = zero-le
 
       go : Dec (periodOf p f ≡ 0) → share p q T f ≤ mostBits
-      go (yes e) = omega (arith, share-none p q T f (ready f l .absent e))
+      go (yes e) = omega (arith, share-none p q T f (in-range f l .absent e))
       go (no there) = part (crosses p f q) (flow-most f l there)
 
   -- the sums by the flows before f, and so each demand

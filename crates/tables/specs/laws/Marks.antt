@@ -11,9 +11,9 @@ use lib.ListN.{length, getD, set}
 use lib.Seq.{getD-set-same, getD-set-other}
 use lib.Dec.{eqb}
 use borrow.Author.Tests.{eq-eqb, ne-eqb}
-use Rattle.cqf.specs.Bounded.{elem, row}
+use Rattle.cqf.specs.Bounded.{elem, sublist}
 use Rattle.cqf.specs.Limits.{portSlots}
-use Rattle.cqf.specs.laws.Route.{row-more, elem-more}
+use Rattle.cqf.specs.laws.Route.{sublist-more, elem-more}
 use Rattle.tables.specs.Columns.{Marked}
 
 -- nothing is marked for a route of no port
@@ -40,18 +40,18 @@ mark l₀ l r n v w before some fits new is q h = rw (elem-more (suc q) r n) (go
         let s : suc q ≡ n → ⊥ = λ k. ne (omega arith) in
         rw (ne-eqb (suc q) n s, or-false) (getD-set-other l (n - 1) q w 0 ne ∙ before q h)
 
--- the same of the port at i of a row
+-- the same of the port at i of a sublist
 pub mark-next
     : (l₀ l routes : List ℕ) (base i v w : ℕ)
-    → Marked l₀ l (row routes base i) v
+    → Marked l₀ l (sublist routes base i) v
     → 0 < getD routes (base + i) 0
     → getD routes (base + i) 0 ≤ length l
-    → elem (getD routes (base + i) 0) (row routes base i) ≡ false
+    → elem (getD routes (base + i) 0) (sublist routes base i) ≡ false
     → w ≡ getD l₀ (getD routes (base + i) 0 - 1) 0 + v
-    → Marked l₀ (set l (getD routes (base + i) 0 - 1) w) (row routes base (i + 1)) v
+    → Marked l₀ (set l (getD routes (base + i) 0 - 1) w) (sublist routes base (i + 1)) v
 mark-next l₀ l routes base i v w before some fits new is =
-    rw (add-one i, row-more routes base i)
-    (mark l₀ l (row routes base i) (getD routes (base + i) 0) v w before some fits new is)
+    rw (add-one i, sublist-more routes base i)
+    (mark l₀ l (sublist routes base i) (getD routes (base + i) 0) v w before some fits new is)
 
 -- a port that is not on the route has what it had
 pub unmarked

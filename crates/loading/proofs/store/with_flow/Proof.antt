@@ -1,6 +1,6 @@
 -- `with_flow` meets its contract.
 use Rattle.plan.specs.Draft.{store}
-use Rattle.plan.specs.laws.Within.{within-low, slot-below, row-below}
+use Rattle.plan.specs.laws.Within.{within-low, slot-below, sublist-below}
 use borrow.Author.Needs.{needs}
 use Rattle.loading.proofs.store.with_flow.Statement.{statement}
 use Rattle.loading.proofs.store.with_flow.Tie as tie
@@ -18,7 +18,7 @@ mul-with-route : tie.Need-mul-with-route
 mul-with-route c = search needs
 
 with-route-requires : tie.Need-with-route-requires
-with-route-requires c κs = (row-below _ _ (c .before .before .before .before .pre .0 .number) (c .before .before .before .before .pre .0 .hops), c .before .before .before .before .pre .1)
+with-route-requires c κs = (sublist-below _ _ (c .before .before .before .before .pre .0 .number) (c .before .before .before .before .pre .0 .hops), c .before .before .before .before .pre .1)
 
 mul-next : tie.Need-mul-next
 mul-next c = search needs

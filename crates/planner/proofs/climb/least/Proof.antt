@@ -8,25 +8,25 @@ use native.Mathlib.Omega.{arith}
 use borrow.Author.Needs.{needs}
 use borrow.Author.Tests.{not-true, not-false}
 use Rattle.cqf.specs.Limits.{portSlots}
-use Rattle.cqf.specs.Plan.{wellFormed}
+use Rattle.cqf.specs.Plan.{validPlan}
 use Rattle.cqf.specs.laws.Ranges.{top-most, top-positive}
 use Rattle.tables.specs.Tables.{planOf}
 use Rattle.planner.specs.laws.Searched.{ends-no-plan, ends-short, ends-within, ends-above, least-ends}
 use Rattle.planner.proofs.climb.least.Statement.{statement}
 use Rattle.planner.proofs.climb.least.Tie as tie
 
--- past the first test the plan is well formed
-formed-past : (c : tie.Else1) → wellFormed (planOf (c .before .before .before .args .planner)) ≡ true
-formed-past c = sym (c .before .formed .ensures) ∙ not-false _ (c .if1 .left)
+-- past the first test the plan is well valid
+valid-past : (c : tie.Else1) → validPlan (planOf (c .before .before .before .args .planner)) ≡ true
+valid-past c = sym (c .before .valid-plan .ensures) ∙ not-false _ (c .if1 .left)
 
-formed-requires : tie.Need-formed-requires
-formed-requires c κs = tt
+valid-plan-requires : tie.Need-valid-plan-requires
+valid-plan-requires c κs = tt
 
 returns : tie.Need-returns
-returns c = least-ends _ _ (ends-no-plan 22 _ _ _ (sym (c .before .formed .ensures) ∙ not-true _ (c .if1 .taken)))
+returns c = least-ends _ _ (ends-no-plan 22 _ _ _ (sym (c .before .valid-plan .ensures) ∙ not-true _ (c .if1 .taken)))
 
 returns-2 : tie.Need-returns-2
-returns-2 c = least-ends _ _ (ends-short 22 _ _ _ (formed-past (c .before)) (omega (arith, c .if2 .taken)))
+returns-2 c = least-ends _ _ (ends-short 22 _ _ _ (valid-past (c .before)) (omega (arith, c .if2 .taken)))
 
 slice-relend-prefix-seek : tie.Need-slice-relend-prefix-seek
 slice-relend-prefix-seek c = omega (arith, c .if2 .left)
@@ -36,10 +36,10 @@ slice-aggregate-seek c = simp length-take (omega (arith, slice-relend-prefix-see
 
 -- the search is lent 64 numbers
 seek-requires : tie.Need-seek-requires
-seek-requires c κs = (formed-past (c .before .before), omega (arith, slice-aggregate-seek c))
+seek-requires c κs = (valid-past (c .before .before), omega (arith, slice-aggregate-seek c))
 
 cast-top : tie.Need-cast-top
-cast-top c = omega (arith, top-most _ (formed-past (c .before .before .before .before .before .before)))
+cast-top c = omega (arith, top-most _ (valid-past (c .before .before .before .before .before .before)))
 
 same-length : tie.Need-same-length
 same-length c = search needs
@@ -52,7 +52,7 @@ returns-3 c =
     let p = planOf (a .planner) in
     let within : s .seek .result ≤ a .planner .top = omega (arith, c .if3 .taken) in
     least-ends p (a .scratch .now)
-    (ends-within 22 p (a .scratch .now) (formed-past (s .before .before .before)) (omega (arith, s .before .before .if2 .left)) (e .0) within (e .1 within))
+    (ends-within 22 p (a .scratch .now) (valid-past (s .before .before .before)) (omega (arith, s .before .before .if2 .left)) (e .0) within (e .1 within))
 
 slice-relend-prefix-failing-at : tie.Need-slice-relend-prefix-failing-at
 slice-relend-prefix-failing-at c = search needs
@@ -62,8 +62,8 @@ slice-aggregate-failing-at c = simp length-take (omega (arith, slice-relend-pref
 
 failing-at-requires : tie.Need-failing-at-requires
 failing-at-requires c κs =
-    let formed = formed-past (c .before .before .before .before .before .before .before .before) in
-    (formed, top-positive _ formed, le-refl _, sym (slice-aggregate-failing-at c))
+    let valid = valid-past (c .before .before .before .before .before .before .before .before) in
+    (valid, top-positive _ valid, le-refl _, sym (slice-aggregate-failing-at c))
 
 same-length-2 : tie.Need-same-length-2
 same-length-2 c = search needs
@@ -77,13 +77,13 @@ returns-4 c =
     let long : length (s .seek .last .1 .0) ≡ portSlots = omega (arith, s .seek .kept .1 .0, slice-aggregate-seek (s .before)) in
     let above : a .planner .top < s .seek .result = omega (arith, c .before .before .before .before .if3 .left) in
     least-ends p (a .scratch .now)
-    (ends-above 22 p (a .scratch .now) (s .seek .last .1 .0) (formed-past (s .before .before .before)) (omega (arith, s .before .before .if2 .left)) long (s .seek .ensures .0) above (e .0) (e .1))
+    (ends-above 22 p (a .scratch .now) (s .seek .last .1 .0) (valid-past (s .before .before .before)) (omega (arith, s .before .before .if2 .left)) long (s .seek .ensures .0) above (e .0) (e .1))
 
 pub least-spec : {M : Type 1} → statement M
 least-spec =
     tie.close
     (tie.spec
-    formed-requires
+    valid-plan-requires
     returns
     returns-2
     slice-relend-prefix-seek

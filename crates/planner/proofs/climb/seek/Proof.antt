@@ -9,26 +9,26 @@ use native.Mathlib.Omega.{arith}
 use lib.ListN.{length}
 use borrow.Author.Needs.{needs}
 use Rattle.cqf.specs.Limits.{portSlots}
-use Rattle.cqf.specs.Plan.{wellFormed}
+use Rattle.cqf.specs.Plan.{validPlan}
 use Rattle.cqf.specs.laws.Ranges.{top-most}
 use Rattle.cqf.specs.laws.Search.{Climbed, climb-start}
 use Rattle.tables.specs.Tables.{planOf}
-use Rattle.planner.specs.laws.Sums.{slot-ready}
+use Rattle.planner.specs.laws.Sums.{slot-in-range}
 use Rattle.planner.specs.laws.Scratch.{filled, filled-length, filled-short, filled-most, filled-served}
 use Rattle.planner.specs.laws.Climb.{Passed, Left, passed-start, passed-all, tested, passed-next, passed-until, left-none, left-over, left-next, left-more}
 use Rattle.planner.proofs.climb.seek.Statement.{statement}
 use Rattle.planner.proofs.climb.seek.Tie as tie
 
 abbrev Inv-ports : tie.InvT-ports
-Inv-ports out planner guard top t span next₀ q₀ next q =
-    Passed (planOf planner) out t q × (next ≡ 0) × (span ≡ t - 2 * planner .guard)
+Inv-ports out planner guard top t usable next₀ q₀ next q =
+    Passed (planOf planner) out t q × (next ≡ 0) × (usable ≡ t - 2 * planner .guard)
 
 abbrev μ-ports : tie.MeasureT-ports
-μ-ports out planner guard top t span next₀ q₀ next q = 64 - q
+μ-ports out planner guard top t usable next₀ q₀ next q = 64 - q
 
 abbrev Inv-loop : tie.InvT-loop
 Inv-loop out₀ planner guard top t₀ out t =
-    (wellFormed (planOf planner) ≡ true) × (length out ≡ portSlots) × Climbed (planOf planner) t
+    (validPlan (planOf planner) ≡ true) × (length out ≡ portSlots) × Climbed (planOf planner) t
 
 abbrev μ-loop : tie.MeasureT-loop
 μ-loop out₀ planner guard top t₀ out t = suc (planner .top) - t
@@ -54,7 +54,7 @@ loop-holds c = (c .before .pre .0, c .before .pre .1, climb-start _ (c .before .
 demands-requires : tie.Need-demands-requires Inv-ports μ-ports Inv-loop μ-loop
 demands-requires c κs =
     let l = c .before .before .before .before .before .before .before .before .before .before .before .before .loop in
-    (search needs, (record { slot = slot-ready _ (l .inv .0) }, (omega (arith, top-most _ (l .inv .0), l .inv .2 .within), l .inv .1)))
+    (search needs, (record { slot = slot-in-range _ (l .inv .0) }, (omega (arith, top-most _ (l .inv .0), l .inv .2 .within), l .inv .1)))
 
 window-requires : tie.Need-window-requires Inv-ports μ-ports Inv-loop μ-loop
 window-requires c κs = tt
@@ -111,7 +111,7 @@ ports-again c =
     (passed-next (v .0) l (sym (tested (v .0) l (v .2) (c .before .port-fails .ensures)) ∙ c .if1 .left), v .1, v .2)
 
 add-found : tie.Need-add-found Inv-ports μ-ports Inv-loop μ-loop
-add-found c = omega (arith, top-most _ (c .before .before .before .ports .inv .0 .filled .formed))
+add-found c = omega (arith, top-most _ (c .before .before .before .ports .inv .0 .filled .valid))
 
 loop-less : tie.Need-loop-less Inv-ports μ-ports Inv-loop μ-loop
 loop-less c =
@@ -123,7 +123,7 @@ loop-again : tie.Need-loop-again Inv-ports μ-ports Inv-loop μ-loop
 loop-again c =
     let l = c .before .before in
     let s = l .before .ports .inv .0 in
-    (s .filled .formed, filled-length (s .filled), left-next s (left-ports l) (c .before .if2 .left) (c .if3 .left))
+    (s .filled .valid, filled-length (s .filled), left-next s (left-ports l) (c .before .if2 .left) (c .if3 .left))
 
 same-length : tie.Need-same-length Inv-ports μ-ports Inv-loop μ-loop
 same-length c = filled-length (c .before .before .ports .inv .0 .filled) ∙ sym (c .before .before .before .before .before .before .before .before .before .before .before .before .before .before .before .before .before .before .before .before .before .pre .1)

@@ -5,7 +5,7 @@ use Prim.Native.Nat.{ℕ, _+_, _-_, _≤_, _<_}
 use native.Mathlib.Omega.{arith}
 use lib.ListN.{length, getD, length-set}
 use borrow.Author.Needs.{needs}
-use Rattle.cqf.specs.Bounded.{elem, row}
+use Rattle.cqf.specs.Bounded.{elem, sublist}
 use Rattle.cqf.specs.Limits.{portSlots}
 use Rattle.cqf.specs.laws.Route.{next-port}
 use Rattle.tables.specs.Columns.{Marked}
@@ -15,7 +15,7 @@ use Rattle.planner.proofs.demand.add_route.Tie as tie
 
 abbrev Inv-loop : tie.InvT-loop
 Inv-loop routes base hops bits out₀ i₀ out i =
-    (i ≤ hops) × (length out ≡ length out₀) × Marked out₀ out (row routes base i) bits
+    (i ≤ hops) × (length out ≡ length out₀) × Marked out₀ out (sublist routes base i) bits
 
 abbrev μ-loop : tie.MeasureT-loop
 μ-loop routes base hops bits out₀ i₀ out i = hops - i
@@ -25,7 +25,7 @@ module _ (c : tie.In-loop Inv-loop μ-loop) where
   abbrev port : ℕ
   port = getD (c .before .before .args .routes .now) (c .before .before .args .base + c .before .loop .i) 0
 
-  next : (0 < port) × (port ≤ portSlots) × (elem port (row (c .before .before .args .routes .now) (c .before .before .args .base) (c .before .loop .i)) ≡ false)
+  next : (0 < port) × (port ≤ portSlots) × (elem port (sublist (c .before .before .args .routes .now) (c .before .before .args .base) (c .before .loop .i)) ≡ false)
   next =
       let start = c .before .before in
       next-port (start .args .routes .now) (start .args .base) (start .args .hops) (c .before .loop .i) (start .pre .1 .0 .0) (start .pre .1 .0 .1) (c .loop-test .taken)
@@ -33,10 +33,10 @@ module _ (c : tie.In-loop Inv-loop μ-loop) where
   same : getD (c .before .loop .out) (port - 1) 0 ≡ getD (c .before .before .args .out .now) (port - 1) 0
   same =
       let a = c .before .before .args in
-      unmarked (a .out .now) (c .before .loop .out) (row (a .routes .now) (a .base) (c .before .loop .i)) port (a .bits) (c .before .loop .inv .2) (next .0) (next .1) (next .2)
+      unmarked (a .out .now) (c .before .loop .out) (sublist (a .routes .now) (a .base) (c .before .loop .i)) port (a .bits) (c .before .loop .inv .2) (next .0) (next .1) (next .2)
 
 loop-holds : tie.Need-loop-holds Inv-loop μ-loop
-unfolding row
+unfolding sublist
 loop-holds c = (omega arith, refl, mark-none (c .args .out .now) (c .args .bits))
 
 add-q : tie.Need-add-q Inv-loop μ-loop

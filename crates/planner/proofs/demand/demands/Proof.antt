@@ -9,7 +9,7 @@ use borrow.Author.Needs.{needs}
 use Rattle.cqf.specs.Limits.{portSlots, flowSlots}
 use Rattle.cqf.specs.Plan.{Plan, periodOf, countOf, lengthOf, hopsOf, routeOf}
 use Rattle.cqf.specs.laws.Demand.{mostBits}
-use Rattle.tables.specs.Columns.{columns, Ready}
+use Rattle.tables.specs.Columns.{columns, FlowInRange}
 use Rattle.planner.specs.laws.Sums.{Sums, sums-none, sums-skip, sums-add, sums-all, flow-most, sum-most}
 use Rattle.planner.proofs.demand.demands.Statement.{statement}
 use Rattle.planner.proofs.demand.demands.Tie as tie
@@ -33,7 +33,7 @@ plan s =
     columns [] [] (s .args .periods .now) (s .args .counts .now) (s .args .lengths .now) (s .args .hops .now) (s .args .routes .now)
 
 -- the slot of the flow at hand
-slot : (c : tie.In-loop Inv-loop μ-loop) → (let f = c .before .loop .f in let p = plan (begin c) in Ready (periodOf p f) (countOf p f) (lengthOf p f) (hopsOf p f) (routeOf p f))
+slot : (c : tie.In-loop Inv-loop μ-loop) → (let f = c .before .loop .f in let p = plan (begin c) in FlowInRange (periodOf p f) (countOf p f) (lengthOf p f) (hopsOf p f) (routeOf p f))
 slot c = begin c .pre .1 .0 .slot (c .before .loop .f) (c .loop-test .taken)
 
 clear-requires : tie.Need-clear-requires Inv-loop μ-loop

@@ -9,11 +9,11 @@ use native.Mathlib.Omega.{arith}
 use lib.ListN.{length}
 use borrow.Author.Needs.{needs}
 use Rattle.cqf.specs.Limits.{portSlots}
-use Rattle.cqf.specs.Plan.{wellFormed}
+use Rattle.cqf.specs.Plan.{validPlan}
 use Rattle.cqf.specs.laws.Ranges.{top-most}
 use Rattle.cqf.specs.laws.Search.{Descended, descent-start}
 use Rattle.tables.specs.Tables.{planOf}
-use Rattle.planner.specs.laws.Sums.{slot-ready}
+use Rattle.planner.specs.laws.Sums.{slot-in-range}
 use Rattle.planner.specs.laws.Scratch.{filled, filled-length, filled-short, filled-most, filled-served}
 use Rattle.planner.specs.laws.Descent.{Fitting, Left, left-from, fitting-start, fitting-all, fitting-next, fitting-until, left-stop, left-down}
 use Rattle.planner.proofs.descend.seek.Statement.{statement}
@@ -27,7 +27,7 @@ abbrev μ-ports : tie.MeasureT-ports
 
 abbrev Inv-loop : tie.InvT-loop
 Inv-loop out₀ planner guard top below₀ out below =
-    (wellFormed (planOf planner) ≡ true) × (length out ≡ portSlots) × Descended (planOf planner) (suc below)
+    (validPlan (planOf planner) ≡ true) × (length out ≡ portSlots) × Descended (planOf planner) (suc below)
 
 abbrev μ-loop : tie.MeasureT-loop
 μ-loop out₀ planner guard top below₀ out below = below
@@ -52,7 +52,7 @@ loop-holds c = (c .before .pre .0, c .before .pre .1, descent-start _ (c .before
 demands-requires : tie.Need-demands-requires Inv-ports μ-ports Inv-loop μ-loop
 demands-requires c κs =
     let l = c .before .before .before .before .before .before .before .before .before .before .before .before .loop in
-    (search needs, (record { slot = slot-ready _ (l .inv .0) }, (omega (arith, top-most _ (l .inv .0), l .inv .2 .within), l .inv .1)))
+    (search needs, (record { slot = slot-in-range _ (l .inv .0) }, (omega (arith, top-most _ (l .inv .0), l .inv .2 .within), l .inv .1)))
 
 ports-holds : tie.Need-ports-holds Inv-ports μ-ports Inv-loop μ-loop
 ports-holds c =
@@ -113,7 +113,7 @@ loop-again : tie.Need-loop-again Inv-ports μ-ports Inv-loop μ-loop
 loop-again c =
     let l = c .before .before in
     let s = l .before .ports .inv in
-    (s .filled .formed, filled-length (s .filled), left-down s (left-ports l) (c .before .if2 .left))
+    (s .filled .valid, filled-length (s .filled), left-down s (left-ports l) (c .before .if2 .left))
 
 same-length : tie.Need-same-length Inv-ports μ-ports Inv-loop μ-loop
 same-length c = filled-length (c .before .before .before .ports .inv .filled) ∙ sym (c .before .before .before .before .before .before .before .before .before .before .before .before .before .before .before .before .before .before .before .before .before .pre .1)
@@ -125,7 +125,7 @@ returns c =
 demands-at-requires : tie.Need-demands-at-requires Inv-ports μ-ports Inv-loop μ-loop
 demands-at-requires c κs =
     let f = c .before .before .before .before .ports .inv .filled in
-    (f .formed, omega (arith, c .before .if3 .left, f .within), filled-length f)
+    (f .valid, omega (arith, c .before .if3 .left, f .within), filled-length f)
 
 same-length-2 : tie.Need-same-length-2 Inv-ports μ-ports Inv-loop μ-loop
 same-length-2 c =

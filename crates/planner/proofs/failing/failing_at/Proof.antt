@@ -21,7 +21,7 @@ begin c = c .before .before .before
 at-duration
     : (c : tie.After-demands-at)
     → Filled (planOf (begin c .args .t1)) (c .demands-at .last .1 .1 .0) (begin c .args .duration)
-at-duration c = record { formed = begin c .pre .0; within = begin c .pre .2; demands = c .demands-at .ensures }
+at-duration c = record { valid = begin c .pre .0; within = begin c .pre .2; demands = c .demands-at .ensures }
 
 window-requires : tie.Need-window-requires
 window-requires c κs = tt

@@ -12,7 +12,7 @@ use mir.Syntax.{w64}
 use mir.ValLaws.{toZ-ofZ}
 use Rattle.cqf.specs.Bounded.{within}
 use Rattle.cqf.specs.Limits.{portSlots, maxTop, portOk}
-use Rattle.cqf.specs.Plan.{Plan, rateOf, blockingOf, wellFormed}
+use Rattle.cqf.specs.Plan.{Plan, rateOf, blockingOf, validPlan}
 use Rattle.cqf.specs.Condition.{demand}
 use Rattle.cqf.specs.laws.Ranges.{top-most}
 use Rattle.cqf.specs.laws.Tabulate.{tabulate-at}
@@ -20,7 +20,7 @@ use Rattle.plan.specs.laws.Within.{within-low, within-high, slot-below}
 use Rattle.tables.specs.Tables.{planOf}
 use Rattle.loading.specs.Outcome.{result}
 use Rattle.planner.specs.Failing.{workloadOf, mostDemand}
-use Rattle.planner.specs.laws.Sums.{slot-ready, demand-most}
+use Rattle.planner.specs.laws.Sums.{slot-in-range, demand-most}
 use Rattle.planner.specs.laws.Fails.{crossed-demand, slack-is}
 use Rattle.planner.specs.laws.Answers.{slack-none, slack-out, slack-no-port, slack-uncrossed, slack-crossed}
 use Rattle.planner.proofs.question.slack.Statement.{statement}
@@ -30,9 +30,9 @@ use Rattle.planner.proofs.question.slack.Tie as tie
 abbrev held : tie.Start → Plan
 held s = planOf (s .args .t1)
 
--- past the refusals: the plan is well formed, the duration from 1 to top, and the port from 1 to 64
-formed : (c : tie.Else1) → wellFormed (held (c .before .before)) ≡ true
-formed c = sym (c .before .formed .ensures) ∙ not-false _ (c .if1 .left)
+-- past the refusals: the plan is well valid, the duration from 1 to top, and the port from 1 to 64
+valid : (c : tie.Else1) → validPlan (held (c .before .before)) ≡ true
+valid c = sym (c .before .valid-plan .ensures) ∙ not-false _ (c .if1 .left)
 
 module _ (c : tie.Else2) where
   abbrev first : tie.Else1
@@ -45,7 +45,7 @@ module _ (c : tie.Else2) where
   ranged = sym (c .before .between .ensures) ∙ not-false _ (c .if2 .left)
 
   fits : begin .args .duration ≤ maxTop
-  fits = omega (arith, top-most (held begin) (formed first), within-high 1 (held begin .top) (begin .args .duration) ranged)
+  fits = omega (arith, top-most (held begin) (valid first), within-high 1 (held begin .top) (begin .args .duration) ranged)
 
 abbrev second : tie.Else3 → tie.Else2
 second c = c .before .before
@@ -75,13 +75,13 @@ module _ (c : tie.After-port-demands) where
   bits-most : getD (c .port-demands .result) slot 0 ≤ mostDemand
   bits-most =
       let p = held start in
-      omega (arith, bits-are, demand-most p (slot-ready p (formed (first (second past)))) (start .args .duration) (fits (second past)) slot)
+      omega (arith, bits-are, demand-most p (slot-in-range p (valid (first (second past)))) (start .args .duration) (fits (second past)) slot)
 
-formed-requires : tie.Need-formed-requires
-formed-requires c κs = tt
+valid-plan-requires : tie.Need-valid-plan-requires
+valid-plan-requires c κs = tt
 
 returns : tie.Need-returns
-returns c = sym (slack-none (held (c .before .before)) _ _ (sym (c .before .formed .ensures) ∙ not-true _ (c .if1 .taken)))
+returns c = sym (slack-none (held (c .before .before)) _ _ (sym (c .before .valid-plan .ensures) ∙ not-true _ (c .if1 .taken)))
 
 cast-between : tie.Need-cast-between
 cast-between c = search needs
@@ -93,7 +93,7 @@ returns-2 : tie.Need-returns-2
 returns-2 c =
     let first = c .before .before in
     sym
-    (slack-out (held (first .before .before)) _ _ (formed first) (sym (c .before .between .ensures) ∙ not-true _ (c .if2 .taken)))
+    (slack-out (held (first .before .before)) _ _ (valid first) (sym (c .before .between .ensures) ∙ not-true _ (c .if2 .taken)))
 
 between-requires-2 : tie.Need-between-requires-2
 between-requires-2 c κs = tt
@@ -102,13 +102,13 @@ returns-3 : tie.Need-returns-3
 returns-3 c =
     let at = c .before .before in
     sym
-    (slack-no-port (held (begin at)) _ _ (formed (first at)) (ranged at) (sym (c .before .between2 .ensures) ∙ not-true _ (c .if3 .taken)))
+    (slack-no-port (held (begin at)) _ _ (valid (first at)) (ranged at) (sym (c .before .between2 .ensures) ∙ not-true _ (c .if3 .taken)))
 
 sub-q : tie.Need-sub-q
 sub-q c = within-low 1 portSlots _ (number c)
 
 port-demands-requires : tie.Need-port-demands-requires
-port-demands-requires c κs = (formed (first (second c)), within-high _ _ _ (ranged (second c)))
+port-demands-requires c κs = (valid (first (second c)), within-high _ _ _ (ranged (second c)))
 
 mul-bits : tie.Need-mul-bits
 mul-bits c = omega (arith, small c)
@@ -120,9 +120,9 @@ returns-4 : tie.Need-returns-4
 returns-4 c =
     let demands = c .before in
     let at = second (past demands) in
-    let none = crossed-demand (held (begin at)) (formed (first at)) (begin at .args .duration) (within-low _ _ _ (ranged at)) (slot demands) in
+    let none = crossed-demand (held (begin at)) (valid (first at)) (begin at .args .duration) (within-low _ _ _ (ranged at)) (slot demands) in
     sym
-    (slack-uncrossed (held (begin at)) _ _ (formed (first at)) (ranged at)
+    (slack-uncrossed (held (begin at)) _ _ (valid (first at)) (ranged at)
     (none ∙ ap (ltb 0) (sym (bits-are demands) ∙ c .if4 .taken)))
 
 window-requires : tie.Need-window-requires
@@ -153,19 +153,19 @@ returns-5 c =
     let T = begin at .args .duration in
     let q = slot demands in
     let some : 0 < demand p q T = omega (arith, bits-are demands, c .before .before .before .before .if4 .left) in
-    let yes = crossed-demand p (formed (first at)) T (within-low _ _ _ (ranged at)) q ∙ lt-ltb 0 (demand p q T) some in
+    let yes = crossed-demand p (valid (first at)) T (within-low _ _ _ (ranged at)) q ∙ lt-ltb 0 (demand p q T) some in
     let products =
     ap₂ (λ (w bits : ℕ). subℕ (rateOf p q * w) (workloadOf (blockingOf p q) bits)) (c .before .before .before .window .ensures) (bits-are demands) in
     ap result (toZ-ofZ w64 (c .port-slack .result) (record { sfits = c .port-slack .ok }))
     ∙ sym
-    (slack-crossed p (begin at .args .port) T (formed (first at)) (ranged at) (number (past demands)) yes
+    (slack-crossed p (begin at .args .port) T (valid (first at)) (ranged at) (number (past demands)) yes
     (c .port-slack .ensures ∙ products ∙ sym (slack-is p q T)))
 
 pub slack-spec : {M : Type 1} → statement M
 slack-spec =
     tie.close
     (tie.spec
-    formed-requires
+    valid-plan-requires
     returns
     cast-between
     between-requires

@@ -1,27 +1,27 @@
--- What a well-formed plan gives of each of its slots.
+-- What a valid plan gives of each of its slots.
 use mathlib.Core.Path.{_≡_}
 use mathlib.Core.Logic.{_⊎_, inl, inr}
 use mathlib.Core.Bool.{Bool, true, _&&_, false≢true, and-eq-true-iff}
 use Prim.Native.Nat.{ℕ, _≤_, _<_}
 use native.Mathlib.Omega.{arith}
 use borrow.Author.Tests.{eqb-true, ltb-true, leb-true, lt-ltb}
-use Rattle.cqf.specs.Bounded.{elem, distinct, every, row, allTo, anyTo}
+use Rattle.cqf.specs.Bounded.{elem, distinct, every, sublist, allTo, anyTo}
 use Rattle.cqf.specs.Limits.{portSlots, flowSlots, maxHops, guardOk, topOk}
-use Rattle.cqf.specs.Plan.{Plan, periodOf, countOf, lengthOf, hopsOf, routeOf, present, crosses, portIn, portSound, flowSound, wellFormed}
+use Rattle.cqf.specs.Plan.{Plan, periodOf, countOf, lengthOf, hopsOf, routeOf, present, crosses, portIn, validPort, validFlow, validPlan}
 use Rattle.cqf.specs.laws.Bounded.{or-cases, allTo-at}
 use Rattle.cqf.specs.laws.Slot.{emptyAt, heldAt}
 
--- a plan is well formed as its five tests say
-pub formed-by
+-- a plan is well valid as its five tests say
+pub valid-by
     : (p : Plan) {top guard ports flows some : Bool}
     → topOk (p .top) ≡ top
     → guardOk (p .guard) ≡ guard
-    → allTo portSlots (portSound p) ≡ ports
-    → allTo flowSlots (flowSound p) ≡ flows
+    → allTo portSlots (validPort p) ≡ ports
+    → allTo flowSlots (validFlow p) ≡ flows
     → anyTo flowSlots (present p) ≡ some
-    → wellFormed p ≡ top && guard && ports && flows && some
-unfolding wellFormed
-formed-by p e1 e2 e3 e4 e5 = λ i. e1 i && e2 i && e3 i && e4 i && e5 i
+    → validPlan p ≡ top && guard && ports && flows && some
+unfolding validPlan
+valid-by p e1 e2 e3 e4 e5 = λ i. e1 i && e2 i && e3 i && e4 i && e5 i
 
 -- a slot without a flow
 pub record Empty (p : Plan) (f : ℕ) : Type 0 where
@@ -70,17 +70,17 @@ held p f h =
       once = t .1;
     }
 
-module _ (p : Plan) (formed : wellFormed p ≡ true) where
-  -- each flow's slot is sound
-  pub flows-sound : (f : ℕ) → f < flowSlots → flowSound p f ≡ true
-  unfolding wellFormed
-  flows-sound = let h = simp and-eq-true-iff at formed in allTo-at flowSlots (flowSound p) (h .0 .1)
+module _ (p : Plan) (valid : validPlan p ≡ true) where
+  -- each flow's slot is valid
+  pub flows-valid : (f : ℕ) → f < flowSlots → validFlow p f ≡ true
+  unfolding validPlan
+  flows-valid = let h = simp and-eq-true-iff at valid in allTo-at flowSlots (validFlow p) (h .0 .1)
 
   -- each slot is empty or holds a flow in range
   pub slot-cases : (f : ℕ) → f < flowSlots → Empty p f ⊎ Held p f
-  unfolding flowSound
+  unfolding validFlow
   slot-cases f l =
-      or-cases (emptyAt p f) (heldAt (p .rates) p f) (flows-sound f l) (λ h. inl (empty p f h)) (λ h. inr (held p f h))
+      or-cases (emptyAt p f) (heldAt (p .rates) p f) (flows-valid f l) (λ h. inl (empty p f h)) (λ h. inr (held p f h))
 
   -- a flow that is present is in its range
   pub present-slot : (f : ℕ) → present p f ≡ true → f < flowSlots
@@ -98,7 +98,7 @@ module _ (p : Plan) (formed : wellFormed p ≡ true) where
 
   -- a flow that crosses a port is present
   pub crosses-held : (f q : ℕ) → f < flowSlots → crosses p f q ≡ true → Held p f
-  unfolding row elem
+  unfolding sublist elem
   crosses-held f q l h = go (slot-cases f l)
     where
       go : Empty p f ⊎ Held p f → Held p f

@@ -1,8 +1,8 @@
--- `is_looping` meets its contract.
-use Rattle.plan.specs.Draft.{loops}
+-- `field_repeats` meets its contract.
+use Rattle.plan.specs.Draft.{fieldRepeats}
 use borrow.Author.Needs.{needs}
-use Rattle.loading.proofs.reading.is_looping.Statement.{statement}
-use Rattle.loading.proofs.reading.is_looping.Tie as tie
+use Rattle.loading.proofs.reading.field_repeats.Statement.{statement}
+use Rattle.loading.proofs.reading.field_repeats.Tie as tie
 
 enum-told : tie.Need-enum-told
 enum-told c = search needs
@@ -17,18 +17,18 @@ repeats-port-requires : tie.Need-repeats-port-requires
 repeats-port-requires c κs = search needs
 
 returns : tie.Need-returns
-unfolding loops
+unfolding fieldRepeats
 returns c = rw (c .enum-told .given .1)
 
 returns-2 : tie.Need-returns-2
-unfolding loops
+unfolding fieldRepeats
 returns-2 c = rw (c .enum-told2 .given .1)
 
 returns-3 : tie.Need-returns-3
-unfolding loops
+unfolding fieldRepeats
 returns-3 c = rw (c .before .enum-told3 .given .1) (c .repeats-port .ensures)
 
-pub is-looping-spec : {M : Type 1} → statement M
-is-looping-spec =
+pub field-repeats-spec : {M : Type 1} → statement M
+field-repeats-spec =
     tie.close
     (tie.spec enum-told enum-told-2 enum-told-3 repeats-port-requires returns returns-2 returns-3)

@@ -1,4 +1,4 @@
--- Every accepted plan is well formed: the tables are sound after each field of the walk.
+-- Every accepted plan is well valid: the tables are valid after each field of the walk.
 use mathlib.Core.Path.{_≡_, sym, _∙_}
 use mathlib.Core.Logic.{_⊎_, inl, inr}
 use mathlib.Core.List.{List}
@@ -8,22 +8,22 @@ use lib.Dec.{eqb}
 use borrow.Author.Tests.{eq-eqb, not-false}
 use Rattle.cqf.specs.Bounded.{every, distinct, anyTo}
 use Rattle.cqf.specs.Limits.{portSlots, flowSlots, topOk}
-use Rattle.cqf.specs.Plan.{Plan, present, portIn, portSound, flowSound, wellFormed}
+use Rattle.cqf.specs.Plan.{Plan, present, portIn, validPort, validFlow, validPlan}
 use Rattle.cqf.specs.laws.Bounded.{or-cases, allTo-every, anyTo-some}
 use Rattle.plan.specs.Bytes.{tagAt, valueAt}
 use Rattle.plan.specs.Field.{Field, header, port, flow, flowTag, routeIn, repeats}
-use Rattle.plan.specs.Draft.{Draft, loops, added}
+use Rattle.plan.specs.Draft.{Draft, fieldRepeats, added}
 use Rattle.plan.specs.Reading.{accepted, namesAbsent, readPlan}
 use Rattle.plan.specs.laws.Passes.{Passes, field-is-whole, field-passes}
-use Rattle.plan.specs.laws.Slots.{soundIn}
+use Rattle.plan.specs.laws.Slots.{validIn}
 use Rattle.plan.specs.laws.Walk.{Reads, done, one, accepted-reads, closing-accepted}
 use Rattle.plan.specs.laws.Absent.{absent-flow}
 use Rattle.plan.specs.laws.Named.{Named, named-front}
-use Rattle.plan.specs.laws.Drafts.{Sound, sound-blank, header-sound, port-sound, flow-sound}
+use Rattle.plan.specs.laws.Drafts.{ValidDraft, blank-valid, header-valid, port-valid, flow-valid}
 
 -- what tests 7 and 9 say of a flow's route
-distinct-route : (n t c l h : ℕ) (v : List ℕ) → loops (flow n t c l h) v ≡ false → distinct (routeIn v) ≡ true
-unfolding loops repeats
+distinct-route : (n t c l h : ℕ) (v : List ℕ) → fieldRepeats (flow n t c l h) v ≡ false → distinct (routeIn v) ≡ true
+unfolding fieldRepeats repeats
 distinct-route n t c l h v e = not-false _ e
 
 named-route
@@ -33,49 +33,49 @@ named-route
     → every (portIn rates) (routeIn (valueAt s at)) ≡ true
 named-route rates s at kind e = not-false _ (sym (absent-flow s at rates kind) ∙ e)
 
--- a field of the walk keeps the draft sound
-field-sound
+-- a field of the walk keeps the draft valid
+field-valid
     : (rates s : List ℕ) (at : ℕ) (d : Draft) (x : Field)
     → Passes (tagAt s at) (valueAt s at) x
-    → loops x (valueAt s at) ≡ false
+    → fieldRepeats x (valueAt s at) ≡ false
     → namesAbsent s at rates ≡ false
-    → Sound rates d
-    → Sound rates (added d x (valueAt s at))
-field-sound rates s at d (header g t) k once named h = header-sound rates d (tagAt s at) g t (valueAt s at) k h
-field-sound rates s at d (port n r b) k once named h = port-sound rates d (tagAt s at) n r b (valueAt s at) k h
-field-sound rates s at d (flow n t c l m) k once named h =
-    flow-sound rates d (tagAt s at) n t c l m (valueAt s at) k
+    → ValidDraft rates d
+    → ValidDraft rates (added d x (valueAt s at))
+field-valid rates s at d (header g t) k once named h = header-valid rates d (tagAt s at) g t (valueAt s at) k h
+field-valid rates s at d (port n r b) k once named h = port-valid rates d (tagAt s at) n r b (valueAt s at) k h
+field-valid rates s at d (flow n t c l m) k once named h =
+    flow-valid rates d (tagAt s at) n t c l m (valueAt s at) k
     (distinct-route n t c l m (valueAt s at) once)
     (named-route rates s at (k .kind) named)
     h
 
 -- so does the whole walk
-walk-sound
+walk-valid
     : (rates s : List ℕ) {at : ℕ} {d e : Draft}
     → Reads s at d e
     → Named rates s at
-    → Sound rates d
-    → Sound rates e
-walk-sound rates s (done same end) named h = rw same at h
-walk-sound rates s {at} {d} (one x next less stands fresh simple rest) named h =
+    → ValidDraft rates d
+    → ValidDraft rates e
+walk-valid rates s (done same end) named h = rw same at h
+walk-valid rates s {at} {d} (one x next less stands fresh no-repeat rest) named h =
     let f = named-front rates s at less (field-is-whole s at x next stands) named in
     let r = field-passes s at x next stands in
-    walk-sound rates s rest (rw (r .follows) (f .rest)) (field-sound rates s at d x (r .passes) simple (f .front) h)
+    walk-valid rates s rest (rw (r .follows) (f .rest)) (field-valid rates s at d x (r .passes) no-repeat (f .front) h)
 
--- a sound draft with a header and a flow is a well-formed plan
-sound-formed
+-- a valid draft with a header and a flow is a valid plan
+draft-valid
     : (d : Draft)
-    → Sound (d .tables .rates) d
+    → ValidDraft (d .tables .rates) d
     → eqb (d .tables .top) 0 ≡ false
     → eqb (d .flows) 0 ≡ false
-    → wellFormed (d .tables) ≡ true
-unfolding wellFormed flowSound soundIn
-sound-formed d h headed flowing =
+    → validPlan (d .tables) ≡ true
+unfolding validPlan validFlow validIn
+draft-valid d h headed flowing =
     rw (
       top,
       h .guard,
-      allTo-every portSlots (portSound p) (h .ports),
-      allTo-every flowSlots (flowSound p) (h .flows),
+      allTo-every portSlots (validPort p) (h .ports),
+      allTo-every flowSlots (validFlow p) (h .flows),
       some (h .some),
     )
   where
@@ -89,14 +89,14 @@ sound-formed d h headed flowing =
     some (inl e) = absurd (true≢false (sym (eq-eqb _ _ e) ∙ flowing))
     some (inr t) = anyTo-some flowSlots (present p) (t .0) (t .1) (t .2)
 
--- every accepted plan is well formed
-pub accepted-formed
+-- every accepted plan is well valid
+pub accepted-valid
     : (s : List ℕ) (p : Plan) (ports flows : ℕ)
     → readPlan s ≡ accepted p ports flows
-    → wellFormed p ≡ true
-accepted-formed s p m k e =
+    → validPlan p ≡ true
+accepted-valid s p m k e =
     let a = accepted-reads s p m k e in
     let c = closing-accepted s (a .final) p m k (a .closes) in
     let rates = a .final .tables .rates in
-    let h = walk-sound rates s (a .walk) (c .none-absent) (sound-blank rates) in
-    rw (c .plan) at (sound-formed (a .final) h (c .with-header) (c .with-flow))
+    let h = walk-valid rates s (a .walk) (c .none-absent) (blank-valid rates) in
+    rw (c .plan) at (draft-valid (a .final) h (c .with-header) (c .with-flow))

@@ -1,17 +1,17 @@
--- The plan held after a row of calls is the one in the bytes of the last load in which the rules find no refusal.
+-- The plan held after a sequence of calls is the one in the bytes of the last load in which the rules find no refusal.
 use mathlib.Core.Path.{_≡_, refl}
 use mathlib.Core.Bool.{false}
 use mathlib.Core.List.{List, [], _∷_}
 use mathlib.Core.Option.{Option, none, some}
 use Prim.Native.Nat.{ℕ}
 use native.Mathlib.Omega.{arith}
-use Rattle.cqf.specs.Plan.{Plan, noPlan, wellFormed}
-use Rattle.plan.specs.Reading.{Reading, accepted, rejected, readPlan}
+use Rattle.cqf.specs.Plan.{Plan, noPlan, validPlan}
+use Rattle.plan.specs.Reading.{PlanRead, accepted, rejected, readPlan}
 use Rattle.loading.specs.Outcome.{loadLeaves, readingLeaves}
 use Rattle.planner.specs.Calls.{Call, load, check, slack, least, marginSafe, leaves, afterFrom, after, accepting, keeping, heldFrom, heldBytes}
 
 -- the tables that a reading stands for; none for a refusal
-abbrev readTables : Reading → Option Plan
+abbrev readTables : PlanRead → Option Plan
 readTables (accepted p ports flows) = some p
 readTables (rejected number offset) = none
 
@@ -25,7 +25,7 @@ load-holds : (held : Option (List ℕ)) (p : Plan) (s : List ℕ) → Holds held
 unfolding loadLeaves
 load-holds held p s h = go (readPlan s) refl
   where
-    go : (r : Reading) → readPlan s ≡ r → Holds (accepting held s r) (readingLeaves p r)
+    go : (r : PlanRead) → readPlan s ≡ r → Holds (accepting held s r) (readingLeaves p r)
     go (accepted q m n) e =
         record {
           nothing = λ d. let z : q ≡ noPlan = cc in z;
@@ -40,14 +40,14 @@ call-holds held p (slack n T) h = h
 call-holds held p (least scratch) h = h
 call-holds held p (marginSafe scratch) h = h
 
-row-holds : (held : Option (List ℕ)) (p : Plan) (calls : List Call) → Holds held p → Holds (heldFrom held calls) (afterFrom p calls)
+calls-hold-from : (held : Option (List ℕ)) (p : Plan) (calls : List Call) → Holds held p → Holds (heldFrom held calls) (afterFrom p calls)
 unfolding heldFrom afterFrom
-row-holds held p [] h = h
-row-holds held p (c ∷ cs) h = row-holds (keeping held c) (leaves p c) cs (call-holds held p c h)
+calls-hold-from held p [] h = h
+calls-hold-from held p (c ∷ cs) h = calls-hold-from (keeping held c) (leaves p c) cs (call-holds held p c h)
 
 calls-hold : (calls : List Call) → Holds (heldBytes calls) (after calls)
 unfolding heldBytes after
-calls-hold calls = row-holds none noPlan calls (record { nothing = λ e. refl; last = λ s e. cc })
+calls-hold calls = calls-hold-from none noPlan calls (record { nothing = λ e. refl; last = λ s e. cc })
 
 -- the plan that is held is the one of an accepted load
 pub record Loaded (s : List ℕ) (p : Plan) : Type 0 where
@@ -58,11 +58,11 @@ pub record Loaded (s : List ℕ) (p : Plan) : Type 0 where
 pub after-loaded : (calls : List Call) (s : List ℕ) → heldBytes calls ≡ some s → Loaded s (after calls)
 after-loaded calls s e = go (readPlan s) refl (calls-hold calls .last s e)
   where
-    go : (r : Reading) → readPlan s ≡ r → readTables r ≡ some (after calls) → Loaded s (after calls)
+    go : (r : PlanRead) → readPlan s ≡ r → readTables r ≡ some (after calls) → Loaded s (after calls)
     go (accepted p m n) e h = let same : p ≡ after calls = cc in record { ports = m; flows = n; reads = rw same at e }
     go (rejected m n) e h = let z : _≡_ {A = ℕ} 0 1 = cc in absurd (omega arith)
 
--- after a row of calls with an accepted load, the planner holds the plan in the last one's bytes
+-- after a sequence of calls with an accepted load, the planner holds the plan in the last one's bytes
 pub after-held
     : (calls : List Call) (s : List ℕ)
     → heldBytes calls ≡ some s
@@ -71,10 +71,10 @@ pub after-held
     → after calls ≡ p
 after-held calls s e p m n r = let h = after-loaded calls s e .reads in cc
 
--- after one without it is the empty one, whose tables are not well formed: every question is answered 20
-empty-unformed : wellFormed noPlan ≡ false
-unfolding wellFormed noPlan
+-- after one without it is the empty one, whose tables are not well valid: every question is answered 20
+empty-unformed : validPlan noPlan ≡ false
+unfolding validPlan noPlan
 empty-unformed = refl
 
-pub after-none : (calls : List Call) → heldBytes calls ≡ none → wellFormed (after calls) ≡ false
+pub after-none : (calls : List Call) → heldBytes calls ≡ none → validPlan (after calls) ≡ false
 after-none calls e = rw (calls-hold calls .nothing e) empty-unformed

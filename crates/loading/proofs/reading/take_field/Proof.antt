@@ -1,19 +1,19 @@
--- `enter` meets its contract: the tests 6 and 7 of a field that was read, and the field stored.
+-- `take_field` meets its contract: the tests 6 and 7 of a field that was read, and the field stored.
 use mathlib.Core.Path.{_≡_, sym, _∙_}
 use mathlib.Core.Bool.{false}
 use denote.Ref.{now}
 use Rattle.plan.specs.Bytes.{valueAt}
-use Rattle.plan.specs.Draft.{taken, loops}
+use Rattle.plan.specs.Draft.{taken, fieldRepeats}
 use Rattle.plan.specs.Answer.{fieldOf}
 use Rattle.plan.specs.laws.Whole.{part-whole}
 use Rattle.plan.specs.laws.Passes.{field-is-whole}
 use Rattle.plan.specs.laws.Found.{found-numbers, found-route}
-use Rattle.plan.specs.laws.Steps.{step-taken, step-loops, step-added}
+use Rattle.plan.specs.laws.Steps.{step-taken, step-repeats, step-added}
 use Rattle.tables.specs.Tables.{planOf}
 use Rattle.loading.specs.Loading.{draftOf}
 use borrow.Author.Needs.{needs}
-use Rattle.loading.proofs.reading.enter.Statement.{statement}
-use Rattle.loading.proofs.reading.enter.Tie as tie
+use Rattle.loading.proofs.reading.take_field.Statement.{statement}
+use Rattle.loading.proofs.reading.take_field.Tie as tie
 
 -- the slot was free
 free : (c : tie.Else1) →
@@ -27,11 +27,11 @@ value-read c =
     let a = c .before .before .before .before .before in
     c .field-value .ensures ∙ part-whole _ _ (field-is-whole _ _ (fieldOf (a .args .x)) (a .args .next) (a .pre .2))
 
-looped : (c : tie.After-is-looping) →
-    c .is-looping .result
-    ≡ loops (fieldOf (c .before .before .before .before .before .before .args .x))
+repeats-read : (c : tie.After-field-repeats) →
+    c .field-repeats .result
+    ≡ fieldRepeats (fieldOf (c .before .before .before .before .before .before .args .x))
     (valueAt (now (c .before .before .before .before .before .before .args .plan)) (c .before .before .before .before .before .before .args .at))
-looped c = c .is-looping .ensures ∙ rw (value-read (c .before))
+repeats-read c = c .field-repeats .ensures ∙ rw (value-read (c .before))
 
 is-taken-requires : tie.Need-is-taken-requires
 is-taken-requires c κs = found-numbers _ _ _ _ (c .before .before .pre .2)
@@ -44,15 +44,15 @@ returns c =
 field-value-requires : tie.Need-field-value-requires
 field-value-requires c κs = search needs
 
-is-looping-requires : tie.Need-is-looping-requires
-is-looping-requires c κs = search needs
+field-repeats-requires : tie.Need-field-repeats-requires
+field-repeats-requires c κs = search needs
 
 returns-2 : tie.Need-returns-2
 returns-2 c =
     let a = c .before .before .before .before .before .before .before in
-    sym (step-loops _ _ (draftOf (a .args .draft)) (fieldOf (a .args .x)) (a .args .next) (a .pre .2)
+    sym (step-repeats _ _ (draftOf (a .args .draft)) (fieldOf (a .args .x)) (a .args .next) (a .pre .2)
     (free (c .before .before .before))
-    (sym (looped (c .before)) ∙ c .if2 .taken))
+    (sym (repeats-read (c .before)) ∙ c .if2 .taken))
 
 with-added-requires : tie.Need-with-added-requires
 with-added-requires c κs =
@@ -65,16 +65,16 @@ returns-3 c =
     rw (c .with-added .ensures, value-read (c .before .before .before))
     (sym (step-added _ _ (draftOf (a .args .draft)) (fieldOf (a .args .x)) (a .args .next) (a .pre .2)
     (free (c .before .before .before .before))
-    (sym (looped (c .before .before)) ∙ c .before .if2 .left)))
+    (sym (repeats-read (c .before .before)) ∙ c .before .if2 .left)))
 
-pub enter-spec : {M : Type 1} → statement M
-enter-spec =
+pub take-field-spec : {M : Type 1} → statement M
+take-field-spec =
     tie.close
     (tie.spec
     is-taken-requires
     returns
     field-value-requires
-    is-looping-requires
+    field-repeats-requires
     returns-2
     with-added-requires
     returns-3)

@@ -1,9 +1,9 @@
-//! Whether these tables hold a plan that the rules accept, step by step as in crates/tables/src/sound.rt.
+//! Whether these tables hold a plan that the rules accept, step by step as in crates/tables/src/valid.rt.
 
 use crate::answers::Planner;
 use crate::jump::{FLOWS, MAX_HOPS, PORTS};
 
-fn port_sound(rate: u32, blocking: u16) -> bool {
+fn valid_port(rate: u32, blocking: u16) -> bool {
     if rate == 0 {
         return blocking == 0;
     }
@@ -11,7 +11,7 @@ fn port_sound(rate: u32, blocking: u16) -> bool {
 }
 
 /// Whether each port of a route is in the plan and stands in the route once.
-fn route_sound(planner: &Planner, slot: usize, hops: usize) -> bool {
+fn valid_route(planner: &Planner, slot: usize, hops: usize) -> bool {
     let mut seen = [false; PORTS];
     for &port in &planner.routes[slot * MAX_HOPS..slot * MAX_HOPS + hops] {
         let port = port as usize;
@@ -23,7 +23,7 @@ fn route_sound(planner: &Planner, slot: usize, hops: usize) -> bool {
     true
 }
 
-fn flow_sound(planner: &Planner, slot: usize) -> bool {
+fn valid_flow(planner: &Planner, slot: usize) -> bool {
     let (period, count) = (planner.periods[slot], planner.counts[slot]);
     let (length, hops) = (planner.lengths[slot], planner.hops[slot] as usize);
     if period == 0 {
@@ -33,13 +33,13 @@ fn flow_sound(planner: &Planner, slot: usize) -> bool {
         && (1..=64).contains(&count)
         && (64..=2_000).contains(&length)
         && (1..=MAX_HOPS).contains(&hops)
-        && route_sound(planner, slot, hops)
+        && valid_route(planner, slot, hops)
 }
 
-pub fn formed(planner: &Planner) -> bool {
+pub fn valid_plan(planner: &Planner) -> bool {
     (1..=100_000_000).contains(&planner.top)
         && planner.guard <= 1_000_000
-        && (0..PORTS).all(|slot| port_sound(planner.rates[slot], planner.blockings[slot]))
-        && (0..FLOWS).all(|slot| flow_sound(planner, slot))
+        && (0..PORTS).all(|slot| valid_port(planner.rates[slot], planner.blockings[slot]))
+        && (0..FLOWS).all(|slot| valid_flow(planner, slot))
         && planner.periods.iter().any(|period| *period != 0)
 }

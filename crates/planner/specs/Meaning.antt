@@ -1,4 +1,4 @@
--- Demand 3: what an answer of the plain question means, for every row of calls, every emission and its whole run.
+-- Demand 3: what an answer of the plain question means, for every sequence of calls, every emission and its whole run.
 use mathlib.Core.Path.{_≡_}
 use mathlib.Core.Logic.{_↔_}
 use mathlib.Core.List.{List, [], _∷_}
@@ -23,10 +23,10 @@ pub record Means (p : Plan) (T : ℕ) (answer : Answer (Unit {0})) : Type 0 wher
   pub accepted : (answer ≡ result tt) ↔ (Counterexample p T → ⊥)
   pub on-time : answer ≡ result tt → AllOnTime p T
 
--- the answer to T after every row of calls that leaves the planner at these tables: the plan is the one in the bytes of the
+-- the answer to T after every sequence of calls that leaves the planner at these tables: the plan is the one in the bytes of the
 -- last load in which the rules find no refusal, and T is from 1 to its top
-abbrev pub Demand3 : Plan → ℕ → Answer (Unit {0}) → Type 0
-Demand3 tables T answer =
+abbrev pub MeansHeld : Plan → ℕ → Answer (Unit {0}) → Type 0
+MeansHeld tables T answer =
     (calls : List Call) (bytes : List ℕ) (p : Plan) (ports flows : ℕ)
     → tables ≡ after calls
     → heldBytes calls ≡ some bytes

@@ -17,14 +17,14 @@ ghost use mathlib.Core.List.{[]};
 ghost use Prim.Native.Nat.{_+_, _≤_, _<_};
 ghost use lib.ListN.{length};
 ghost use lib.Dec.{eqb};
-ghost use Rattle.cqf.specs.Bounded.{anyTo, allTo, distinct, every, row};
+ghost use Rattle.cqf.specs.Bounded.{anyTo, allTo, distinct, every, sublist};
 ghost use Rattle.cqf.specs.Limits.{portSlots, flowSlots, rateOk, blockingOk, periodOk, countOk, lengthOk, hopsOk};
-ghost use Rattle.cqf.specs.Plan.{portIn, present, portSound, flowSound, wellFormed};
+ghost use Rattle.cqf.specs.Plan.{portIn, present, validPort, validFlow, validPlan};
 ghost use Rattle.tables.specs.Tables.{planOf};
 ghost use Rattle.tables.specs.Columns.{columns, FlowColumns};
 
 // Whether a port's slot is empty, or in range.
-fn port_sound(rate: u32, blocking: u16) -> bool
+fn valid_port(rate: u32, blocking: u16) -> bool
     ensures { λ r. ⌜ r ≡ (eqb rate 0 && eqb blocking 0) || (rateOk rate && blockingOk blocking) ⌝ }
 {
     if rate == 0 {
@@ -36,13 +36,13 @@ fn port_sound(rate: u32, blocking: u16) -> bool
     blocking_ok(blocking)
 }
 
-fn ports_sound<'a>(rates: &'a [u32], blockings: &'a [u16]) -> bool
+fn valid_ports<'a>(rates: &'a [u32], blockings: &'a [u16]) -> bool
     requires { ⌜ (length (now rates) ≡ portSlots) × (length (now blockings) ≡ portSlots) ⌝ }
-    ensures { λ r. ⌜ r ≡ allTo portSlots (portSound (columns (now (rates .entry)) (now (blockings .entry)) [] [] [] [] [])) ⌝ }
+    ensures { λ r. ⌜ r ≡ allTo portSlots (validPort (columns (now (rates .entry)) (now (blockings .entry)) [] [] [] [] [])) ⌝ }
 {
     let mut q: usize = 0;
     while q < PORTS {
-        if !port_sound(rates[q], blockings[q]) {
+        if !valid_port(rates[q], blockings[q]) {
             return false;
         }
         q += 1;
@@ -51,9 +51,9 @@ fn ports_sound<'a>(rates: &'a [u32], blockings: &'a [u16]) -> bool
 }
 
 // Whether each port of a route is in the plan and stands in the route once.
-fn route_sound<'a>(rates: &'a [u32], routes: &'a [u8], base: usize, hops: usize) -> bool
+fn valid_route<'a>(rates: &'a [u32], routes: &'a [u8], base: usize, hops: usize) -> bool
     requires { ⌜ (length (now rates) ≡ portSlots) × (base + hops ≤ length (now routes)) ⌝ }
-    ensures { λ r. ⌜ r ≡ every (portIn (now (rates .entry))) (row (now (routes .entry)) base hops) && distinct (row (now (routes .entry)) base hops) ⌝ }
+    ensures { λ r. ⌜ r ≡ every (portIn (now (rates .entry))) (sublist (now (routes .entry)) base hops) && distinct (sublist (now (routes .entry)) base hops) ⌝ }
 {
     let mut seen = [0u8; 64];
     let mut i: usize = 0;
@@ -94,7 +94,7 @@ fn flow_in_range(period: u32, count: u16, bytes: u16, hops: u8) -> bool
 }
 
 // Whether a flow's slot is empty, or holds a flow in range over distinct ports of the plan.
-fn flow_sound<'a>(
+fn valid_flow<'a>(
     rates: &'a [u32],
     periods: &'a [u32],
     counts: &'a [u16],
@@ -104,7 +104,7 @@ fn flow_sound<'a>(
     f: usize,
 ) -> bool
     requires { ⌜ (length (now rates) ≡ portSlots) × FlowColumns (now periods) (now counts) (now lengths) (now hops) (now routes) × (f < flowSlots) ⌝ }
-    ensures { λ r. ⌜ r ≡ flowSound (columns (now (rates .entry)) [] (now (periods .entry)) (now (counts .entry)) (now (lengths .entry)) (now (hops .entry)) (now (routes .entry))) f ⌝ }
+    ensures { λ r. ⌜ r ≡ validFlow (columns (now (rates .entry)) [] (now (periods .entry)) (now (counts .entry)) (now (lengths .entry)) (now (hops .entry)) (now (routes .entry))) f ⌝ }
 {
     let period = periods[f];
     let count = counts[f];
@@ -122,10 +122,10 @@ fn flow_sound<'a>(
     if !flow_in_range(period, count, bytes, ports) {
         return false;
     }
-    route_sound(rates, routes, f * HOPS, ports as usize)
+    valid_route(rates, routes, f * HOPS, ports as usize)
 }
 
-fn flows_sound<'a>(
+fn valid_flows<'a>(
     rates: &'a [u32],
     periods: &'a [u32],
     counts: &'a [u16],
@@ -134,11 +134,11 @@ fn flows_sound<'a>(
     routes: &'a [u8],
 ) -> bool
     requires { ⌜ (length (now rates) ≡ portSlots) × FlowColumns (now periods) (now counts) (now lengths) (now hops) (now routes) ⌝ }
-    ensures { λ r. ⌜ r ≡ allTo flowSlots (flowSound (columns (now (rates .entry)) [] (now (periods .entry)) (now (counts .entry)) (now (lengths .entry)) (now (hops .entry)) (now (routes .entry)))) ⌝ }
+    ensures { λ r. ⌜ r ≡ allTo flowSlots (validFlow (columns (now (rates .entry)) [] (now (periods .entry)) (now (counts .entry)) (now (lengths .entry)) (now (hops .entry)) (now (routes .entry)))) ⌝ }
 {
     let mut f: usize = 0;
     while f < FLOWS {
-        if !flow_sound(rates, periods, counts, lengths, hops, routes, f) {
+        if !valid_flow(rates, periods, counts, lengths, hops, routes, f) {
             return false;
         }
         f += 1;
@@ -160,8 +160,8 @@ fn any_present(periods: &[u32]) -> bool
     false
 }
 
-pub fn formed(planner: Planner) -> bool
-    ensures { λ r. ⌜ r ≡ wellFormed (planOf planner) ⌝ }
+pub fn valid_plan(planner: Planner) -> bool
+    ensures { λ r. ⌜ r ≡ validPlan (planOf planner) ⌝ }
 {
     let top = planner.top;
     if !top_ok(top) {
@@ -171,10 +171,10 @@ pub fn formed(planner: Planner) -> bool
     if !guard_ok(guard) {
         return false;
     }
-    if !ports_sound(&planner.rates, &planner.blockings) {
+    if !valid_ports(&planner.rates, &planner.blockings) {
         return false;
     }
-    if !flows_sound(
+    if !valid_flows(
         &planner.rates,
         &planner.periods,
         &planner.counts,

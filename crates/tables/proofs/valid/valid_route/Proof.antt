@@ -1,4 +1,4 @@
--- `tables::sound::route_sound` meets its contract. The loop's invariant: every port passed is in the plan and new, and `seen`
+-- `tables::valid::valid_route` meets its contract. The loop's invariant: every port passed is in the plan and new, and `seen`
 -- has 1 for each of them.
 use mathlib.Core.Path.{_≡_, refl, sym, _∙_}
 use mathlib.Core.Bool.{Bool, true, false, not, _&&_, and-false}
@@ -7,48 +7,48 @@ use Prim.Native.Nat.{ℕ, _+_, _-_, _≤_, _<_}
 use native.Mathlib.Omega.{arith}
 use lib.ListN.{length, getD, length-set, getD-replicate}
 use borrow.Author.Needs.{needs}
-use Rattle.cqf.specs.Bounded.{allTo, elem, every, distinct, row}
+use Rattle.cqf.specs.Bounded.{allTo, elem, every, distinct, sublist}
 use Rattle.cqf.specs.Limits.{portSlots}
 use Rattle.cqf.specs.Plan.{portIn}
 use Rattle.cqf.specs.laws.Bounds.{allTo-next, allTo-false}
 use Rattle.cqf.specs.laws.Route.{route-test, portIn-low, portIn-high, portIn-absent, portIn-there}
 use Rattle.tables.specs.Columns.{Marked}
 use Rattle.tables.specs.laws.Marks.{mark-next, marked-new, marked-again}
-use Rattle.tables.proofs.sound.route_sound.Statement.{statement}
-use Rattle.tables.proofs.sound.route_sound.Tie as tie
+use Rattle.tables.proofs.valid.valid_route.Statement.{statement}
+use Rattle.tables.proofs.valid.valid_route.Tie as tie
 
 -- the test of the port at i of a route: it is in the plan, and stands nowhere before
 abbrev passes : List ℕ → List ℕ → ℕ → ℕ → Bool
 passes rates routes base i =
-    portIn rates (getD routes (base + i) 0) && not (elem (getD routes (base + i) 0) (row routes base i))
+    portIn rates (getD routes (base + i) 0) && not (elem (getD routes (base + i) 0) (sublist routes base i))
 
 abbrev Inv-loop : tie.InvT-loop
 Inv-loop rates routes base hops seen₀ i₀ seen i =
     (i ≤ hops)
     × (length seen ≡ portSlots)
     × (allTo i (passes rates routes base) ≡ true)
-    × Marked [] seen (row routes base i) 1
+    × Marked [] seen (sublist routes base i) 1
 
 abbrev μ-loop : tie.MeasureT-loop
 μ-loop rates routes base hops seen₀ i₀ seen i = hops - i
 
--- one port that fails the test makes the route unsound
+-- one port that fails the test makes the route invalid
 module _ (rates routes : List ℕ) (base hops i : ℕ) (within : i < hops) where
-  unsound : passes rates routes base i ≡ false → false ≡ every (portIn rates) (row routes base hops) && distinct (row routes base hops)
-  unsound e = sym (route-test (portIn rates) routes base hops ∙ allTo-false hops (passes rates routes base) i within e)
+  invalid : passes rates routes base i ≡ false → false ≡ every (portIn rates) (sublist routes base hops) && distinct (sublist routes base hops)
+  invalid e = sym (route-test (portIn rates) routes base hops ∙ allTo-false hops (passes rates routes base) i within e)
 
   outside
       : portIn rates (getD routes (base + i) 0) ≡ false
-      → false ≡ every (portIn rates) (row routes base hops) && distinct (row routes base hops)
-  outside e = unsound (rw e)
+      → false ≡ every (portIn rates) (sublist routes base hops) && distinct (sublist routes base hops)
+  outside e = invalid (rw e)
 
   twice
-      : elem (getD routes (base + i) 0) (row routes base i) ≡ true
-      → false ≡ every (portIn rates) (row routes base hops) && distinct (row routes base hops)
-  twice e = unsound (rw e (and-false (portIn rates (getD routes (base + i) 0))))
+      : elem (getD routes (base + i) 0) (sublist routes base i) ≡ true
+      → false ≡ every (portIn rates) (sublist routes base hops) && distinct (sublist routes base hops)
+  twice e = invalid (rw e (and-false (portIn rates (getD routes (base + i) 0))))
 
 loop-holds : tie.Need-loop-holds Inv-loop μ-loop
-unfolding allTo elem row
+unfolding allTo elem sublist
 loop-holds c = (omega arith, refl, refl, λ q h. getD-replicate 64 q 0 0 h)
 
 add-n : tie.Need-add-n Inv-loop μ-loop
@@ -98,7 +98,7 @@ returns-4 c =
     let a = at .before .args in
     let n = getD (a .routes .now) (a .base + at .loop .i) 0 in
     twice (a .rates .now) (a .routes .now) (a .base) (a .hops) (at .loop .i) (omega arith)
-    (marked-again (at .loop .seen) (row (a .routes .now) (a .base) (at .loop .i)) n (at .loop .inv .3) (omega arith) (omega arith) (c .if4 .taken))
+    (marked-again (at .loop .seen) (sublist (a .routes .now) (a .base) (at .loop .i)) n (at .loop .inv .3) (omega arith) (omega arith) (c .if4 .taken))
 
 array-write-seen : tie.Need-array-write-seen Inv-loop μ-loop
 array-write-seen c = search needs
@@ -114,7 +114,7 @@ loop-again c =
     let at = c .before .before .before .before .before .before .before in
     let a = at .before .args in
     let n = getD (a .routes .now) (a .base + at .loop .i) 0 in
-    let r = row (a .routes .now) (a .base) (at .loop .i) in
+    let r = sublist (a .routes .now) (a .base) (at .loop .i) in
     let new : elem n r ≡ false = marked-new (at .loop .seen) r n (at .loop .inv .3) (omega arith) (omega arith) (c .if4 .left) in
     let there : portIn (a .rates .now) n ≡ true = portIn-there (a .rates .now) n (omega arith) (omega arith) (c .before .if3 .left) in (
       omega arith,
@@ -129,8 +129,8 @@ returns-5 c =
     let all : at .loop .i ≡ at .before .args .hops = omega arith in
     sym (route-test _ _ _ (at .before .args .hops) ∙ (rw all at (at .loop .inv .2)))
 
-pub route-sound-spec : {M : Type 1} → statement M
-route-sound-spec =
+pub valid-route-spec : {M : Type 1} → statement M
+valid-route-spec =
     tie.close
     (tie.spec
     Inv-loop

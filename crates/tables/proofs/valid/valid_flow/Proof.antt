@@ -1,4 +1,4 @@
--- `tables::sound::flow_sound` meets its contract: each way out has decided the tests of a flow's slot.
+-- `tables::valid::valid_flow` meets its contract: each way out has decided the tests of a flow's slot.
 use mathlib.Core.Path.{sym, _∙_}
 use mathlib.Core.List.{[]}
 use Prim.Native.Nat.{_≤_}
@@ -9,8 +9,8 @@ use borrow.Author.Needs.{needs}
 use Rattle.cqf.specs.Limits.{maxHops}
 use Rattle.cqf.specs.laws.Slot.{slot-count, slot-length, slot-hops, slot-range, slot-route, ranged-hops}
 use Rattle.tables.specs.Columns.{columns}
-use Rattle.tables.proofs.sound.flow_sound.Statement.{statement}
-use Rattle.tables.proofs.sound.flow_sound.Tie as tie
+use Rattle.tables.proofs.valid.valid_flow.Statement.{statement}
+use Rattle.tables.proofs.valid.valid_flow.Tie as tie
 
 -- a flow in range has at most 16 ports
 few
@@ -61,20 +61,20 @@ flow-in-range-requires c κs = search needs
 returns-4 : tie.Need-returns-4
 returns-4 c = sym (slot-range _ _ (c .before .before .if1 .left) (sym (c .before .flow-in-range .ensures) ∙ not-true _ (c .if4 .taken)))
 
-mul-route-sound : tie.Need-mul-route-sound
-mul-route-sound c = search needs
+mul-valid-route : tie.Need-mul-valid-route
+mul-valid-route c = search needs
 
-cast-route-sound : tie.Need-cast-route-sound
-cast-route-sound c = omega (arith, few c)
+cast-valid-route : tie.Need-cast-valid-route
+cast-valid-route c = omega (arith, few c)
 
-route-sound-requires : tie.Need-route-sound-requires
-route-sound-requires c κs = omega (arith, few c)
+valid-route-requires : tie.Need-valid-route-requires
+valid-route-requires c κs = omega (arith, few c)
 
 returns-5 : tie.Need-returns-5
-returns-5 c = c .route-sound .ensures ∙ sym (slot-route _ _ (c .before .before .before .if1 .left) (sym (c .before .before .flow-in-range .ensures) ∙ not-false _ (c .before .if4 .left)))
+returns-5 c = c .valid-route .ensures ∙ sym (slot-route _ _ (c .before .before .before .if1 .left) (sym (c .before .before .flow-in-range .ensures) ∙ not-false _ (c .before .if4 .left)))
 
-pub flow-sound-spec : {M : Type 1} → statement M
-flow-sound-spec =
+pub valid-flow-spec : {M : Type 1} → statement M
+valid-flow-spec =
     tie.close
     (tie.spec
     mul-period
@@ -89,7 +89,7 @@ flow-sound-spec =
     returns-3
     flow-in-range-requires
     returns-4
-    mul-route-sound
-    cast-route-sound
-    route-sound-requires
+    mul-valid-route
+    cast-valid-route
+    valid-route-requires
     returns-5)

@@ -1,4 +1,4 @@
--- `tables::sound::flows_sound` meets its contract. The loop's invariant: every slot passed is sound.
+-- `tables::valid::valid_flows` meets its contract. The loop's invariant: every slot passed is valid.
 use mathlib.Core.Path.{_≡_, sym, _∙_}
 use mathlib.Core.Bool.{true}
 use mathlib.Core.List.{[]}
@@ -8,14 +8,14 @@ use borrow.Author.Needs.{needs}
 use borrow.Author.Tests.{not-true, not-false}
 use Rattle.cqf.specs.Bounded.{allTo}
 use Rattle.cqf.specs.Limits.{flowSlots}
-use Rattle.cqf.specs.Plan.{flowSound}
+use Rattle.cqf.specs.Plan.{validFlow}
 use Rattle.cqf.specs.laws.Bounds.{allTo-next, allTo-false}
 use Rattle.tables.specs.Columns.{columns}
-use Rattle.tables.proofs.sound.flows_sound.Statement.{statement}
-use Rattle.tables.proofs.sound.flows_sound.Tie as tie
+use Rattle.tables.proofs.valid.valid_flows.Statement.{statement}
+use Rattle.tables.proofs.valid.valid_flows.Tie as tie
 
 abbrev Inv-loop : tie.InvT-loop
-Inv-loop rates periods counts lengths hops routes f₀ f = (f ≤ flowSlots) × (allTo f (flowSound (columns rates [] periods counts lengths hops routes)) ≡ true)
+Inv-loop rates periods counts lengths hops routes f₀ f = (f ≤ flowSlots) × (allTo f (validFlow (columns rates [] periods counts lengths hops routes)) ≡ true)
 
 abbrev μ-loop : tie.MeasureT-loop
 μ-loop rates periods counts lengths hops routes f₀ f = flowSlots - f
@@ -24,13 +24,13 @@ loop-holds : tie.Need-loop-holds Inv-loop μ-loop
 unfolding allTo
 loop-holds c = search needs
 
-flow-sound-requires : tie.Need-flow-sound-requires Inv-loop μ-loop
-flow-sound-requires c κs = search needs
+valid-flow-requires : tie.Need-valid-flow-requires Inv-loop μ-loop
+valid-flow-requires c κs = search needs
 
 returns : tie.Need-returns Inv-loop μ-loop
 returns c =
     let f = c .before .before .before .loop .f in
-    sym (allTo-false flowSlots _ f (omega arith) (sym (c .before .flow-sound .ensures) ∙ not-true _ (c .if1 .taken)))
+    sym (allTo-false flowSlots _ f (omega arith) (sym (c .before .valid-flow .ensures) ∙ not-true _ (c .if1 .taken)))
 
 add-f : tie.Need-add-f Inv-loop μ-loop
 add-f c = search needs
@@ -42,7 +42,7 @@ loop-again : tie.Need-loop-again Inv-loop μ-loop
 loop-again c =
     let at = c .before .before .before in (
       omega arith,
-      allTo-next (at .loop .f) _ (at .loop .inv .1) (sym (c .before .flow-sound .ensures) ∙ not-false _ (c .if1 .left)),
+      allTo-next (at .loop .f) _ (at .loop .inv .1) (sym (c .before .valid-flow .ensures) ∙ not-false _ (c .if1 .left)),
     )
 
 returns-2 : tie.Need-returns-2 Inv-loop μ-loop
@@ -50,14 +50,14 @@ returns-2 c =
     let all : c .before .loop .f ≡ flowSlots = omega arith in
     sym (rw all at (c .before .loop .inv .1))
 
-pub flows-sound-spec : {M : Type 1} → statement M
-flows-sound-spec =
+pub valid-flows-spec : {M : Type 1} → statement M
+valid-flows-spec =
     tie.close
     (tie.spec
     Inv-loop
     μ-loop
     loop-holds
-    flow-sound-requires
+    valid-flow-requires
     returns
     add-f
     loop-less

@@ -1,10 +1,10 @@
--- `tables::sound::port_sound` meets its contract: each way out has decided the tests of a port's slot.
+-- `tables::valid::valid_port` meets its contract: each way out has decided the tests of a port's slot.
 use mathlib.Core.Path.{sym, _∙_}
 use mathlib.Core.Bool.{or-false}
 use borrow.Author.Needs.{needs}
 use borrow.Author.Tests.{ne-eqb, not-true, not-false}
-use Rattle.tables.proofs.sound.port_sound.Statement.{statement}
-use Rattle.tables.proofs.sound.port_sound.Tie as tie
+use Rattle.tables.proofs.valid.valid_port.Statement.{statement}
+use Rattle.tables.proofs.valid.valid_port.Tie as tie
 
 returns : tie.Need-returns
 returns c = simp (c .if1 .taken, or-false)
@@ -27,5 +27,5 @@ returns-3 c =
       c .blocking-ok .ensures,
     )
 
-pub port-sound-spec : {M : Type 1} → statement M
-port-sound-spec = tie.close (tie.spec returns rate-ok-requires returns-2 blocking-ok-requires returns-3)
+pub valid-port-spec : {M : Type 1} → statement M
+valid-port-spec = tie.close (tie.spec returns rate-ok-requires returns-2 blocking-ok-requires returns-3)
