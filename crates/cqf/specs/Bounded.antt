@@ -1,5 +1,5 @@
--- Sums, counts, tests, searches and tables over the numbers below a bound, and tests on lists.
-use Prim.Native.Nat.{ℕ, zero, suc, _+_}
+-- Sums, largest numbers, counts, tests, searches and tables over the numbers below a bound, and tests on lists.
+use Prim.Native.Nat.{ℕ, zero, suc, max, _+_}
 use mathlib.Core.List.{List, [], _∷_}
 use mathlib.Core.Bool.{Bool, true, false, cond, not, _&&_, _||_}
 use lib.Dec.{eqb, leb}
@@ -8,6 +8,11 @@ use lib.Dec.{eqb, leb}
 unfoldable pub sumTo : ℕ → (ℕ → ℕ) → ℕ
 sumTo zero g = 0
 sumTo (suc n) g = sumTo n g + g n
+
+-- the largest of g 0, .. and g (n - 1), 0 where n is 0
+unfoldable pub maxTo : ℕ → (ℕ → ℕ) → ℕ
+maxTo zero g = 0
+maxTo (suc n) g = max (maxTo n g) (g n)
 
 -- how many i below n pass the test
 unfoldable pub countTo : ℕ → (ℕ → Bool) → ℕ

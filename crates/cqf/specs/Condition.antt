@@ -4,8 +4,8 @@ use Prim.Native.Nat.{ℕ, suc, pred, _+_, _-_, _*_, _/_}
 use mathlib.Core.Bool.{Bool, cond, not, _&&_}
 use lib.Dec.{eqb, ltb, leb}
 use lib.IntN.{ℤ, subℕ}
-use Rattle.cqf.specs.Bounded.{sumTo, countTo, anyTo, lowest}
-use Rattle.cqf.specs.Limits.{portSlots, flowSlots}
+use Rattle.cqf.specs.Bounded.{sumTo, maxTo, countTo, anyTo, lowest}
+use Rattle.cqf.specs.Limits.{portSlots, flowSlots, maxCount, maxLength, mostBegun}
 use Rattle.cqf.specs.Plan.{Plan, rateOf, blockingOf, periodOf, countOf, lengthOf, crosses}
 
 -- preamble and start delimiter 8, gap 12
@@ -16,51 +16,95 @@ overhead = 20
 abbrev pub nsPerBit : ℕ
 nsPerBit = 1000
 
--- a frame of this many bytes on the wire, in bits
-unfoldable pub bitsOf : ℕ → ℕ
-bitsOf bytes = 8 * (bytes + overhead)
-
--- the wire bits of one frame of flow f at the port in slot q: the same at every port
-unfoldable pub wireBits : Plan → ℕ → ℕ → ℕ
-unfolding bitsOf
-wireBits p f q = bitsOf (lengthOf p f)
-
--- the wire bits of the longest frame of another class; none where the length is 0
-unfoldable pub blockingBits : Plan → ℕ → ℕ
-unfolding bitsOf
-blockingBits p q = cond (eqb (blockingOf p q) 0) 0 (bitsOf (blockingOf p q))
-
 -- a / b rounded up, for b above 0
 unfoldable pub ceilDiv : ℕ → ℕ → ℕ
 ceilDiv a b = (a + pred b) / b
 
+-- One port, from its numbers. A frame of this many bytes on the wire, in bits.
+abbrev pub bitsOf : ℕ → ℕ
+bitsOf bytes = 8 * (bytes + overhead)
+
+-- the wire bits of the longest frame of another class (document 01: the blocker); none where the length is 0
+abbrev pub blockingBitsOf : ℕ → ℕ
+blockingBitsOf bytes = cond (eqb bytes 0) 0 (bitsOf bytes)
+
+-- the part of a cycle in which a port sends: T - 2S, 0 where T is below 2S (a difference of naturals is 0 there)
+abbrev pub windowOf : (guard T : ℕ) → ℕ
+windowOf guard T = T - 2 * guard
+
+-- what a port can send in a window, and what it must be able to send, both in bits times 1,000 ns
+abbrev pub capacityOf : (rate window : ℕ) → ℕ
+capacityOf rate window = rate * window
+
+abbrev pub workloadOf : (blocking bits : ℕ) → ℕ
+workloadOf blocking bits = nsPerBit * (bits + blockingBitsOf blocking)
+
+-- whether a port must send more than it can
+abbrev pub exceeds : (work capacity : ℕ) → Bool
+exceeds work capacity = ltb capacity work
+
+-- whether a port that must send these bits in a window fails; one that must send none does not
+abbrev pub failsBy : (rate blocking window bits : ℕ) → Bool
+failsBy rate blocking window bits = ltb 0 bits && exceeds (workloadOf blocking bits) (capacityOf rate window)
+
+-- the least duration in which a port can send these bits outside the guard bands; 0 where there are none
+abbrev pub needBy : (guard rate blocking bits : ℕ) → ℕ
+needBy guard rate blocking bits = cond (ltb 0 bits) (2 * guard + ceilDiv (workloadOf blocking bits) rate) 0
+
+-- The same of a plan. The wire bits of one frame of flow f at the port in slot q: the same at every port.
+unfoldable pub wireBits : Plan → ℕ → ℕ → ℕ
+wireBits p f q = bitsOf (lengthOf p f)
+
+-- the length over which frames are counted at T, in ns
+unfoldable pub stretch : Plan → ℕ → ℕ
+stretch p T = T
+
+-- the periods of flow f that begin in it
+unfoldable pub begun : Plan → ℕ → ℕ → ℕ
+unfolding ceilDiv stretch
+begun p f T = ceilDiv (stretch p T) (periodOf p f)
+
 -- the frames that flow f brings at T
 unfoldable pub frames : Plan → ℕ → ℕ → ℕ
-unfolding ceilDiv
-frames p f T = countOf p f * ceilDiv T (periodOf p f)
+unfolding begun
+frames p f T = countOf p f * begun p f T
 
 -- a port's demand D at T, in bits
 unfoldable pub demand : Plan → ℕ → ℕ → ℕ
 unfolding wireBits frames sumTo
 demand p q T = sumTo flowSlots (λ f. cond (crosses p f q) (frames p f T * wireBits p f q) 0)
 
--- the part of a cycle in which a port sends: T - 2S, 0 where T is below 2S (a difference of naturals is 0 there)
+-- the window
 unfoldable pub window : Plan → ℕ → ℕ
-window p T = T - 2 * p .guard
+window p T = windowOf (p .guard) T
 
--- what a port can send in a window, and what it must be able to send, both in bits times 1,000 ns
 unfoldable pub capacity : Plan → ℕ → ℕ → ℕ
 unfolding window
-capacity p q T = rateOf p q * window p T
+capacity p q T = capacityOf (rateOf p q) (window p T)
 
 unfoldable pub workload : Plan → ℕ → ℕ → ℕ
-unfolding blockingBits
-workload p q bits = nsPerBit * (bits + blockingBits p q)
+workload p q bits = workloadOf (blockingOf p q) bits
 
 -- a crossed port's slack at T: document 01's spare
 unfoldable pub slack : Plan → ℕ → ℕ → ℤ
 unfolding capacity workload demand
 slack p q T = subℕ (capacity p q T) (workload p q (demand p q T))
+
+-- what the port in slot q needs for its demand at T, and the most that a port needs
+unfoldable pub need : Plan → ℕ → ℕ → ℕ
+unfolding demand
+need p q T = needBy (p .guard) (rateOf p q) (blockingOf p q) (demand p q T)
+
+unfoldable pub largestNeed : Plan → ℕ → ℕ
+unfolding maxTo need
+largestNeed p T = maxTo portSlots (λ q. need p q T)
+
+-- the most bits that one flow brings to a port, and the largest demand of a port
+abbrev pub mostBits : ℕ
+mostBits = maxCount * mostBegun * bitsOf maxLength
+
+abbrev pub mostDemand : ℕ
+mostDemand = flowSlots * mostBits
 
 -- whether some flow crosses the port in slot q
 unfoldable pub crossed : Plan → ℕ → Bool
@@ -70,7 +114,7 @@ crossed p q = anyTo flowSlots (λ f. crosses p f q)
 -- whether the port in slot q fails at T; one that no flow crosses is never tested
 unfoldable pub fails : Plan → ℕ → ℕ → Bool
 unfolding crossed capacity workload demand
-fails p T q = crossed p q && ltb (capacity p q T) (workload p q (demand p q T))
+fails p T q = crossed p q && exceeds (workload p q (demand p q T)) (capacity p q T)
 
 -- how many ports fail at T, and the number of the lowest
 unfoldable pub failing : Plan → ℕ → ℕ

@@ -1,5 +1,5 @@
 -- The numbers of a plan and their ranges (document 01, "The plan's bytes").
-use Prim.Native.Nat.{ℕ}
+use Prim.Native.Nat.{ℕ, pred, _+_, _/_}
 use mathlib.Core.Bool.{Bool, _||_}
 use lib.Dec.{eqb}
 use Rattle.cqf.specs.Bounded.{within}
@@ -29,6 +29,10 @@ maxCount = 64
 
 abbrev pub maxLength : ℕ
 maxLength = 2000
+
+-- the most periods that begin in a duration
+abbrev pub mostBegun : ℕ
+mostBegun = (maxTop + pred minPeriod) / minPeriod
 
 -- guard band S in ns
 abbrev pub guardOk : ℕ → Bool

@@ -7,8 +7,8 @@ use lib.ListN.{length, getD}
 use lib.Dec.{eqb, ltb}
 use Rattle.cqf.specs.Bounded.{sumTo, countTo, anyTo}
 use Rattle.cqf.specs.Limits.{portSlots, flowSlots}
-use Rattle.cqf.specs.Plan.{Plan, routeOf}
-use Rattle.cqf.specs.Condition.{wireBits, capacity, workload}
+use Rattle.cqf.specs.Plan.{Plan, rateOf, blockingOf, routeOf}
+use Rattle.cqf.specs.Condition.{wireBits, window, failsBy}
 use Rattle.cqf.specs.Emission.{Cycles}
 
 -- where a frame is when a cycle starts: not yet emitted; received by a port in the cycle before, with the ports that it meets
@@ -54,8 +54,8 @@ queuedBits p cycles places q =
 
 -- whether that port leaves a frame unsent
 unfoldable pub overrunAt : Plan → ℕ → ℕ → ℕ → Bool
-unfolding capacity workload
-overrunAt p T bits q = ltb 0 bits && ltb (capacity p q T) (workload p q bits)
+unfolding window
+overrunAt p T bits q = failsBy (rateOf p q) (blockingOf p q) (window p T) bits
 
 unfoldable pub overrun : Plan → ℕ → Cycles → Places → Bool
 unfolding anyTo queuedBits overrunAt

@@ -9,7 +9,7 @@ use lib.Dec.{eqb, lit≤}
 use Rattle.cqf.specs.Bounded.{sumTo, countTo, anyTo, allTo, elem, distinct, every, sublist}
 use Rattle.cqf.specs.Limits.{maxHops}
 use Rattle.cqf.specs.Plan.{Plan, noPlan, routeOf, present, periodOf, countOf, validPlan, validPort, validFlow}
-use Rattle.cqf.specs.Condition.{bitsOf, wireBits, blockingBits, ceilDiv, frames, demand, window, capacity, workload, crossed, fails, failing}
+use Rattle.cqf.specs.Condition.{bitsOf, wireBits, ceilDiv, stretch, begun, frames, demand, window, capacity, workload, crossed, fails, failing}
 use Rattle.cqf.specs.Emission.{Emission, Keeps, cyclesOf}
 use Rattle.cqf.specs.Run.{Places, source, advance, Network, running, stopped, run, queuedBits, overrunAt, overrun, Leaves}
 use Rattle.cqf.specs.LargeEnough.{Counterexample}
@@ -52,12 +52,12 @@ valid = refl
 
 -- wire bits 2,000 and 5,000
 bits : map (λ (f : ℕ). wireBits planK f 0) (0 ∷ 1 ∷ []) ≡ 2000 ∷ 5000 ∷ []
-unfolding planK noPlan wireBits bitsOf
+unfolding planK noPlan wireBits
 bits = refl
 
 -- one frame of each flow at 100,000; two of the first at 100,001 and at 110,000; two of each at 110,001
 brought : map (λ (T : ℕ). demand planK 0 T) (100000 ∷ 100001 ∷ 110000 ∷ 110001 ∷ []) ≡ 7000 ∷ 9000 ∷ 9000 ∷ 14000 ∷ []
-unfolding planK noPlan demand sumTo elem sublist frames ceilDiv wireBits bitsOf
+unfolding planK noPlan demand sumTo elem sublist frames begun stretch ceilDiv wireBits
 brought = refl
 
 -- two guard bands, and no window below them
@@ -67,7 +67,7 @@ windows = refl
 
 -- how many ports fail, with and without the port that no flow crosses
 failures : map (λ (T : ℕ). failing planK2 T) (71999 ∷ 72000 ∷ 110001 ∷ 142000 ∷ []) ≡ 1 ∷ 0 ∷ 1 ∷ 0 ∷ []
-unfolding planK2 planK noPlan failing countTo fails crossed anyTo elem sublist capacity window workload blockingBits demand sumTo frames ceilDiv wireBits bitsOf
+unfolding planK2 planK noPlan failing countTo fails crossed anyTo elem sublist capacity window workload demand sumTo frames begun stretch ceilDiv wireBits
 failures = refl
 
 -- both flows of K emit at the cycle's start and once more as soon as they may
@@ -106,7 +106,7 @@ keeps = record { absent = absent; rising = rising; spaced = spaced }
 
 -- at 120,000 all four frames fall into cycle 0, and port 1 cannot send them in cycle 1
 broken : Counterexample planK 120000
-unfolding planK noPlan early run overrun queuedBits overrunAt anyTo sumTo countTo sublist capacity window workload blockingBits wireBits bitsOf
+unfolding planK noPlan early run overrun queuedBits overrunAt anyTo sumTo countTo sublist capacity window workload wireBits
 broken = record { emission = early; keeps = keeps; overruns = record { cycle = 2; unsent = refl } }
 
 -- at 72,000, where the slack is 0, port 1 sends just as much as it can in cycles 1 and 2
@@ -115,7 +115,7 @@ isRunning (running places) = true
 isRunning stopped = false
 
 filled : isRunning (run planK 72000 (cyclesOf 72000 early) 3) ≡ true
-unfolding isRunning planK noPlan early run overrun queuedBits overrunAt anyTo sumTo countTo sublist capacity window workload blockingBits wireBits bitsOf
+unfolding isRunning planK noPlan early run overrun queuedBits overrunAt anyTo sumTo countTo sublist capacity window workload wireBits
 filled = refl
 
 -- where the frames are when cycle c of 100,000 starts
@@ -127,7 +127,7 @@ abbrev GoesOn : ℕ → Type 0
 GoesOn c = run planK 100000 (cyclesOf 100000 early) c ≡ running (placesAt c)
 
 goes-on : GoesOn 1 × GoesOn 2 × GoesOn 3
-unfolding placesAt planK noPlan early run overrun queuedBits overrunAt anyTo sumTo countTo sublist capacity window workload blockingBits wireBits bitsOf
+unfolding placesAt planK noPlan early run overrun queuedBits overrunAt anyTo sumTo countTo sublist capacity window workload wireBits
 goes-on = (refl, refl, refl)
 
 -- at 100,000 the same frames fall into cycles 0 and 1, and each leaves port 1 in the cycle after its own

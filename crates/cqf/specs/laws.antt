@@ -7,6 +7,7 @@ pub mod Route
 pub mod Slot
 pub mod Tabulate
 pub mod Ceil
+pub mod Begun
 pub mod Arrivals
 pub mod Burst
 pub mod Condition

@@ -1,8 +1,6 @@
 // A frame's bits on the wire.
 ghost use mathlib.Core.Path.{_≡_};
-ghost use mathlib.Core.Bool.{cond};
-ghost use lib.Dec.{eqb};
-ghost use Rattle.cqf.specs.Condition.{bitsOf};
+ghost use Rattle.cqf.specs.Condition.{bitsOf, blockingBitsOf};
 
 // Preamble and start delimiter 8 bytes, gap 12.
 const OVERHEAD: u64 = 20;
@@ -15,7 +13,7 @@ pub fn wire_bits(bytes: u16) -> u64
 
 // The same of a blocking frame: 0 stands for none.
 pub fn blocking_bits(bytes: u16) -> u64
-    ensures { λ r. ⌜ r ≡ cond (eqb bytes 0) 0 (bitsOf bytes) ⌝ }
+    ensures { λ r. ⌜ r ≡ blockingBitsOf bytes ⌝ }
 {
     if bytes == 0 {
         return 0;

@@ -1,11 +1,12 @@
 // The window of a port, and the lowest and the number of a set of failing ports.
 ghost use mathlib.Core.Path.{_≡_};
-ghost use Prim.Native.Nat.{suc, _-_, _*_};
+ghost use Prim.Native.Nat.{suc};
 ghost use lib.Count.{ones, trailingZeros};
+ghost use Rattle.cqf.specs.Condition.{windowOf};
 
 // The part of a cycle in which a port sends.
 pub fn window(guard: u32, duration: u64) -> u64
-    ensures { λ r. ⌜ r ≡ duration - 2 * guard ⌝ }
+    ensures { λ r. ⌜ r ≡ windowOf guard duration ⌝ }
 {
     let closed = 2 * (guard as u64);
     if duration < closed {

@@ -6,7 +6,7 @@ use Prim.Native.Nat.{ℕ}
 use lib.IntN.{ℤ, pos, negsuc}
 use Rattle.cqf.specs.Bounded.{sumTo, countTo, anyTo, allTo, lowest, elem, distinct, every, sublist}
 use Rattle.cqf.specs.Plan.{noPlan, validPlan, validPort, validFlow}
-use Rattle.cqf.specs.Condition.{bitsOf, wireBits, blockingBits, ceilDiv, frames, demand, window, capacity, workload, slack, crossed, fails, failing, lowestFailing, admissible}
+use Rattle.cqf.specs.Condition.{bitsOf, wireBits, ceilDiv, stretch, begun, frames, demand, window, capacity, workload, slack, crossed, fails, failing, lowestFailing, admissible}
 use Rattle.cqf.specs.Worked.{planK}
 use Rattle.plan.specs.Bytes.{number2, number4, sizeAt, wholeAt, valueAt, numbers2}
 use Rattle.plan.specs.Field.{routeIn, headerIn, portInValue, flowIn, fieldIn, fieldAt, repeats}
@@ -65,7 +65,7 @@ heldK = refl
 tableOfK
     : map (λ (r : Line). at (r .duration) (checkAnswer (after (load bytesK ∷ [])) (r .duration)) (slackAnswer (after (load bytesK ∷ [])) 1 (r .duration))) table
     ≡ table
-unfolding bytesK table after afterFrom loadLeaves noPlan readPlan readFrom blank stepAt fieldAt fieldIn headerIn portInValue flowIn number2 number4 sizeAt wholeAt valueAt numbers2 routeIn repeats every distinct elem taken fieldRepeats store added closing absentFrom namesAbsent checkAnswer slackAnswer validPlan validPort validFlow allTo anyTo sublist admissible failing lowestFailing lowest countTo fails crossed capacity window workload blockingBits demand sumTo frames ceilDiv wireBits bitsOf slack
+unfolding bytesK table after afterFrom loadLeaves noPlan readPlan readFrom blank stepAt fieldAt fieldIn headerIn portInValue flowIn number2 number4 sizeAt wholeAt valueAt numbers2 routeIn repeats every distinct elem taken fieldRepeats store added closing absentFrom namesAbsent checkAnswer slackAnswer validPlan validPort validFlow allTo anyTo sublist admissible failing lowestFailing lowest countTo fails crossed capacity window workload demand sumTo frames begun stretch ceilDiv wireBits slack
 tableOfK = refl
 
 -- a field cut short is 2 at its tag, whatever the tag

@@ -7,4 +7,3 @@ pub mod SameAnswers
 pub mod laws
 pub mod Theorem
 pub mod Failing
-pub mod Need

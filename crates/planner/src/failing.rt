@@ -13,9 +13,9 @@ ghost use lib.ListN.{length, getD};
 ghost use Rattle.cqf.specs.Bounded.{tabulate};
 ghost use Rattle.cqf.specs.Limits.{portSlots, maxTop};
 ghost use Rattle.cqf.specs.Plan.{validPlan};
-ghost use Rattle.cqf.specs.Condition.{demand, failing, lowestFailing};
+ghost use Rattle.cqf.specs.Condition.{workloadOf, failsBy, demand, mostDemand, failing, lowestFailing};
 ghost use Rattle.tables.specs.Tables.{planOf};
-ghost use Rattle.planner.specs.Failing.{setTo, workloadOf, failsBy, failsIn, mostDemand};
+ghost use Rattle.planner.specs.Failing.{setTo, failsIn};
 
 // One Mbit/s carries one bit in 1,000 ns.
 const NS_PER_BIT: u64 = 1_000;

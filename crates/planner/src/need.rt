@@ -2,8 +2,7 @@
 use super::failing::workload;
 ghost use mathlib.Core.Path.{_≡_};
 ghost use Prim.Native.Nat.{_≤_, _<_};
-ghost use Rattle.planner.specs.Failing.{mostDemand};
-ghost use Rattle.planner.specs.Need.{needBy};
+ghost use Rattle.cqf.specs.Condition.{needBy, mostDemand};
 
 // The least duration in which a port can send these bits outside the guard bands; 0 where there are none. A port with a demand
 // has a rate.

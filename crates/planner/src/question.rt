@@ -16,10 +16,9 @@ ghost use lib.IntN.{subℕ};
 ghost use Rattle.cqf.specs.Bounded.{tabulate};
 ghost use Rattle.cqf.specs.Limits.{portSlots, maxTop};
 ghost use Rattle.cqf.specs.Plan.{validPlan};
-ghost use Rattle.cqf.specs.Condition.{demand};
+ghost use Rattle.cqf.specs.Condition.{capacityOf, workloadOf, demand, mostDemand};
 ghost use Rattle.tables.specs.Tables.{planOf};
 ghost use Rattle.planner.specs.Answer.{checkOf, slackOf};
-ghost use Rattle.planner.specs.Failing.{workloadOf, mostDemand};
 ghost use Rattle.planner.specs.Meaning.{MeansHeld};
 ghost use Rattle.planner.specs.Outcome.{checkAnswer, slackAnswer};
 
@@ -58,7 +57,7 @@ pub fn check(planner: Planner, duration: u64) -> CheckAnswer
 // The slack of a port, from two products: a signed number, exact at zero.
 fn port_slack(rate: u32, blocking: u16, window: u64, bits: u64) -> i64
     requires { ⌜ (window ≤ maxTop) × (bits ≤ mostDemand) ⌝ }
-    ensures { λ r. ⌜ r ≡ subℕ (rate * window) (workloadOf blocking bits) ⌝ }
+    ensures { λ r. ⌜ r ≡ subℕ (capacityOf rate window) (workloadOf blocking bits) ⌝ }
 {
     let capacity = (rate as u64) * window;
     let needed = workload(blocking, bits);

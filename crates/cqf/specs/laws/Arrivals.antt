@@ -10,9 +10,9 @@ use lib.Dec.{eqb}
 use borrow.Author.Tests.{eqb-true}
 use Rattle.cqf.specs.Bounded.{countTo}
 use Rattle.cqf.specs.Plan.{Plan, present, periodOf, countOf}
-use Rattle.cqf.specs.Condition.{ceilDiv, frames}
+use Rattle.cqf.specs.Condition.{begun, frames}
 use Rattle.cqf.specs.Emission.{Emission, Keeps, cyclesOf}
-use Rattle.cqf.specs.laws.Ceil.{ceil-covers}
+use Rattle.cqf.specs.laws.Begun.{stretch-covers, begun-covers}
 
 -- where nothing below a passes, at most n - a numbers below n pass
 count-from : (b : ℕ → Bool) (n a : ℕ) → ((i : ℕ) → i < n → b i ≡ true → a ≤ i) → countTo n b ≤ n - a
@@ -107,9 +107,9 @@ at-most p e keeps f T c valid h = go (present p f) refl
     near pos i j l m q r =
         lt-of-not-le
         (λ g.
-        let far = apart keeps f i j (ceilDiv T (periodOf p f)) g (omega (arith, length-map (e f) (λ (t : ℕ). t / T))) in
+        let far = apart keeps f i j (begun p f T) g (omega (arith, length-map (e f) (λ (t : ℕ). t / T))) in
         not-le-of-lt (same-cycle (getD (e f) i 0) (getD (e f) j 0) c h (in-cycle i q) (in-cycle j r))
-        (omega (arith, ceil-covers T pos)))
+        (omega (arith, begun-covers p f T pos, stretch-covers p T)))
 
     go
         : (t : Bool)

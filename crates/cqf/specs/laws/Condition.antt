@@ -13,7 +13,7 @@ use Rattle.cqf.specs.Condition.{bitsOf, wireBits, frames, demand, capaci
 use Rattle.cqf.specs.Run.{overrunAt}
 use Rattle.cqf.specs.laws.Bounded.{cond-some, countTo-zero, countTo-pos, sumTo-term, sumTo-pos, anyTo-true, anyTo-some}
 use Rattle.cqf.specs.laws.Valid.{Held, held-period, crosses-held}
-use Rattle.cqf.specs.laws.Ceil.{ceil-positive}
+use Rattle.cqf.specs.laws.Begun.{begun-positive}
 
 -- more bits are more work
 pub workload-mono : (p : Plan) (q : ℕ) {a b : ℕ} → a ≤ b → workload p q a ≤ workload p q b
@@ -22,13 +22,13 @@ workload-mono p q l = omega arith
 
 -- a frame has bits on the wire, a flow has frames, and so a crossed port has a demand
 pub wireBits-pos : (p : Plan) (f q : ℕ) → 0 < wireBits p f q
-unfolding wireBits bitsOf
+unfolding wireBits
 wireBits-pos p f q = omega arith
 
 pub frames-pos : (p : Plan) (f : ℕ) {T : ℕ} → Held p f → 0 < T → 0 < frames p f T
 unfolding frames
 frames-pos p f flow long =
-    mul-pos (flow .count-least) (ceil-positive long (held-period p f flow))
+    mul-pos (flow .count-least) (begun-positive p f long (held-period p f flow))
 
 pub demand-pos : (p : Plan) (q T : ℕ) → validPlan p ≡ true → 0 < T → crossed p q ≡ true → 0 < demand p q T
 unfolding demand crossed
@@ -62,7 +62,7 @@ some-fails p T bad = countTo-pos portSlots (fails p T) (above-zero (countTo port
 
 -- a port that does not fail leaves nothing unsent of bits up to its demand
 pub no-overrun : (p : Plan) (T q bits : ℕ) → fails p T q ≡ false → bits ≤ demand p q T → overrunAt p T bits q ≡ false
-unfolding overrunAt
+unfolding overrunAt capacity workload
 no-overrun p T q bits valid l = go (ltb 0 bits) refl
   where
     fits
@@ -74,7 +74,7 @@ no-overrun p T q bits valid l = go (ltb 0 bits) refl
     fits false h e = absurd (false≢true h)
 
     go : (x : Bool) → ltb 0 bits ≡ x → x && ltb (capacity p q T) (workload p q bits) ≡ false
-    go true h = let some = ltb-true 0 bits h in fits (crossed p q) (demand-crossed p q T (omega arith)) (unfold fails in valid)
+    go true h = let some = ltb-true 0 bits h in fits (crossed p q) (demand-crossed p q T (omega arith)) (unfold fails capacity workload in valid)
     go false h = refl
 
 -- a port that fails leaves a frame unsent of bits from its demand up
@@ -86,7 +86,7 @@ pub overrun-at
     → fails p T q ≡ true
     → demand p q T ≤ bits
     → overrunAt p T bits q ≡ true
-unfolding overrunAt fails
+unfolding overrunAt fails capacity workload
 overrun-at p q T valid long bits failed l =
     let h = and-eq-true-iff (crossed p q) (ltb (capacity p q T) (workload p q (demand p q T))) .0 failed in
     and-eq-true-iff (ltb 0 bits) (ltb (capacity p q T) (workload p q bits)) .1

@@ -2,14 +2,14 @@
 use mathlib.Core.Path.{_≡_, refl, ap}
 use mathlib.Core.Bool.{cond}
 use Prim.Native.Nat.{ℕ, _+_, _*_, _≤_}
-use native.Mathlib.Nat.{le-trans, mul-le-mul, mul-le-mul-left}
+use native.Mathlib.Nat.{mul-le-mul}
 use native.Mathlib.Numerals.{add-one}
 use native.Mathlib.Omega.{arith}
 use Rattle.cqf.specs.Bounded.{sumTo, elem, sublist}
-use Rattle.cqf.specs.Limits.{flowSlots, maxTop}
+use Rattle.cqf.specs.Limits.{flowSlots, maxTop, minPeriod, maxCount, maxLength, mostBegun}
 use Rattle.cqf.specs.Plan.{Plan, hopsOf, crosses}
-use Rattle.cqf.specs.Condition.{bitsOf, wireBits, ceilDiv, frames, demand}
-use Rattle.cqf.specs.laws.Ceil.{ceil-least}
+use Rattle.cqf.specs.Condition.{bitsOf, wireBits, ceilDiv, frames, demand, mostBits}
+use Rattle.cqf.specs.laws.Begun.{begun-most}
 
 -- what flow f brings to the port in slot q
 abbrev pub share : Plan → ℕ → ℕ → ℕ → ℕ
@@ -19,24 +19,17 @@ pub demand-sum : (p : Plan) (q T : ℕ) → demand p q T ≡ sumTo flowSlots (sh
 unfolding demand
 demand-sum p q T = refl
 
--- the most that one flow brings: 64 frames a period, 100,000 periods, 2,020 bytes a frame
-abbrev pub mostBits : ℕ
-mostBits = 64 * 100000 * 16160
-
-pub begun-most : (T : ℕ) {P : ℕ} → T ≤ maxTop → 1000 ≤ P → ceilDiv T P ≤ 100000
-begun-most T {P} l h = ceil-least T 100000 (omega arith) (le-trans l (mul-le-mul-left 100000 h))
-
-pub bits-most
+-- one flow brings at most its most bits
+pub flow-bits-most
     : (T : ℕ) {period count bytes : ℕ}
     → T ≤ maxTop
-    → 1000 ≤ period
-    → count ≤ 64
-    → bytes ≤ 2000
+    → minPeriod ≤ period
+    → count ≤ maxCount
+    → bytes ≤ maxLength
     → count * ceilDiv T period * bitsOf bytes ≤ mostBits
-unfolding bitsOf
-bits-most T {period} {count} {bytes} l h c b =
-    let many : count * ceilDiv T period ≤ 64 * 100000 = mul-le-mul c (begun-most T l h) in
-    let long : 8 * (bytes + 20) ≤ 16160 = omega arith in
+flow-bits-most T {period} {count} {bytes} l h c b =
+    let many : count * ceilDiv T period ≤ maxCount * mostBegun = mul-le-mul c (begun-most T l h) in
+    let long : bitsOf bytes ≤ bitsOf maxLength = omega arith in
     mul-le-mul many long
 
 -- a flow that crosses no port brings nothing

@@ -3,15 +3,15 @@ use mathlib.Core.Bool.{Bool, true, false, cond}
 use Prim.Native.Nat.{ℕ, _*_, _≤_, zero-le}
 use native.Mathlib.Nat.{mul-le-mul-left, mul-le-mul-right}
 use Rattle.cqf.specs.Limits.{flowSlots}
-use Rattle.cqf.specs.Plan.{Plan, periodOf, countOf, crosses}
+use Rattle.cqf.specs.Plan.{Plan, countOf, crosses}
 use Rattle.cqf.specs.Condition.{wireBits, frames, demand}
 use Rattle.cqf.specs.laws.Bounded.{sumTo-le}
-use Rattle.cqf.specs.laws.Ceil.{ceil-mono}
+use Rattle.cqf.specs.laws.Begun.{begun-mono}
 
 -- a flow brings no fewer frames in a longer cycle
 pub frames-mono : (p : Plan) (f : ℕ) {T U : ℕ} → T ≤ U → frames p f T ≤ frames p f U
 unfolding frames
-frames-mono p f l = mul-le-mul-left (countOf p f) (ceil-mono (periodOf p f) l)
+frames-mono p f l = mul-le-mul-left (countOf p f) (begun-mono p f l)
 
 -- a port has no less to send in a longer cycle
 pub demand-mono : (p : Plan) (q : ℕ) {T U : ℕ} → T ≤ U → demand p q T ≤ demand p q U

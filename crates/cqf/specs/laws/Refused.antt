@@ -13,13 +13,14 @@ use borrow.Author.Tests.{eqb-true, eqb-false}
 use Rattle.cqf.specs.Bounded.{lowest}
 use Rattle.cqf.specs.Limits.{portSlots, flowSlots, maxHops}
 use Rattle.cqf.specs.Plan.{Plan, periodOf, countOf, hopsOf, routeOf, present, crosses, validPlan}
-use Rattle.cqf.specs.Condition.{frames, fails, admissible}
+use Rattle.cqf.specs.Condition.{begun, frames, fails, admissible}
 use Rattle.cqf.specs.Emission.{Emission, Keeps, cyclesOf}
 use Rattle.cqf.specs.Run.{Places, Network, running, stopped, run, overrun, overrunAt, queuedBits, Overruns}
 use Rattle.cqf.specs.LargeEnough.{Counterexample}
 use Rattle.cqf.specs.laws.Bounded.{anyTo-some, lowest-passes, lowest-below}
 use Rattle.cqf.specs.laws.Lists.{elem-index, sublist-length}
 use Rattle.cqf.specs.laws.Valid.{Held, held-period, present-held, crosses-held, held-present}
+use Rattle.cqf.specs.laws.Begun.{stretch-aligned, begun-before}
 use Rattle.cqf.specs.laws.Burst.{burst, burst-rising, burst-spaced, burst-count}
 use Rattle.cqf.specs.laws.Condition.{some-fails, overrun-at}
 use Rattle.cqf.specs.laws.Places.{run-stops}
@@ -51,19 +52,23 @@ hop-at p q f h = go (decLt (hop p q f) (length (routeOf p f)))
 -- the emission: a burst of each flow that crosses the port, early by as many cycles as the port is late on its route
 worst : Plan → ℕ → ℕ → Emission
 unfolding hop
-worst p T q f = cond (present p f && crosses p f q) (burst T (maxHops - hop p q f) (countOf p f) (periodOf p f)) []
+worst p T q f = cond (present p f && crosses p f q) (burst T (maxHops - hop p q f) (begun p f T) (countOf p f) (periodOf p f)) []
 
 module _ (p : Plan) (valid : validPlan p ≡ true) (T : ℕ) (long : 0 < T) (q : ℕ) where
+  -- its periods begin within the cycle
+  in-cycle : (f : ℕ) → Held p f → (m : ℕ) → m < begun p f T → m * periodOf p f < T
+  in-cycle f flow m l = rw (stretch-aligned p T) at (begun-before p f T m (held-period p f flow) l)
+
   -- what holds of no frames and of the burst of a flow holds of the emission
   worst-cases
       : (P : List ℕ → Type 0) (f : ℕ)
       → P []
-      → (Held p f → P (burst T (maxHops - hop p q f) (countOf p f) (periodOf p f)))
+      → (Held p f → P (burst T (maxHops - hop p q f) (begun p f T) (countOf p f) (periodOf p f)))
       → P (worst p T q f)
   unfolding worst
   worst-cases P f none some = go (present p f && crosses p f q) refl
     where
-      go : (x : Bool) → present p f && crosses p f q ≡ x → P (cond x (burst T (maxHops - hop p q f) (countOf p f) (periodOf p f)) [])
+      go : (x : Bool) → present p f && crosses p f q ≡ x → P (cond x (burst T (maxHops - hop p q f) (begun p f T) (countOf p f) (periodOf p f)) [])
       go true h = some (present-held p valid f (and-eq-true-iff (present p f) (crosses p f q) .0 h .0))
       go false h = none
 
@@ -78,7 +83,7 @@ module _ (p : Plan) (valid : validPlan p ≡ true) (T : ℕ) (long : 0 < T) (q :
       (λ l. suc k < length l → getD l k 0 ≤ getD l (suc k) 0)
       f
       (λ h. absurd (not-suc-le-zero h))
-      (λ flow. burst-rising T (maxHops - hop p q f) (countOf p f) (periodOf p f) long (flow .count-least) (held-period p f flow) k)
+      (λ flow. burst-rising T (maxHops - hop p q f) (begun p f T) (countOf p f) (periodOf p f) (flow .count-least) (in-cycle f flow) k)
 
   worst-spaced
       : (f k : ℕ)
@@ -89,7 +94,7 @@ module _ (p : Plan) (valid : validPlan p ≡ true) (T : ℕ) (long : 0 < T) (q :
       (λ l. k + countOf p f < length l → getD l k 0 + periodOf p f ≤ getD l (k + countOf p f) 0)
       f
       (λ h. absurd (not-suc-le-zero h))
-      (λ flow. burst-spaced T (maxHops - hop p q f) (countOf p f) (periodOf p f) long (flow .count-least) (held-period p f flow) k)
+      (λ flow. burst-spaced T (maxHops - hop p q f) (begun p f T) (countOf p f) (periodOf p f) (flow .count-least) (in-cycle f flow) k)
 
   worst-keeps : Keeps p (worst p T q)
   worst-keeps = record { absent = worst-absent; rising = worst-rising; spaced = worst-spaced }
@@ -99,7 +104,7 @@ module _ (p : Plan) (valid : validPlan p ≡ true) (T : ℕ) (long : 0 < T) (q :
       : (f : ℕ)
       → f < flowSlots
       → crosses p f q ≡ true
-      → worst p T q f ≡ burst T (maxHops - hop p q f) (countOf p f) (periodOf p f)
+      → worst p T q f ≡ burst T (maxHops - hop p q f) (begun p f T) (countOf p f) (periodOf p f)
   unfolding worst
   worst-burst f l h = rw (held-present p f l (crosses-held p valid f q l h), h)
 
@@ -112,7 +117,7 @@ module _ (p : Plan) (valid : validPlan p ≡ true) (T : ℕ) (long : 0 < T) (q :
   worst-emitted f l h =
       let flow = crosses-held p valid f q l h in
       rw (worst-burst f l h)
-      (le-of-eq (sym (burst-count T (maxHops - hop p q f) (countOf p f) (periodOf p f) long (flow .count-least) (held-period p f flow))))
+      (le-of-eq (sym (burst-count T (maxHops - hop p q f) (begun p f T) (countOf p f) (periodOf p f) (flow .count-least) (in-cycle f flow))))
 
   -- so where the run gets to the cycle after the longest route, each of those flows has its frames queued at the port
   worst-queued

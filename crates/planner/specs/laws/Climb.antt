@@ -8,12 +8,10 @@ use native.Mathlib.Omega.{arith}
 use lib.ListN.{getD}
 use Rattle.cqf.specs.Limits.{portSlots}
 use Rattle.cqf.specs.Plan.{Plan, rateOf, blockingOf}
-use Rattle.cqf.specs.Condition.{demand, fails, least}
+use Rattle.cqf.specs.Condition.{failsBy, needBy, demand, fails, least}
 use Rattle.cqf.specs.laws.Condition.{demand-pos}
 use Rattle.cqf.specs.laws.Need.{need, fails-crossed}
 use Rattle.cqf.specs.laws.Search.{Climbed, fails-need, climb-found, climb-over, climb-next}
-use Rattle.planner.specs.Failing.{failsBy}
-use Rattle.planner.specs.Need.{needBy}
 use Rattle.planner.specs.laws.Fails.{fails-by}
 use Rattle.planner.specs.laws.PortNeed.{need-by}
 use Rattle.planner.specs.laws.Scratch.{Filled, filled-bits}

@@ -7,10 +7,9 @@ use native.Mathlib.Omega.{arith}
 use lib.ListN.{getD}
 use Rattle.cqf.specs.Limits.{portSlots}
 use Rattle.cqf.specs.Plan.{Plan, rateOf, blockingOf}
-use Rattle.cqf.specs.Condition.{demand, marginSafe}
+use Rattle.cqf.specs.Condition.{needBy, demand, marginSafe}
 use Rattle.cqf.specs.laws.Need.{need}
 use Rattle.cqf.specs.laws.Search.{Descended, need-fails, descent-bottom, descent-stop, descent-next}
-use Rattle.planner.specs.Need.{needBy}
 use Rattle.planner.specs.laws.PortNeed.{need-by, need-by-some}
 use Rattle.planner.specs.laws.Scratch.{Filled, filled-bits}
 

@@ -12,10 +12,10 @@ use borrow.Author.Tests.{lt-ltb, le-ltb}
 use Rattle.cqf.specs.Bounded.{tabulate}
 use Rattle.cqf.specs.Limits.{portSlots}
 use Rattle.cqf.specs.Plan.{Plan, rateOf, blockingOf, validPlan}
-use Rattle.cqf.specs.Condition.{demand, capacity, workload, crossed, slack, fails, failing, lowestFailing}
+use Rattle.cqf.specs.Condition.{workloadOf, failsBy, demand, capacity, workload, crossed, slack, fails, failing, lowestFailing}
 use Rattle.cqf.specs.laws.Condition.{demand-pos, demand-crossed}
 use Rattle.cqf.specs.laws.Tabulate.{tabulate-at}
-use Rattle.planner.specs.Failing.{setTo, workloadOf, failsBy, failsIn}
+use Rattle.planner.specs.Failing.{setTo, failsIn}
 use Rattle.planner.specs.laws.Sets.{set-same, set-lowest, set-ones}
 
 -- what a port can send and must be able to send, by its numbers

@@ -8,15 +8,12 @@ use native.Mathlib.Omega.{arith}
 use lib.Dec.{eqb, ltb}
 use borrow.Author.Tests.{lt-ltb, ltb-true}
 use Rattle.cqf.specs.Plan.{Plan, rateOf, blockingOf}
-use Rattle.cqf.specs.Condition.{bitsOf, ceilDiv}
+use Rattle.cqf.specs.Condition.{bitsOf, ceilDiv, blockingBitsOf, workloadOf, needBy, mostDemand}
 use Rattle.cqf.specs.laws.Bounded.{cond-some}
 use Rattle.cqf.specs.laws.Need.{needFor}
-use Rattle.planner.specs.Failing.{workloadOf, mostDemand}
-use Rattle.planner.specs.Need.{needBy}
 
 -- the bits of a blocking frame, and the work of a demand, are far below 2 ^ 64
 pub blocking-most : (blocking : ℕ) → blocking < 2 ^ 16 → cond (eqb blocking 0) 0 (bitsOf blocking) < 2 ^ 20
-unfolding bitsOf
 blocking-most blocking l = go (eqb blocking 0)
   where
     go : (x : Bool) → cond x 0 (bitsOf blocking) < 2 ^ 20

@@ -8,12 +8,11 @@ use lib.ListN.{length, getD}
 use Rattle.cqf.specs.Bounded.{tabulate}
 use Rattle.cqf.specs.Limits.{portSlots, maxTop}
 use Rattle.cqf.specs.Plan.{Plan, rateOf, validPlan}
-use Rattle.cqf.specs.Condition.{demand}
+use Rattle.cqf.specs.Condition.{demand, mostDemand}
 use Rattle.cqf.specs.laws.Tabulate.{tabulate-length, tabulate-at}
 use Rattle.cqf.specs.laws.Ranges.{top-most}
 use Rattle.cqf.specs.laws.Search.{busy-rate}
 use Rattle.tables.specs.Columns.{columns}
-use Rattle.planner.specs.Failing.{mostDemand}
 use Rattle.planner.specs.laws.Sums.{slot-in-range, demand-most, demand-columns}
 
 -- the demands at t, in a valid plan

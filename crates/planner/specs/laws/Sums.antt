@@ -12,12 +12,11 @@ use lib.Seq.{ext-getD}
 use Rattle.cqf.specs.Bounded.{sumTo, every, distinct, sublist, tabulate}
 use Rattle.cqf.specs.Limits.{portSlots, flowSlots, maxTop, portOk}
 use Rattle.cqf.specs.Plan.{Plan, periodOf, countOf, lengthOf, hopsOf, routeOf, crosses, portIn, validPlan}
-use Rattle.cqf.specs.Condition.{bitsOf, wireBits, ceilDiv, frames, demand}
+use Rattle.cqf.specs.Condition.{bitsOf, wireBits, ceilDiv, begun, stretch, frames, demand, mostBits, mostDemand}
 use Rattle.cqf.specs.laws.Bounds.{sumTo-most}
 use Rattle.cqf.specs.laws.Valid.{Empty, Held, slot-cases}
 use Rattle.cqf.specs.laws.Tabulate.{tabulate-length, tabulate-at}
-use Rattle.cqf.specs.laws.Demand.{share, demand-sum, mostBits, bits-most, share-none, sum-next}
-use Rattle.planner.specs.Failing.{mostDemand}
+use Rattle.cqf.specs.laws.Demand.{share, demand-sum, flow-bits-most, share-none, sum-next}
 use Rattle.tables.specs.Columns.{columns, FlowInRange, Marked}
 
 -- a stronger test that each number of a list passes
@@ -86,7 +85,7 @@ module _ (p : Plan) (T : ℕ) where
       → Marked l l′ (routeOf p f) bits
       → Sums p T f l
       → Sums p T (f + 1) l′
-  unfolding frames wireBits
+  unfolding frames begun stretch wireBits
   sums-add f bits l l′ e marked sums q h =
       marked q h
       ∙ rw (e, sums q h) (sym (sum-next p q T f))
@@ -104,10 +103,10 @@ module _ (p : Plan) (in-range : AllInRange p) (T : ℕ) (fits : T ≤ maxTop) wh
   pub flow-most : (f : ℕ) → f < flowSlots → (periodOf p f ≡ 0 → ⊥) → bitsAt p T f ≤ mostBits
   flow-most f l there =
       let r = in-range f l in
-      bits-most T fits (r .period-least there) (r .count-most) (r .bytes-most)
+      flow-bits-most T fits (r .period-least there) (r .count-most) (r .bytes-most)
 
   share-most : (q f : ℕ) → f < flowSlots → share p q T f ≤ mostBits
-  unfolding frames wireBits
+  unfolding frames begun stretch wireBits
   share-most q f l = go (ℕ-discrete (periodOf p f) 0)
     where
       part : (x : Bool) → bitsAt p T f ≤ mostBits → cond x (bitsAt p T f) 0 ≤ mostBits
@@ -130,6 +129,6 @@ module _ (p : Plan) (in-range : AllInRange p) (T : ℕ) (fits : T ≤ maxTop) wh
 pub demand-columns
     : (p : Plan) (q T : ℕ)
     → demand (columns [] [] (p .periods) (p .counts) (p .lengths) (p .hops) (p .routes)) q T ≡ demand p q T
-unfolding frames wireBits
+unfolding frames begun stretch wireBits
 demand-columns p q T =
     demand-sum (columns [] [] (p .periods) (p .counts) (p .lengths) (p .hops) (p .routes)) q T ∙ sym (demand-sum p q T)

@@ -12,7 +12,6 @@ mul-result : tie.Need-mul-result
 mul-result c = omega arith
 
 returns : tie.Need-returns
-unfolding bitsOf
 returns c = refl
 
 pub wire-bits-spec : {M : Type 1} → statement M

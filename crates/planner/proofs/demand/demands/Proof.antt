@@ -8,7 +8,7 @@ use lib.ListN.{length}
 use borrow.Author.Needs.{needs}
 use Rattle.cqf.specs.Limits.{portSlots, flowSlots}
 use Rattle.cqf.specs.Plan.{Plan, periodOf, countOf, lengthOf, hopsOf, routeOf}
-use Rattle.cqf.specs.laws.Demand.{mostBits}
+use Rattle.cqf.specs.Condition.{mostBits}
 use Rattle.tables.specs.Columns.{columns, FlowInRange}
 use Rattle.planner.specs.laws.Sums.{Sums, sums-none, sums-skip, sums-add, sums-all, flow-most, sum-most}
 use Rattle.planner.proofs.demand.demands.Statement.{statement}

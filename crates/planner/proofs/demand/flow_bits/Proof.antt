@@ -5,7 +5,8 @@ use native.Mathlib.Nat.{mul-le-mul}
 use native.Mathlib.Omega.{arith}
 use borrow.Author.Needs.{needs}
 use Rattle.cqf.specs.Condition.{bitsOf, ceilDiv}
-use Rattle.cqf.specs.laws.Demand.{bits-most, begun-most}
+use Rattle.cqf.specs.laws.Begun.{begun-most}
+use Rattle.cqf.specs.laws.Demand.{flow-bits-most}
 use Rattle.planner.proofs.demand.flow_bits.Statement.{statement}
 use Rattle.planner.proofs.demand.flow_bits.Tie as tie
 
@@ -34,7 +35,7 @@ bits-are c =
 mul-result-2 : tie.Need-mul-result-2
 mul-result-2 c =
     let s = c .before .before in
-    omega (arith, bits-are c, bits-most (s .args .duration) (s .pre .4) (s .pre .0) (s .pre .2) (s .pre .3))
+    omega (arith, bits-are c, flow-bits-most (s .args .duration) (s .pre .4) (s .pre .0) (s .pre .2) (s .pre .3))
 
 returns : tie.Need-returns
 returns c = bits-are c

@@ -20,7 +20,6 @@ capacity-most c =
     mul-le-mul rate (c .pre .0)
 
 workload-most : (c : tie.After-workload) → c .workload .result < 2 ^ 63
-unfolding bitsOf
 workload-most c = rw (c .workload .ensures) (go (eqb (c .before .args .blocking) 0))
   where
     go : (x : Bool) → nsPerBit * (c .before .args .bits + cond x 0 (bitsOf (c .before .args .blocking))) < 2 ^ 63

@@ -19,7 +19,7 @@ use Rattle.cqf.specs.laws.Tabulate.{tabulate-at}
 use Rattle.plan.specs.laws.Within.{within-low, within-high, slot-below}
 use Rattle.tables.specs.Tables.{planOf}
 use Rattle.loading.specs.Outcome.{result}
-use Rattle.planner.specs.Failing.{workloadOf, mostDemand}
+use Rattle.cqf.specs.Condition.{workloadOf, mostDemand}
 use Rattle.planner.specs.laws.Sums.{slot-in-range, demand-most}
 use Rattle.planner.specs.laws.Fails.{crossed-demand, slack-is}
 use Rattle.planner.specs.laws.Answers.{slack-none, slack-out, slack-no-port, slack-uncrossed, slack-crossed}
