@@ -96,7 +96,6 @@ unfolding demand
 need p q T = needBy (p .guard) (rateOf p q) (blockingOf p q) (demand p q T)
 
 unfoldable pub largestNeed : Plan → ℕ → ℕ
-unfolding maxTo need
 largestNeed p T = maxTo portSlots (λ q. need p q T)
 
 -- the most bits that one flow brings to a port, and the largest demand of a port

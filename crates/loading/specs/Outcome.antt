@@ -9,6 +9,11 @@ pub data Answer (A : Type 0) : Type 0 where
   result : A → Answer A
   refusal : (number : ℕ) → (values : List ℕ) → Answer A
 
+-- its number: 0 for a result
+abbrev pub numberOf : {A : Type 0} → Answer A → ℕ
+numberOf (result x) = 0
+numberOf (refusal number values) = number
+
 -- the load: the numbers of port and flow fields, or 1 to 9 with the offset
 pub record Fields : Type 0 where
   pub ports : ℕ

@@ -19,9 +19,16 @@ slackOf SlackAnswer.NoPlan = refusal 20 (0 ∷ [])
 slackOf SlackAnswer.BadDuration = refusal 10 (0 ∷ [])
 slackOf SlackAnswer.NotCrossed = refusal 24 (0 ∷ [])
 
--- a search's answer; number is 22 for the least duration, 23 for the margin-safe one
+-- a search's answer, where the failing ports at top come with the refusal of this number
 abbrev pub searchOf : ℕ → SearchAnswer → Answer ℕ
 searchOf number (SearchAnswer.Duration T) = result T
 searchOf number SearchAnswer.NoPlan = refusal 20 (0 ∷ [])
 searchOf number SearchAnswer.ShortScratch = refusal 11 (0 ∷ [])
 searchOf number (SearchAnswer.Failing port count) = refusal number (port ∷ count ∷ [])
+
+-- the answer of the search for the least duration, and of the one for the margin-safe duration
+abbrev pub leastOf : SearchAnswer → Answer ℕ
+leastOf = searchOf 22
+
+abbrev pub marginSafeOf : SearchAnswer → Answer ℕ
+marginSafeOf = searchOf 23

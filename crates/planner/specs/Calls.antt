@@ -6,20 +6,21 @@ use Rattle.cqf.specs.Plan.{Plan, noPlan}
 use Rattle.plan.specs.Reading.{PlanRead, accepted, rejected, readPlan}
 use Rattle.loading.specs.Outcome.{loadLeaves}
 
+-- a question, with what it is given; the two searches are lent a scratch
+pub data Question : Type 0 where
+  check : (duration : ℕ) → Question
+  slack : (port duration : ℕ) → Question
+  least : (scratch : List ℕ) → Question
+  marginSafe : (scratch : List ℕ) → Question
+
 pub data Call : Type 0 where
   load : (bytes : List ℕ) → Call
-  check : (duration : ℕ) → Call
-  slack : (port duration : ℕ) → Call
-  least : (scratch : List ℕ) → Call
-  marginSafe : (scratch : List ℕ) → Call
+  ask : Question → Call
 
--- the plan held after a call
+-- the plan held after a call: a question leaves it
 abbrev pub leaves : Plan → Call → Plan
 leaves p (load s) = loadLeaves p s
-leaves p (check T) = p
-leaves p (slack n T) = p
-leaves p (least scratch) = p
-leaves p (marginSafe scratch) = p
+leaves p (ask x) = p
 
 unfoldable pub afterFrom : Plan → List Call → Plan
 unfolding loadLeaves
@@ -38,10 +39,7 @@ accepting held s (rejected number offset) = held
 
 abbrev pub keeping : Option (List ℕ) → Call → Option (List ℕ)
 keeping held (load s) = accepting held s (readPlan s)
-keeping held (check T) = held
-keeping held (slack n T) = held
-keeping held (least scratch) = held
-keeping held (marginSafe scratch) = held
+keeping held (ask x) = held
 
 unfoldable pub heldFrom : Option (List ℕ) → List Call → Option (List ℕ)
 unfolding readPlan

@@ -3,7 +3,8 @@ pub mod Outcome
 pub mod Calls
 pub mod Answer
 pub mod Meaning
-pub mod SameAnswers
+pub mod Reply
 pub mod laws
+pub mod NoPlan
 pub mod Theorem
 pub mod Failing

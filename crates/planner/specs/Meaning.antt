@@ -1,4 +1,4 @@
--- Demand 3: what an answer of the plain question means, for every sequence of calls, every emission and its whole run.
+-- What an answer of the plain question means, for every sequence of calls, every emission and its whole run.
 use mathlib.Core.Path.{_≡_}
 use mathlib.Core.Logic.{_↔_}
 use mathlib.Core.List.{List, [], _∷_}
@@ -16,21 +16,25 @@ pub record Refuses (answer : Answer (Unit {0})) : Type 0 where
   pub count : ℕ
   pub is : answer ≡ refusal 21 (lowest ∷ count ∷ [])
 
--- T is refused exactly when some emission that keeps every flow's contract leaves a frame unsent; it is accepted exactly when
--- none does; and then every frame of every such emission is on time
-pub record Means (p : Plan) (T : ℕ) (answer : Answer (Unit {0})) : Type 0 where
-  pub refused : Refuses answer ↔ Counterexample p T
-  pub accepted : (answer ≡ result tt) ↔ (Counterexample p T → ⊥)
-  pub on-time : answer ≡ result tt → AllOnTime p T
+-- An answer that refuses T, and one that accepts it. T is refused exactly when some emission that keeps every flow's contract
+-- leaves a frame unsent; it is accepted exactly when none does; and then every frame of every such emission is on time.
+pub record Means (p : Plan) (T : ℕ) (refuses accepts : Type 0) : Type 0 where
+  pub refused : refuses ↔ Counterexample p T
+  pub accepted : accepts ↔ (Counterexample p T → ⊥)
+  pub on-time : accepts → AllOnTime p T
 
--- the answer to T after every sequence of calls that leaves the planner at these tables: the plan is the one in the bytes of the
--- last load in which the rules find no refusal, and T is from 1 to its top
-abbrev pub MeansHeld : Plan → ℕ → Answer (Unit {0}) → Type 0
-MeansHeld tables T answer =
+-- the same after every sequence of calls that leaves the planner at these tables: the plan is the one in the bytes of the last
+-- load in which the rules find no refusal, and T is from 1 to its top
+abbrev pub MeansHeld : Plan → ℕ → (refuses accepts : Type 0) → Type 0
+MeansHeld tables T refuses accepts =
     (calls : List Call) (bytes : List ℕ) (p : Plan) (ports flows : ℕ)
     → tables ≡ after calls
     → heldBytes calls ≡ some bytes
     → readPlan bytes ≡ accepted p ports flows
     → 1 ≤ T
     → T ≤ p .top
-    → Means p T answer
+    → Means p T refuses accepts
+
+-- of an answer of the plain question: 21 refuses, the result accepts (document 01, demand 3)
+abbrev pub CheckMeans : Plan → ℕ → Answer (Unit {0}) → Type 0
+CheckMeans tables T answer = MeansHeld tables T (Refuses answer) (answer ≡ result tt)

@@ -1,5 +1,5 @@
--- What each question answers and leaves, for any held plan and any input. Tables that are not well
--- valid count as no plan held (refusal 20): no sequence of calls from the empty planner leaves such, but for the empty one itself.
+-- What each question answers and leaves, for any held plan and any input. Tables that are not valid
+-- count as no plan held (refusal 20): no sequence of calls from the empty planner leaves such, but for the empty one itself.
 use Prim.Native.Nat.{ℕ, _-_}
 use mathlib.Core.List.{List, [], _∷_, _++_}
 use mathlib.Core.Bool.{cond, _&&_}

@@ -1,4 +1,4 @@
--- The theorems over sequences of calls. Demand 3: the answer of the plain question to a duration of the held plan means what it says
+-- The theorems over sequences of calls. The answer of the plain question to a duration of the held plan means what it says
 -- of every emission and its whole run. And the order of a plan's fields changes no answer.
 use mathlib.Core.Path.{_≡_, refl, sym, ap, _∙_}
 use mathlib.Core.List.{List}
@@ -16,19 +16,22 @@ use Rattle.plan.specs.FieldOrder.{SameFields}
 use Rattle.plan.specs.Reading.{accepted, readPlan}
 use Rattle.plan.specs.laws.Order.{field-order}
 use Rattle.plan.specs.laws.Valid.{accepted-valid}
-use Rattle.loading.specs.Outcome.{result}
-use Rattle.planner.specs.Outcome.{failingAt, checkAnswer, slackAnswer, leastAnswer, leastLeaves, marginSafeAnswer, marginSafeLeaves}
-use Rattle.planner.specs.Meaning.{Means, MeansHeld}
-use Rattle.planner.specs.SameAnswers.{SameAnswers}
+use Rattle.loading.specs.Outcome.{Answer, result}
+use Rattle.planner.specs.Outcome.{failingAt, checkAnswer}
+use Rattle.planner.specs.Meaning.{Refuses, Means, CheckMeans}
+use Rattle.planner.specs.Reply.{SameAnswers, reply}
 use Rattle.planner.specs.Calls.{Call, after, heldBytes}
 use Rattle.planner.specs.laws.Answers.{verdict, check-within}
 use Rattle.planner.specs.laws.Calls.{after-held, after-loaded}
 
 -- the verdict of the plain question means what the theorem says
-plain-means : (p : Plan) (T : ℕ) → LargeEnough p T → Means p T (verdict p T)
+plain-means : (p : Plan) (T : ℕ) → LargeEnough p T → Means p T (Refuses (verdict p T)) (verdict p T ≡ result tt)
 plain-means p T h = go (admissible p T) refl
   where
-    go : (b : Bool) → admissible p T ≡ b → Means p T (cond b (result tt) (failingAt 21 p T))
+    Says : Answer (Unit {0}) → Type 0
+    Says answer = Means p T (Refuses answer) (answer ≡ result tt)
+
+    go : (b : Bool) → admissible p T ≡ b → Says (cond b (result tt) (failingAt 21 p T))
     go true e =
         record {
           refused = (
@@ -61,8 +64,8 @@ pub accepted-large-enough
     → LargeEnough p T
 accepted-large-enough s p ports flows reads T low high = large-enough p (accepted-valid s p ports flows reads) T low
 
--- demand 3, of the plain question's own answer
-pub check-means : (tables : Plan) (T : ℕ) → MeansHeld tables T (checkAnswer tables T)
+-- of the plain question's own answer (document 01: demand 3)
+pub check-means : (tables : Plan) (T : ℕ) → CheckMeans tables T (checkAnswer tables T)
 check-means tables T calls bytes p ports flows left held reads low high =
     let valid : validPlan p ≡ true = accepted-valid bytes p ports flows reads in
     let same : tables ≡ p = left ∙ after-held calls bytes held p ports flows reads in
@@ -80,11 +83,4 @@ order-free calls others s t held kept fields =
     let a = after-loaded calls s held in
     let b = after-loaded others t kept in
     let same = field-order s t fields (after calls) (after others) (a .ports) (a .flows) (b .ports) (b .flows) (a .reads) (b .reads) .0 in
-    record {
-      check = λ T. ap (λ (p : Plan). checkAnswer p T) same;
-      slack = λ n T. ap (λ (p : Plan). slackAnswer p n T) same;
-      least = λ scratch. ap (λ (p : Plan). leastAnswer p scratch) same;
-      least-leaves = λ scratch. ap (λ (p : Plan). leastLeaves p scratch) same;
-      margin-safe = λ scratch. ap (λ (p : Plan). marginSafeAnswer p scratch) same;
-      margin-safe-leaves = λ scratch. ap (λ (p : Plan). marginSafeLeaves p scratch) same;
-    }
+    λ x. ap (λ (p : Plan). reply p x) same

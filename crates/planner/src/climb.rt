@@ -17,7 +17,7 @@ ghost use Rattle.cqf.specs.Limits.{portSlots};
 ghost use Rattle.cqf.specs.Plan.{validPlan};
 ghost use Rattle.cqf.specs.Condition;
 ghost use Rattle.tables.specs.Tables.{planOf};
-ghost use Rattle.planner.specs.Answer.{searchOf};
+ghost use Rattle.planner.specs.Answer.{leastOf};
 ghost use Rattle.planner.specs.Outcome.{leastAnswer, leastLeaves};
 
 // The least admissible duration, or one above top where there is none. No duration below t is admissible, and a port that fails
@@ -66,7 +66,7 @@ pub(crate) fn seek(planner: Planner, out: &mut [u64]) -> u64
 
 // The least admissible duration; 22 where there is none.
 pub fn least(planner: Planner, scratch: &mut [u64]) -> SearchAnswer
-    ensures { λ r. ⌜ (searchOf 22 r ≡ leastAnswer (planOf planner) (now (scratch .entry))) × (now (scratch .exit) ≡ leastLeaves (planOf planner) (now (scratch .entry))) ⌝ }
+    ensures { λ r. ⌜ (leastOf r ≡ leastAnswer (planOf planner) (now (scratch .entry))) × (now (scratch .exit) ≡ leastLeaves (planOf planner) (now (scratch .entry))) ⌝ }
 {
     if !valid_plan(planner) {
         return SearchAnswer::NoPlan;

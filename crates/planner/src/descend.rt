@@ -16,7 +16,7 @@ ghost use Rattle.cqf.specs.Limits.{portSlots};
 ghost use Rattle.cqf.specs.Plan.{validPlan};
 ghost use Rattle.cqf.specs.Condition;
 ghost use Rattle.tables.specs.Tables.{planOf};
-ghost use Rattle.planner.specs.Answer.{searchOf};
+ghost use Rattle.planner.specs.Answer.{marginSafeOf};
 ghost use Rattle.planner.specs.Outcome.{marginSafeAnswer, marginSafeLeaves};
 
 // The larger of two numbers.
@@ -73,7 +73,7 @@ pub(crate) fn seek(planner: Planner, out: &mut [u64]) -> u64
 
 // The margin-safe duration; 23 where there is none.
 pub fn margin_safe(planner: Planner, scratch: &mut [u64]) -> SearchAnswer
-    ensures { λ r. ⌜ (searchOf 23 r ≡ marginSafeAnswer (planOf planner) (now (scratch .entry))) × (now (scratch .exit) ≡ marginSafeLeaves (planOf planner) (now (scratch .entry))) ⌝ }
+    ensures { λ r. ⌜ (marginSafeOf r ≡ marginSafeAnswer (planOf planner) (now (scratch .entry))) × (now (scratch .exit) ≡ marginSafeLeaves (planOf planner) (now (scratch .entry))) ⌝ }
 {
     if !valid_plan(planner) {
         return SearchAnswer::NoPlan;

@@ -19,7 +19,7 @@ ghost use Rattle.cqf.specs.Plan.{validPlan};
 ghost use Rattle.cqf.specs.Condition.{capacityOf, workloadOf, demand, mostDemand};
 ghost use Rattle.tables.specs.Tables.{planOf};
 ghost use Rattle.planner.specs.Answer.{checkOf, slackOf};
-ghost use Rattle.planner.specs.Meaning.{MeansHeld};
+ghost use Rattle.planner.specs.Meaning.{CheckMeans};
 ghost use Rattle.planner.specs.Outcome.{checkAnswer, slackAnswer};
 
 // Each port's demand.
@@ -35,7 +35,7 @@ fn port_demands(planner: Planner, duration: u64) -> [u64; 64]
 // Is this duration admissible? What the answer means is demand 3: after every sequence of calls that leads to this planner.
 pub fn check(planner: Planner, duration: u64) -> CheckAnswer
     ensures answers { λ r. ⌜ checkOf r ≡ checkAnswer (planOf planner) duration ⌝ }
-    ensures means { λ r. ⌜ MeansHeld (planOf planner) duration (checkOf r) ⌝ }
+    ensures means { λ r. ⌜ CheckMeans (planOf planner) duration (checkOf r) ⌝ }
 {
     if !valid_plan(planner) {
         return CheckAnswer::NoPlan;

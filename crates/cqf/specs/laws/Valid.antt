@@ -11,7 +11,7 @@ use Rattle.cqf.specs.Plan.{Plan, periodOf, countOf, lengthOf, hopsOf, ro
 use Rattle.cqf.specs.laws.Bounded.{or-cases, allTo-at}
 use Rattle.cqf.specs.laws.Slot.{emptyAt, heldAt}
 
--- a plan is well valid as its five tests say
+-- a plan is valid as its five tests say
 pub valid-by
     : (p : Plan) {top guard ports flows some : Bool}
     → topOk (p .top) ≡ top

@@ -1,4 +1,4 @@
--- Every accepted plan is well valid: the tables are valid after each field of the walk.
+-- Every accepted plan is valid: the tables are valid after each field of the walk.
 use mathlib.Core.Path.{_≡_, sym, _∙_}
 use mathlib.Core.Logic.{_⊎_, inl, inr}
 use mathlib.Core.List.{List}
@@ -89,7 +89,7 @@ draft-valid d h headed flowing =
     some (inl e) = absurd (true≢false (sym (eq-eqb _ _ e) ∙ flowing))
     some (inr t) = anyTo-some flowSlots (present p) (t .0) (t .1) (t .2)
 
--- every accepted plan is well valid
+-- every accepted plan is valid
 pub accepted-valid
     : (s : List ℕ) (p : Plan) (ports flows : ℕ)
     → readPlan s ≡ accepted p ports flows

@@ -8,7 +8,7 @@ use native.Mathlib.Omega.{arith}
 use Rattle.cqf.specs.Plan.{Plan, noPlan, validPlan}
 use Rattle.plan.specs.Reading.{PlanRead, accepted, rejected, readPlan}
 use Rattle.loading.specs.Outcome.{loadLeaves, readingLeaves}
-use Rattle.planner.specs.Calls.{Call, load, check, slack, least, marginSafe, leaves, afterFrom, after, accepting, keeping, heldFrom, heldBytes}
+use Rattle.planner.specs.Calls.{Call, load, ask, leaves, afterFrom, after, accepting, keeping, heldFrom, heldBytes}
 
 -- the tables that a reading stands for; none for a refusal
 abbrev readTables : PlanRead → Option Plan
@@ -35,10 +35,7 @@ load-holds held p s h = go (readPlan s) refl
 
 call-holds : (held : Option (List ℕ)) (p : Plan) (c : Call) → Holds held p → Holds (keeping held c) (leaves p c)
 call-holds held p (load s) h = load-holds held p s h
-call-holds held p (check T) h = h
-call-holds held p (slack n T) h = h
-call-holds held p (least scratch) h = h
-call-holds held p (marginSafe scratch) h = h
+call-holds held p (ask x) h = h
 
 calls-hold-from : (held : Option (List ℕ)) (p : Plan) (calls : List Call) → Holds held p → Holds (heldFrom held calls) (afterFrom p calls)
 unfolding heldFrom afterFrom
@@ -71,10 +68,10 @@ pub after-held
     → after calls ≡ p
 after-held calls s e p m n r = let h = after-loaded calls s e .reads in cc
 
--- after one without it is the empty one, whose tables are not well valid: every question is answered 20
-empty-unformed : validPlan noPlan ≡ false
+-- after one without it is the empty one, whose tables are not valid
+empty-invalid : validPlan noPlan ≡ false
 unfolding validPlan noPlan
-empty-unformed = refl
+empty-invalid = refl
 
 pub after-none : (calls : List Call) → heldBytes calls ≡ none → validPlan (after calls) ≡ false
-after-none calls e = rw (calls-hold calls .nothing e) empty-unformed
+after-none calls e = rw (calls-hold calls .nothing e) empty-invalid

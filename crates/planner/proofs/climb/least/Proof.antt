@@ -15,7 +15,7 @@ use Rattle.planner.specs.laws.Searched.{ends-no-plan, ends-short, ends-w
 use Rattle.planner.proofs.climb.least.Statement.{statement}
 use Rattle.planner.proofs.climb.least.Tie as tie
 
--- past the first test the plan is well valid
+-- past the first test the plan is valid
 valid-past : (c : tie.Else1) → validPlan (planOf (c .before .before .before .args .planner)) ≡ true
 valid-past c = sym (c .before .valid-plan .ensures) ∙ not-false _ (c .if1 .left)
 

@@ -10,7 +10,7 @@ use Rattle.plan.specs.laws.Within.{within-low, within-high}
 use Rattle.tables.specs.Tables.{planOf}
 use Rattle.loading.specs.Outcome.{Answer}
 use Rattle.planner.specs.Outcome.{checkAnswer}
-use Rattle.planner.specs.Meaning.{MeansHeld}
+use Rattle.planner.specs.Meaning.{CheckMeans}
 use Rattle.planner.specs.Theorem.{check-means}
 use Rattle.planner.specs.laws.Answers.{check-none, check-out, check-good, check-bad}
 use Rattle.planner.proofs.question.check.Statement.{statement}
@@ -21,10 +21,10 @@ abbrev held : tie.Start → Plan
 held s = planOf (s .args .planner)
 
 -- the answer of the definition, and with it what demand 3 says of it
-told : (p : Plan) (T : ℕ) (a : Answer (Unit {0})) → a ≡ checkAnswer p T → (a ≡ checkAnswer p T) × MeansHeld p T a
-told p T a e = (e, subst (λ (x : Answer (Unit {0})). MeansHeld p T x) (sym e) (check-means p T))
+told : (p : Plan) (T : ℕ) (a : Answer (Unit {0})) → a ≡ checkAnswer p T → (a ≡ checkAnswer p T) × CheckMeans p T a
+told p T a e = (e, subst (λ (x : Answer (Unit {0})). CheckMeans p T x) (sym e) (check-means p T))
 
--- past the refusals: the plan is well valid, and the duration from 1 to top
+-- past the refusals: the plan is valid, and the duration from 1 to top
 valid : (c : tie.Else1) → validPlan (held (c .before .before)) ≡ true
 valid c = sym (c .before .valid-plan .ensures) ∙ not-false _ (c .if1 .left)
 

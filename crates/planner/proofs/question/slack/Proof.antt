@@ -30,7 +30,7 @@ use Rattle.planner.proofs.question.slack.Tie as tie
 abbrev held : tie.Start → Plan
 held s = planOf (s .args .t1)
 
--- past the refusals: the plan is well valid, the duration from 1 to top, and the port from 1 to 64
+-- past the refusals: the plan is valid, the duration from 1 to top, and the port from 1 to 64
 valid : (c : tie.Else1) → validPlan (held (c .before .before)) ≡ true
 valid c = sym (c .before .valid-plan .ensures) ∙ not-false _ (c .if1 .left)
 

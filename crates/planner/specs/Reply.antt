@@ -1,0 +1,31 @@
+-- What comes back of a question: its answer, and the lent memory as it is left.
+use mathlib.Core.Path.{_≡_}
+use mathlib.Core.List.{List, [], _∷_}
+use Prim.Native.Nat.{ℕ}
+use lib.IntN.{ℤ}
+use Rattle.cqf.specs.Plan.{Plan}
+use Rattle.loading.specs.Outcome.{Answer, refusal}
+use Rattle.planner.specs.Outcome.{checkAnswer, slackAnswer, leastAnswer, leastLeaves, marginSafeAnswer, marginSafeLeaves}
+use Rattle.planner.specs.Calls.{Question, check, slack, least, marginSafe}
+
+pub data Reply : Type 0 where
+  verdict : Answer (Unit {0}) → Reply
+  spare : Answer ℤ → Reply
+  found : Answer ℕ → (scratch : List ℕ) → Reply
+
+abbrev pub reply : Plan → Question → Reply
+reply p (check T) = verdict (checkAnswer p T)
+reply p (slack n T) = spare (slackAnswer p n T)
+reply p (least scratch) = found (leastAnswer p scratch) (leastLeaves p scratch)
+reply p (marginSafe scratch) = found (marginSafeAnswer p scratch) (marginSafeLeaves p scratch)
+
+-- 20 with 0, and lent memory as it was
+abbrev pub noPlanReply : Question → Reply
+noPlanReply (check T) = verdict (refusal 20 (0 ∷ []))
+noPlanReply (slack n T) = spare (refusal 20 (0 ∷ []))
+noPlanReply (least scratch) = found (refusal 20 (0 ∷ [])) scratch
+noPlanReply (marginSafe scratch) = found (refusal 20 (0 ∷ [])) scratch
+
+-- two planners that answer every question alike
+abbrev pub SameAnswers : Plan → Plan → Type 0
+SameAnswers p q = (x : Question) → reply p x ≡ reply q x
