@@ -7,7 +7,7 @@ use lib.ListN.{length, getD}
 use Rattle.cqf.specs.Plan.{Plan, routeOf}
 use Rattle.cqf.specs.Condition.{admissible}
 use Rattle.cqf.specs.Emission.{Emission, Keeps, Cycles, cyclesOf}
-use Rattle.cqf.specs.Run.{Overruns, Leaves}
+use Rattle.cqf.specs.Run.{Overruns, Leaves, MayEnd}
 
 -- an emission that keeps every contract and leaves a frame unsent
 pub record Counterexample (p : Plan) (T : ℕ) : Type 0 where
@@ -15,17 +15,13 @@ pub record Counterexample (p : Plan) (T : ℕ) : Type 0 where
   pub keeps : Keeps p emission
   pub overruns : Overruns p T (cyclesOf T emission)
 
--- frame k of flow f, emitted at t and with h ports on its route, leaves the last of them in the h-th cycle after its own and
--- in no other. Wherever its sending ends, from S after that cycle's start to S before its end, both included, its delay
--- end - t is at least (h - 1) T and at most (h + 1) T.
+-- Frame k of flow f, emitted at t and with h ports on its route, leaves the last of them in the h-th cycle after its own and
+-- in no other. In every cycle in which it leaves that port, and for every instant at which its sending in that cycle may end, its
+-- delay, from t to that end, is at least (h - 1) T and at most (h + 1) T.
 pub record OnTime (p : Plan) (T : ℕ) (cycles : Cycles) (f k t h : ℕ) : Type 0 where
   pub leaves : Leaves p T cycles f k (t / T + h)
   pub once : (c : ℕ) → Leaves p T cycles f k c → c ≡ t / T + h
-  pub delay
-      : (end : ℕ)
-      → (t / T + h) * T + p .guard ≤ end
-      → end + p .guard ≤ suc (t / T + h) * T
-      → (t + h * T ≤ end + T) × (end ≤ t + suc h * T)
+  pub delay : (c end : ℕ) → Leaves p T cycles f k c → MayEnd p T c end → (t + h * T ≤ end + T) × (end ≤ t + suc h * T)
 
 -- every frame of every emission that keeps the contracts is on time
 abbrev pub AllOnTime : Plan → ℕ → Type 0

@@ -2,7 +2,7 @@
 use mathlib.Core.Path.{_≡_}
 use mathlib.Core.List.{List, [], _∷_}
 use mathlib.Core.Bool.{Bool, true, false, cond, _&&_}
-use Prim.Native.Nat.{ℕ, zero, suc, _*_}
+use Prim.Native.Nat.{ℕ, zero, suc, _+_, _*_, _≤_}
 use lib.ListN.{length, getD}
 use lib.Dec.{eqb, ltb}
 use Rattle.cqf.specs.Bounded.{sumTo, countTo, anyTo}
@@ -78,6 +78,12 @@ next p T cycles c (running places) =
 unfoldable pub run : Plan → ℕ → Cycles → ℕ → Network
 run p T cycles zero = running (λ f k. source)
 run p T cycles (suc c) = next p T cycles c (run p T cycles c)
+
+-- A sent frame is wholly sent between S after its cycle's start and S before its end: the end of its sending in cycle c may be
+-- any whole instant from the one to the other, both included.
+pub record MayEnd (p : Plan) (T c end : ℕ) : Type 0 where
+  pub opened : c * T + p .guard ≤ end
+  pub closed : end + p .guard ≤ suc c * T
 
 -- a frame is left unsent somewhere in the run
 pub record Overruns (p : Plan) (T : ℕ) (cycles : Cycles) : Type 0 where

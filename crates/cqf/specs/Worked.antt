@@ -65,10 +65,12 @@ windows : map (λ (T : ℕ). window planK T) (1000 ∷ 2000 ∷ 72000 ∷ []) �
 unfolding planK window
 windows = refl
 
--- how many ports fail, with and without the port that no flow crosses
-failures : map (λ (T : ℕ). failing planK2 T) (71999 ∷ 72000 ∷ 110001 ∷ 142000 ∷ []) ≡ 1 ∷ 0 ∷ 1 ∷ 0 ∷ []
+-- how many ports fail, without and with the port that no flow crosses
+failures
+    : (map (λ (T : ℕ). failing planK T) (71999 ∷ 72000 ∷ 110001 ∷ 142000 ∷ []) ≡ 1 ∷ 0 ∷ 1 ∷ 0 ∷ [])
+    × (map (λ (T : ℕ). failing planK2 T) (71999 ∷ 72000 ∷ 110001 ∷ 142000 ∷ []) ≡ 1 ∷ 0 ∷ 1 ∷ 0 ∷ [])
 unfolding planK2 planK noPlan failing countTo fails crossed anyTo elem sublist capacity window workload demand sumTo frames begun stretch ceilDiv wireBits
-failures = refl
+failures = (refl, refl)
 
 -- both flows of K emit at the cycle's start and once more as soon as they may
 early : Emission

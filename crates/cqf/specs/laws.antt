@@ -19,6 +19,7 @@ pub mod Accepted
 pub mod Refused
 pub mod Monotone
 pub mod Need
+pub mod Longer
 pub mod Smallest
 pub mod Ranges
 pub mod Search

@@ -1,2 +1,3 @@
 -- Plan K of document 01, worked out by the definitions.
 pub mod PlanK
+pub mod Order

@@ -16,7 +16,7 @@ use Rattle.loading.specs.Outcome.{Answer, result, refusal, loadAnswer, loadLeav
 use Rattle.planner.specs.Outcome.{checkAnswer, slackAnswer}
 use Rattle.planner.specs.Calls.{load, afterFrom, after, heldFrom, heldBytes}
 
-pub bytesK : List ℕ
+unfoldable pub bytesK : List ℕ
 bytesK =
     0x01 ∷ 0x00 ∷ 0x08 ∷ 0x00 ∷ 0x00 ∷ 0x03 ∷ 0xe8 ∷ 0x00 ∷ 0x0f ∷ 0x42 ∷ 0x40
     ∷ 0x02 ∷ 0x00 ∷ 0x08 ∷ 0x00 ∷ 0x01 ∷ 0x00 ∷ 0x00 ∷ 0x00 ∷ 0x64 ∷ 0x00 ∷ 0x00
@@ -57,7 +57,7 @@ unfolding bytesK planK noPlan readPlan readFrom blank stepAt fieldAt fieldIn hea
 readK = refl
 
 -- K is the plan held after its load
-heldK : heldBytes (load bytesK ∷ []) ≡ some bytesK
+pub heldK : heldBytes (load bytesK ∷ []) ≡ some bytesK
 unfolding bytesK noPlan heldBytes heldFrom readPlan readFrom blank stepAt fieldAt fieldIn headerIn portInValue flowIn number2 number4 sizeAt wholeAt valueAt numbers2 routeIn repeats every distinct elem taken fieldRepeats store added closing absentFrom namesAbsent
 heldK = refl
 

@@ -4,7 +4,7 @@ use mathlib.Core.Path.{_≡_, refl, sym, ap, _∙_}
 use mathlib.Core.List.{List}
 use mathlib.Core.Option.{some}
 use mathlib.Core.Bool.{Bool, true, false, cond, true≢false}
-use Prim.Native.Nat.{ℕ, _≤_}
+use Prim.Native.Nat.{ℕ, _*_, _≤_, _<_}
 use native.Mathlib.Omega.{arith}
 use borrow.Author.Tests.{le-leb}
 use Rattle.cqf.specs.Bounded.{within}
@@ -12,11 +12,12 @@ use Rattle.cqf.specs.Plan.{Plan, validPlan}
 use Rattle.cqf.specs.Condition.{admissible, failing, lowestFailing}
 use Rattle.cqf.specs.LargeEnough.{LargeEnough}
 use Rattle.cqf.specs.Theorem.{large-enough}
+use Rattle.cqf.specs.laws.Longer.{longer}
 use Rattle.plan.specs.FieldOrder.{SameFields}
 use Rattle.plan.specs.Reading.{accepted, readPlan}
 use Rattle.plan.specs.laws.Order.{field-order}
 use Rattle.plan.specs.laws.Valid.{accepted-valid}
-use Rattle.loading.specs.Outcome.{Answer, result}
+use Rattle.loading.specs.Outcome.{Answer, result, numberOf}
 use Rattle.planner.specs.Outcome.{failingAt, checkAnswer}
 use Rattle.planner.specs.Meaning.{Refuses, Means, CheckMeans}
 use Rattle.planner.specs.Reply.{SameAnswers, reply}
@@ -63,6 +64,30 @@ pub accepted-large-enough
     → T ≤ p .top
     → LargeEnough p T
 accepted-large-enough s p ports flows reads T low high = large-enough p (accepted-valid s p ports flows reads) T low
+
+-- a duration that is accepted for such a plan is longer than two guard bands
+pub accepted-longer
+    : (s : List ℕ) (p : Plan) (ports flows : ℕ)
+    → readPlan s ≡ accepted p ports flows
+    → (T : ℕ)
+    → 1 ≤ T
+    → T ≤ p .top
+    → checkAnswer p T ≡ result tt
+    → 2 * p .guard < T
+accepted-longer s p ports flows reads T low high answer = longer p valid T low (good (admissible p T) refl)
+  where
+    valid : validPlan p ≡ true
+    valid = accepted-valid s p ports flows reads
+
+    ranged : within 1 (p .top) T ≡ true
+    ranged = rw (le-leb 1 T low, le-leb T (p .top) high)
+
+    good : (b : Bool) → admissible p T ≡ b → admissible p T ≡ true
+    good true e = e
+    good false e =
+        let said : failingAt 21 p T ≡ result tt = rw e at (sym (check-within p T valid ranged) ∙ answer) in
+        let z : _≡_ {A = ℕ} 21 0 = ap numberOf said in
+        absurd (omega arith)
 
 -- of the plain question's own answer (document 01: demand 3)
 pub check-means : (tables : Plan) (T : ℕ) → CheckMeans tables T (checkAnswer tables T)

@@ -1,5 +1,5 @@
 -- At an admissible duration the run of an emission that keeps every contract never stops, and each frame is on time.
-use mathlib.Core.Path.{_≡_, refl, sym, ap, _∙_}
+use mathlib.Core.Path.{_≡_, refl, sym, ap, subst, _∙_}
 use mathlib.Core.Bool.{true, false, true≢false}
 use Prim.Native.Nat.{ℕ, zero, suc, _+_, _*_, _/_, _%_, _≤_, _<_}
 use native.Mathlib.Nat.{div-add-mod', mod-lt, add-mul, suc-mul}
@@ -9,7 +9,7 @@ use Rattle.cqf.specs.Limits.{portSlots}
 use Rattle.cqf.specs.Plan.{Plan, routeOf, validPlan}
 use Rattle.cqf.specs.Condition.{frames, admissible}
 use Rattle.cqf.specs.Emission.{Emission, Keeps, cyclesOf}
-use Rattle.cqf.specs.Run.{Places, source, isGone, running, run, overrun, overrunAt, queuedBits, Leaves}
+use Rattle.cqf.specs.Run.{Places, source, isGone, running, run, overrun, overrunAt, queuedBits, Leaves, MayEnd}
 use Rattle.cqf.specs.LargeEnough.{OnTime}
 use Rattle.cqf.specs.laws.Bounded.{anyTo-none}
 use Rattle.cqf.specs.laws.Valid.{held-period, present-held}
@@ -19,14 +19,15 @@ use Rattle.cqf.specs.laws.Condition.{none-fails, no-overrun}
 use Rattle.cqf.specs.laws.Sending.{emittedIn, bits-most}
 
 -- the delay of a frame that leaves h cycles after its own lies within one cycle of h cycles
-delay
+delay-within
     : (p : Plan) (T : ℕ)
     → 0 < T
     → (t h end : ℕ)
-    → (t / T + h) * T + p .guard ≤ end
-    → end + p .guard ≤ suc (t / T + h) * T
+    → MayEnd p T (t / T + h) end
     → (t + h * T ≤ end + T) × (end ≤ t + suc h * T)
-delay p T long t h end from to =
+delay-within p T long t h end sent =
+    let from = sent .opened in
+    let upto = sent .closed in
     let split = div-add-mod' t T in
     let less : t % T < T = mod-lt t long in
     let start = add-mul (t / T) h T in
@@ -99,6 +100,15 @@ module _ (p : Plan) (valid : validPlan p ≡ true) (T : ℕ) (long : 0 < T) (goo
             true≢false
             (sym (l .left) ∙ ap isGone (place (suc c) (l .after) (l .ends)) ∙ track-there own (routeOf p f) (suc c) h)
 
+    -- whichever cycle that is, and wherever in it its sending ends
+    delay
+        : (c end : ℕ)
+        → Leaves p T (cyclesOf T e) f k c
+        → MayEnd p T c end
+        → (getD (e f) k 0 + length (routeOf p f) * T ≤ end + T) × (end ≤ getD (e f) k 0 + suc (length (routeOf p f)) * T)
+    delay c end l sent =
+        delay-within p T long (getD (e f) k 0) (length (routeOf p f)) end (subst (λ (n : ℕ). MayEnd p T n end) (once c l) sent)
+
     -- so every frame is on time
     pub on-time : OnTime p T (cyclesOf T e) f k (getD (e f) k 0) (length (routeOf p f))
-    on-time = record { leaves = leaves; once = once; delay = delay p T long (getD (e f) k 0) (length (routeOf p f)) }
+    on-time = record { leaves = leaves; once = once; delay = delay }

@@ -37,6 +37,7 @@ pub record Held (p : Plan) (f : ℕ) : Type 0 where
   pub count-least : 1 ≤ countOf p f
   pub count-most : countOf p f ≤ 64
   pub bytes-most : lengthOf p f ≤ 2000
+  pub hops-least : 1 ≤ hopsOf p f
   pub hops-most : hopsOf p f ≤ maxHops
   pub in-plan : every (portIn (p .rates)) (routeOf p f) ≡ true
   pub once : distinct (routeOf p f) ≡ true
@@ -65,6 +66,7 @@ held p f h =
       count-least = leb-true _ _ (t .0 .0 .0 .0 .1 .0);
       count-most = leb-true _ _ (t .0 .0 .0 .0 .1 .1);
       bytes-most = leb-true _ _ (t .0 .0 .0 .1 .1);
+      hops-least = leb-true _ _ (t .0 .0 .1 .0);
       hops-most = leb-true _ _ (t .0 .0 .1 .1);
       in-plan = t .0 .1;
       once = t .1;
