@@ -4,7 +4,7 @@ use mathlib.Core.Bool.{Bool, _||_}
 use lib.Dec.{eqb}
 use Rattle.cqf.specs.Bounded.{within}
 
--- ports are numbered from 1 to 64, flows from 1 to 256; a route has at most 16 ports
+-- ports are numbered from 1 to 64, flows from 1 to 256; a field's route has at most 16 ports
 abbrev pub portSlots : ℕ
 portSlots = 64
 
@@ -13,6 +13,10 @@ flowSlots = 256
 
 abbrev pub maxHops : ℕ
 maxHops = 16
+
+-- positions in the table of routes from one flow's route to the next
+abbrev pub routeStride : ℕ
+routeStride = 16
 
 -- the longest top and the periods, in ns; frames in a period; bytes in a frame
 abbrev pub maxTop : ℕ

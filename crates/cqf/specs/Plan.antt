@@ -1,12 +1,12 @@
 -- A plan as its two tables of fixed size: port n in slot n - 1 of 64, flow n in slot n - 1 of 256. An absent port has rate 0,
--- an absent flow period 0, and the plan that holds nothing top 0. The route of the flow in slot f stands at f * maxHops.
+-- an absent flow period 0, and the plan that holds nothing top 0. The route of the flow in slot f stands at f * routeStride.
 use Prim.Native.Nat.{ℕ, suc, _*_}
 use mathlib.Core.List.{List, _∷_}
 use mathlib.Core.Bool.{Bool, _&&_, _||_}
 use lib.ListN.{getD, replicate}
 use lib.Dec.{eqb, ltb}
 use Rattle.cqf.specs.Bounded.{anyTo, allTo, elem, distinct, every, sublist}
-use Rattle.cqf.specs.Limits.{portSlots, flowSlots, maxHops, guardOk, topOk, portOk, rateOk, lengthOk, blockingOk, periodOk, countOk, hopsOk}
+use Rattle.cqf.specs.Limits.{portSlots, flowSlots, routeStride, guardOk, topOk, portOk, rateOk, lengthOk, blockingOk, periodOk, countOk, hopsOk}
 
 pub record Plan : Type 0 where
   pub guard : ℕ
@@ -31,7 +31,7 @@ noPlan =
       counts = replicate flowSlots 0;
       lengths = replicate flowSlots 0;
       hops = replicate flowSlots 0;
-      routes = replicate (flowSlots * maxHops) 0;
+      routes = replicate (flowSlots * routeStride) 0;
     }
 
 -- the numbers of the port in slot q
@@ -56,7 +56,7 @@ hopsOf p f = getD (p .hops) f 0
 
 -- its route: port numbers, in the order in which a frame meets them
 abbrev pub routeOf : Plan → ℕ → List ℕ
-routeOf p f = sublist (p .routes) (f * maxHops) (hopsOf p f)
+routeOf p f = sublist (p .routes) (f * routeStride) (hopsOf p f)
 
 -- whether slot f holds a flow
 abbrev pub present : Plan → ℕ → Bool

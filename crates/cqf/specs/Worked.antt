@@ -7,7 +7,7 @@ use native.Mathlib.Omega.{arith}
 use lib.ListN.{set, length, getD}
 use lib.Dec.{eqb, lit≤}
 use Rattle.cqf.specs.Bounded.{sumTo, countTo, anyTo, allTo, elem, distinct, every, sublist}
-use Rattle.cqf.specs.Limits.{maxHops}
+use Rattle.cqf.specs.Limits.{routeStride}
 use Rattle.cqf.specs.Plan.{Plan, noPlan, routeOf, present, periodOf, countOf, validPlan, validPort, validFlow}
 use Rattle.cqf.specs.Condition.{bitsOf, wireBits, ceilDiv, stretch, begun, frames, demand, window, capacity, workload, crossed, fails, failing}
 use Rattle.cqf.specs.Emission.{Emission, Keeps, cyclesOf}
@@ -26,7 +26,7 @@ planK =
       counts = set (set (noPlan .counts) 0 1) 1 1;
       lengths = set (set (noPlan .lengths) 0 230) 1 605;
       hops = set (set (noPlan .hops) 0 1) 1 1;
-      routes = set (set (noPlan .routes) 0 1) maxHops 1;
+      routes = set (set (noPlan .routes) 0 1) routeStride 1;
     }
 
 -- K with port 2 added: rate 1, blocking frame of 2,000 bytes, crossed by no flow

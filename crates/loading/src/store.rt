@@ -5,8 +5,8 @@ use plan::Flow;
 use plan::Header;
 use plan::Port;
 use plan::route::route_port;
-use tables::HOPS;
 use tables::Planner;
+use tables::STRIDE;
 ghost use Prim.Native.Nat.{_+_, _≤_};
 ghost use mathlib.Core.Path.{_≡_};
 ghost use mathlib.Core.List.{[]};
@@ -82,7 +82,7 @@ fn with_flow(planner: Planner, x: Flow, value: &[u8]) -> Planner
     let slot = (x.number - 1) as usize;
     let hops = x.hops as usize;
     let routes = planner.routes;
-    let copied = with_route(routes, slot * HOPS, value, hops);
+    let copied = with_route(routes, slot * STRIDE, value, hops);
     let mut next = planner;
     next.periods[slot] = x.period;
     next.counts[slot] = x.count;

@@ -5,7 +5,7 @@ use mathlib.Core.Bool.{Bool, false}
 use lib.Dec.{ltb}
 use lib.ListN.{getD, set, length}
 use lib.Seq.{sets}
-use Rattle.cqf.specs.Limits.{maxHops}
+use Rattle.cqf.specs.Limits.{routeStride}
 use Rattle.cqf.specs.Plan.{Plan, noPlan}
 use Rattle.plan.specs.Field.{Field, header, port, flow, repeats, routeIn}
 
@@ -69,7 +69,7 @@ store p (flow n period count length h) v =
       counts = set (p .counts) (n - 1) count;
       lengths = set (p .lengths) (n - 1) length;
       hops = set (p .hops) (n - 1) h;
-      routes = sets (p .routes) ((n - 1) * maxHops) (routeIn v);
+      routes = sets (p .routes) ((n - 1) * routeStride) (routeIn v);
     }
 
 -- how many of each kind a field adds

@@ -1,8 +1,8 @@
 // Each port's demand at a duration, in bits: one pass over the flows and the ports of their routes.
 use numbers::frame::wire_bits;
 use tables::FLOWS;
-use tables::HOPS;
 use tables::Planner;
+use tables::STRIDE;
 ghost use mathlib.Core.Path.{_≡_};
 ghost use mathlib.Core.Bool.{true};
 ghost use mathlib.Core.List.{[]};
@@ -80,7 +80,7 @@ pub(crate) fn demands<'a>(
         let period = periods[f];
         if period != 0 {
             let bits = flow_bits(period, counts[f], lengths[f], at);
-            add_route(routes, f * HOPS, hops[f] as usize, bits, out);
+            add_route(routes, f * STRIDE, hops[f] as usize, bits, out);
         }
         f += 1;
     }

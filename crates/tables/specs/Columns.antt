@@ -5,7 +5,7 @@ use mathlib.Core.Bool.{true, cond}
 use Prim.Native.Nat.{ℕ, suc, _+_, _*_, _≤_, _<_}
 use lib.ListN.{length, getD}
 use Rattle.cqf.specs.Bounded.{elem, distinct, every, sublist}
-use Rattle.cqf.specs.Limits.{portSlots, flowSlots, maxHops, portOk, minPeriod, maxPeriod, maxCount, maxLength}
+use Rattle.cqf.specs.Limits.{portSlots, flowSlots, maxHops, routeStride, portOk, minPeriod, maxPeriod, maxCount, maxLength}
 use Rattle.cqf.specs.Plan.{Plan}
 
 -- the columns in the order of the tables; one that the function is not lent is empty, and guard and top are 0
@@ -29,7 +29,7 @@ pub record FlowColumns (periods counts lengths hops routes : List ℕ) : Type 0 
   pub counts-long : length counts ≡ flowSlots
   pub lengths-long : length lengths ≡ flowSlots
   pub hops-long : length hops ≡ flowSlots
-  pub routes-long : length routes ≡ flowSlots * maxHops
+  pub routes-long : length routes ≡ flowSlots * routeStride
 
 -- a flow's slot that is empty or in range, over distinct ports; whether the ports are in the plan does not matter here
 pub record FlowInRange (period count bytes hops : ℕ) (route : List ℕ) : Type 0 where
@@ -46,7 +46,7 @@ pub record FlowsInRange (periods counts lengths hops routes : List ℕ) : Type 0
   pub slot
       : (f : ℕ)
       → f < flowSlots
-      → FlowInRange (getD periods f 0) (getD counts f 0) (getD lengths f 0) (getD hops f 0) (sublist routes (f * maxHops) (getD hops f 0))
+      → FlowInRange (getD periods f 0) (getD counts f 0) (getD lengths f 0) (getD hops f 0) (sublist routes (f * routeStride) (getD hops f 0))
 
 -- a table l that has v more than l₀ at each port of r, and as much elsewhere
 abbrev pub Marked : (l₀ l r : List ℕ) → ℕ → Type 0

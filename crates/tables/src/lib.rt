@@ -3,18 +3,18 @@ ghost use mathlib.Core.Path.{_≡_};
 ghost use Rattle.cqf.specs.Plan.{noPlan};
 ghost use Rattle.tables.specs.Tables.{planOf};
 
-// A slot for each port and flow, and a place for each port of a route.
+// A slot for each port and flow, and the positions from one flow's route to the next.
 pub const PORTS: usize = numbers::limits::MAX_PORT as usize;
 
 pub const FLOWS: usize = numbers::limits::MAX_FLOW as usize;
 
-pub const HOPS: usize = numbers::limits::MAX_HOPS as usize;
+pub const STRIDE: usize = 16;
 
 mod valid; // valid.rt: whether the tables hold a plan that the rules accept
 
 pub use valid::valid_plan;
 
-// The held plan: port n in slot n - 1, flow n in slot n - 1, a flow's route at its slot times 16. An absent port has rate 0,
+// The held plan: port n in slot n - 1, flow n in slot n - 1, a flow's route at its slot times the stride. An absent port has rate 0,
 // an absent flow period 0; top is 0 where no plan is held.
 #[repr(C)]
 pub struct Planner {

@@ -1,8 +1,8 @@
 // Whether the tables hold a plan that the rules accept; any other tables are answered as ones that hold no plan.
 use super::FLOWS;
-use super::HOPS;
 use super::PORTS;
 use super::Planner;
+use super::STRIDE;
 use numbers::limits::blocking_ok;
 use numbers::limits::count_ok;
 use numbers::limits::guard_ok;
@@ -122,7 +122,7 @@ fn valid_flow<'a>(
     if !flow_in_range(period, count, bytes, ports) {
         return false;
     }
-    valid_route(rates, routes, f * HOPS, ports as usize)
+    valid_route(rates, routes, f * STRIDE, ports as usize)
 }
 
 fn valid_flows<'a>(

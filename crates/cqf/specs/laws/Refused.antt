@@ -11,7 +11,7 @@ use lib.ListN.{length, getD}
 use lib.Dec.{eqb}
 use borrow.Author.Tests.{eqb-true, eqb-false}
 use Rattle.cqf.specs.Bounded.{lowest}
-use Rattle.cqf.specs.Limits.{portSlots, flowSlots, maxHops}
+use Rattle.cqf.specs.Limits.{portSlots, flowSlots, maxHops, routeStride}
 use Rattle.cqf.specs.Plan.{Plan, periodOf, countOf, hopsOf, routeOf, present, crosses, validPlan}
 use Rattle.cqf.specs.Condition.{begun, frames, fails, admissible}
 use Rattle.cqf.specs.Emission.{Emission, Keeps, cyclesOf}
@@ -145,7 +145,7 @@ module _ (p : Plan) (valid : validPlan p ≡ true) (T : ℕ) (long : 0 < T) (q :
       (maxHops - hop p q f)
       (at .0)
       (at .1)
-      (omega (arith, at .0, sublist-length (p .routes) (f * maxHops) (hopsOf p f), flow .hops-most)))
+      (omega (arith, at .0, sublist-length (p .routes) (f * routeStride) (hopsOf p f), flow .hops-most)))
 
   module _ (slot : q < portSlots) (failed : fails p T q ≡ true) where
     -- and the port leaves a frame unsent

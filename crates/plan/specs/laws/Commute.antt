@@ -10,7 +10,7 @@ use lib.Dec.{ltb}
 use lib.ListN.{length}
 use lib.Seq.{set-comm, getD-set-same, getD-set-other}
 use borrow.Author.Tests.{lt-ltb}
-use Rattle.cqf.specs.Limits.{portSlots, flowSlots, maxHops}
+use Rattle.cqf.specs.Limits.{portSlots, flowSlots, maxHops, routeStride}
 use Rattle.cqf.specs.Plan.{Plan}
 use Rattle.plan.specs.Field.{Field, header, port, flow, routeIn}
 use Rattle.plan.specs.Draft.{Draft, taken, store, added, portsIn, flowsIn}
@@ -102,10 +102,10 @@ routes-apart
     → i ≢ j
     → length v ≤ maxHops
     → length w ≤ maxHops
-    → (i * maxHops + length v ≤ j * maxHops) ⊎ (j * maxHops + length w ≤ i * maxHops)
+    → (i * routeStride + length v ≤ j * routeStride) ⊎ (j * routeStride + length w ≤ i * routeStride)
 routes-apart i j v w ne a b = go (decLt i j)
   where
-    go : Dec (i < j) → (i * maxHops + length v ≤ j * maxHops) ⊎ (j * maxHops + length w ≤ i * maxHops)
+    go : Dec (i < j) → (i * routeStride + length v ≤ j * routeStride) ⊎ (j * routeStride + length w ≤ i * routeStride)
     go (yes less) = inl (omega arith)
     go (no more) = let less : j < i = omega arith in inr (omega arith)
 
@@ -136,7 +136,7 @@ store-comm p tag tag′ v w (flow n o c l h) (flow n′ o′ c′ l′ h′) k m
       set-comm (p .counts) (n - 1) (n′ - 1) c c′ a,
       set-comm (p .lengths) (n - 1) (n′ - 1) l l′ a,
       set-comm (p .hops) (n - 1) (n′ - 1) h h′ a,
-      sets-comm (p .routes) ((n - 1) * maxHops) (routeIn v) ((n′ - 1) * maxHops) (routeIn w) apart,
+      sets-comm (p .routes) ((n - 1) * routeStride) (routeIn v) ((n′ - 1) * routeStride) (routeIn w) apart,
     )
 
 pub added-comm

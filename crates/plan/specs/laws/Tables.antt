@@ -7,7 +7,7 @@ use native.Mathlib.Omega.{arith}
 use native.Mathlib.Decide.{decLt}
 use lib.ListN.{length, getD, set, length-set, length-replicate}
 use lib.Seq.{sets, length-sets, getD-set-same, getD-set-other}
-use Rattle.cqf.specs.Limits.{portSlots, flowSlots, maxHops}
+use Rattle.cqf.specs.Limits.{portSlots, flowSlots, maxHops, routeStride}
 use Rattle.cqf.specs.Plan.{Plan, noPlan, periodOf, countOf, lengthOf, hopsOf, routeOf}
 use Rattle.plan.specs.Field.{Field, header, port, flow, hopsIn, routeIn}
 use Rattle.plan.specs.Draft.{store}
@@ -22,7 +22,7 @@ pub record Sized (p : Plan) : Type 0 where
   pub counts : length (p .counts) ≡ flowSlots
   pub lengths : length (p .lengths) ≡ flowSlots
   pub hops : length (p .hops) ≡ flowSlots
-  pub routes : length (p .routes) ≡ flowSlots * maxHops
+  pub routes : length (p .routes) ≡ flowSlots * routeStride
 
 pub sized-none : Sized noPlan
 unfolding noPlan
@@ -34,7 +34,7 @@ sized-none =
       counts = length-replicate {A = ℕ} flowSlots 0;
       lengths = length-replicate {A = ℕ} flowSlots 0;
       hops = length-replicate {A = ℕ} flowSlots 0;
-      routes = length-replicate {A = ℕ} (flowSlots * maxHops) 0;
+      routes = length-replicate {A = ℕ} (flowSlots * routeStride) 0;
     }
 
 pub sized-store : (p : Plan) (x : Field) (v : List ℕ) → Sized p → Sized (store p x v)
@@ -67,7 +67,7 @@ sized-store p (flow n t c l k) v h =
       counts = length-set (p .counts) (n - 1) c ∙ h .counts;
       lengths = length-set (p .lengths) (n - 1) l ∙ h .lengths;
       hops = length-set (p .hops) (n - 1) k ∙ h .hops;
-      routes = length-sets (p .routes) ((n - 1) * maxHops) (routeIn v) ∙ h .routes;
+      routes = length-sets (p .routes) ((n - 1) * routeStride) (routeIn v) ∙ h .routes;
     }
 
 -- the slot of the stored flow
@@ -94,7 +94,7 @@ module _ (p : Plan) (sized : Sized p) (n t c l h : ℕ) (v : List ℕ) (fits : n
       → routeOf (store p (flow n t c l h) v) (n - 1) ≡ routeIn v
   unfolding store
   stored-route e k =
-      let i : ℕ = (n - 1) * maxHops in
+      let i : ℕ = (n - 1) * routeStride in
       let long : length (routeIn v) ≡ h = route-length v ∙ sym e in
       let hops : getD (set (p .hops) (n - 1) h) (n - 1) 0 ≡ length (routeIn v) = stored-hops ∙ sym long in
       rw hops (sublist-sets (p .routes) i (routeIn v) (omega (arith, sized .routes)))
@@ -125,13 +125,13 @@ module _ (p : Plan) (n t c l h : ℕ) (v : List ℕ) (f : ℕ) (other : f ≢ n 
   unfolding store
   kept-route e k short =
       rw kept-hops
-      (sublist-same (sets (p .routes) ((n - 1) * maxHops) (routeIn v)) (p .routes) (f * maxHops) (hopsOf p f)
-      (λ j a b. sets-outside (p .routes) ((n - 1) * maxHops) (routeIn v) j (outside j a b)))
+      (sublist-same (sets (p .routes) ((n - 1) * routeStride) (routeIn v)) (p .routes) (f * routeStride) (hopsOf p f)
+      (λ j a b. sets-outside (p .routes) ((n - 1) * routeStride) (routeIn v) j (outside j a b)))
     where
-      outside : (j : ℕ) → f * maxHops ≤ j → j < f * maxHops + hopsOf p f → Outside j ((n - 1) * maxHops) (length (routeIn v))
+      outside : (j : ℕ) → f * routeStride ≤ j → j < f * routeStride + hopsOf p f → Outside j ((n - 1) * routeStride) (length (routeIn v))
       outside j a b = go (decLt f (n - 1))
         where
-          go : Dec (f < n - 1) → Outside j ((n - 1) * maxHops) (length (routeIn v))
+          go : Dec (f < n - 1) → Outside j ((n - 1) * routeStride) (length (routeIn v))
           go (yes less) = inl (omega arith)
           go (no more) =
               let less : n - 1 < f = omega arith in

@@ -6,7 +6,7 @@ use mathlib.Core.Bool.{true, and-eq-true-iff}
 use lib.Dec.{leb}
 use borrow.Author.Tests.{leb-true}
 use Rattle.cqf.specs.Bounded.{within}
-use Rattle.cqf.specs.Limits.{flowSlots, maxHops, flowOk, hopsOk}
+use Rattle.cqf.specs.Limits.{flowSlots, maxHops, routeStride, flowOk, hopsOk}
 
 -- it is no smaller than the least and no larger than the most
 module _ (lo hi n : ℕ) (e : within lo hi n ≡ true) where
@@ -21,5 +21,5 @@ pub slot-below : (slots n : ℕ) → within 1 slots n ≡ true → n - 1 < slots
 slot-below slots n e = omega (arith, within-low 1 slots n e, within-high 1 slots n e)
 
 -- a flow's route stays in its sublist of the routes
-pub sublist-below : (n h : ℕ) → flowOk n ≡ true → hopsOk h ≡ true → (n - 1) * maxHops + h ≤ flowSlots * maxHops
+pub sublist-below : (n h : ℕ) → flowOk n ≡ true → hopsOk h ≡ true → (n - 1) * routeStride + h ≤ flowSlots * routeStride
 sublist-below n h e f = omega (arith, within-low 1 flowSlots n e, within-high 1 flowSlots n e, within-high 1 maxHops h f)
