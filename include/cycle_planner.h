@@ -1,4 +1,4 @@
-/* The cycle planner as a static library (libcapi.a). Every function answers any planner value, any number and any slice,
+/* The cycle planner as a static library (libcapi.a), for C and C++. Every function answers any planner value, any number and any slice,
  * an empty one too. A slice is a pointer and a length; a pointer that does not hold as many elements as its length says is
  * outside what is proved. An empty slice wants a pointer that is not null, aligned for its elements. A mutable slice overlaps nothing else.
  * Document 01's refusal number is in `refusal`, 0 where there is a result. */
@@ -6,6 +6,10 @@
 #define CYCLE_PLANNER_H
 #include <stddef.h>
 #include <stdint.h>
+
+#ifdef __cplusplus
+extern "C" {
+#endif
 
 /* Plain data, 6,792 bytes. Keep it as the last call left it; do not look inside. */
 typedef struct {
@@ -18,8 +22,8 @@ typedef struct {
 } cp_planner;
 
 typedef struct { uint32_t refusal; uint64_t first, second; } cp_answer;
-typedef struct { cp_planner planner; uint32_t refusal; uint64_t first, second; } cp_loaded;
-typedef struct { uint32_t refusal; int64_t slack; } cp_slacked;
+typedef struct { cp_planner planner; cp_answer answer; } cp_load_outcome;
+typedef struct { uint32_t refusal; int64_t slack; } cp_slack_answer;
 typedef struct { uint32_t refusal, tag; uint64_t offset; uint64_t numbers[5]; } cp_field_read;
 
 /* The planner that holds no plan. */
@@ -27,13 +31,13 @@ cp_planner cp_empty(void);
 
 /* Result: first = port fields, second = flow fields, planner = the one that holds this plan.
  * Refusal 1 to 9: first = offset (place), second = 0, planner = the one given. */
-cp_loaded cp_load(cp_planner planner, const uint8_t *plan, size_t length);
+cp_load_outcome cp_load(cp_planner planner, const uint8_t *plan, size_t length);
 
 /* The plain question. Result: 0, 0. Refusal 20, 10: 0, 0. 21: first = lowest failing port, second = how many fail. */
 cp_answer cp_check(cp_planner planner, uint64_t duration);
 
 /* A port's spare at a duration. Refusal 20, 10, 24: slack = 0. */
-cp_slacked cp_slack(cp_planner planner, uint64_t port, uint64_t duration);
+cp_slack_answer cp_slack(cp_planner planner, uint64_t port, uint64_t duration);
 
 /* The least and the margin-safe duration. Result: first = duration in ns, second = 0; the scratch's first 64 numbers are each
  * port's demand there, port n at n - 1. Refusal 20, 11: 0, 0, scratch untouched. 22 (least), 23 (margin-safe): first = lowest
@@ -48,4 +52,8 @@ cp_field_read cp_field(const uint8_t *plan, size_t length, size_t offset);
 
 /* Whether the value of a flow field names a port twice (test 7): 1 or 0. */
 uint8_t cp_repeats(const uint8_t *value, size_t length);
+
+#ifdef __cplusplus
+}
+#endif
 #endif

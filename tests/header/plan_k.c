@@ -35,8 +35,8 @@ static cp_planner planner_of_k(void) {
 
 /* A load's answer and the planner that it gives back. */
 static cp_planner loaded(const char *call, cp_planner before, const uint8_t *plan, size_t length, cp_answer want, cp_planner left) {
-  cp_loaded got = cp_load(before, plan, length);
-  same_answer(call, answer(got.refusal, got.first, got.second), want);
+  cp_load_outcome got = cp_load(before, plan, length);
+  same_answer(call, got.answer, want);
   same_planner(call, got.planner, left);
   return got.planner;
 }
@@ -54,9 +54,9 @@ static void rows(cp_planner k) {
     snprintf(call, sizeof call, "cp_check of K at %" PRIu64, table[row].duration);
     same_answer(call, cp_check(k, table[row].duration), answer(table[row].refusal, fails, fails));
     snprintf(call, sizeof call, "cp_slack of K's port 1 at %" PRIu64, table[row].duration);
-    same_slacked(call, cp_slack(k, 1, table[row].duration), table[row].refusal == 10 ? 10 : 0, table[row].slack);
+    same_slack(call, cp_slack(k, 1, table[row].duration), table[row].refusal == 10 ? 10 : 0, table[row].slack);
   }
-  same_slacked("cp_slack of a port not in K", cp_slack(k, 2, 72000), 24, 0);
+  same_slack("cp_slack of a port not in K", cp_slack(k, 2, 72000), 24, 0);
 }
 
 typedef cp_answer (*search)(cp_planner planner, uint64_t *scratch, size_t length);
@@ -118,7 +118,7 @@ static void uncrossed_port(cp_planner k) {
   left.blockings[1] = 2000;
   k = loaded("cp_load of K with port 2", k, plan, sizeof plan, answer(0, 2, 2), left);
   searched("cp_least of K with port 2", cp_least, k, SCRATCH, answer(0, 72000, 0), 7000);
-  same_slacked("cp_slack of port 2, not crossed", cp_slack(k, 2, 72000), 24, 0);
+  same_slack("cp_slack of port 2, not crossed", cp_slack(k, 2, 72000), 24, 0);
 }
 
 static void field(const char *call, size_t length, size_t offset, cp_field_read want) {
@@ -150,7 +150,7 @@ int main(void) {
   memset(&none, 0, sizeof none);
   same_planner("cp_empty", cp_empty(), none);
   same_answer("cp_check without a plan", cp_check(cp_empty(), 72000), answer(20, 0, 0));
-  same_slacked("cp_slack without a plan", cp_slack(cp_empty(), 1, 72000), 20, 0);
+  same_slack("cp_slack without a plan", cp_slack(cp_empty(), 1, 72000), 20, 0);
   loaded("cp_load of 04 0001", cp_empty(), lone_tag, sizeof lone_tag, answer(2, 0, 0), none);
   k = loaded("cp_load of K", cp_empty(), K, sizeof K, answer(0, 1, 2), planner_of_k());
   k = loaded("cp_load of 51 bytes of K", k, K, sizeof K - 1, answer(2, FLOW_2_AT, 0), planner_of_k());

@@ -47,7 +47,7 @@ static void same_answer(const char *call, cp_answer got, cp_answer want) {
   same(call, "second", got.second, want.second);
 }
 
-static void same_slacked(const char *call, cp_slacked got, uint32_t refusal, int64_t slack) {
+static void same_slack(const char *call, cp_slack_answer got, uint32_t refusal, int64_t slack) {
   same(call, "refusal", got.refusal, refusal);
   same(call, "slack", (uint64_t)got.slack, (uint64_t)slack);
 }

@@ -1,2 +1,4 @@
 -- The outcomes of the calls as numbers, as include/cycle_planner.h tells them.
 pub mod Numbers
+pub mod Meaning
+pub mod laws

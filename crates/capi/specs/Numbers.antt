@@ -5,8 +5,8 @@ use lib.IntN.{ℤ, pos}
 use Rattle.loading.specs.Outcome.{Answer, result, refusal, Fields}
 use Rattle.plan.specs.Field.{header, port, flow, FieldRead, field, refused, headerTag, portTag, flowTag}
 use Rattle.capi.specs.declared.AnswerNumbers.{AnswerNumbers}
-use Rattle.capi.specs.declared.SlackNumbers.{SlackNumbers}
-use Rattle.capi.specs.declared.FieldNumbers.{FieldNumbers}
+use Rattle.capi.specs.declared.SlackAnswerNumbers.{SlackAnswerNumbers}
+use Rattle.capi.specs.declared.FieldReadNumbers.{FieldReadNumbers}
 
 abbrev pub answerNumbers : ℕ → ℕ → ℕ → AnswerNumbers
 answerNumbers number first second = record { refusal = number; first = first; second = second }
@@ -29,12 +29,15 @@ abbrev pub searchNumbers : Answer ℕ → AnswerNumbers
 searchNumbers (result duration) = answerNumbers 0 duration 0
 searchNumbers (refusal number values) = refusedWith number values
 
-abbrev pub slackNumbers : Answer ℤ → SlackNumbers
-slackNumbers (result z) = record { refusal = 0; slack = z }
-slackNumbers (refusal number values) = record { refusal = number; slack = pos 0 }
+abbrev pub slackAnswerNumbers : ℕ → ℤ → SlackAnswerNumbers
+slackAnswerNumbers number slack = record { refusal = number; slack = slack }
+
+abbrev pub slackNumbers : Answer ℤ → SlackAnswerNumbers
+slackNumbers (result z) = slackAnswerNumbers 0 z
+slackNumbers (refusal number values) = slackAnswerNumbers number (pos 0)
 
 -- a field's tag and its numbers, 0 behind them
-abbrev pub fieldNumbers : FieldRead → FieldNumbers
+abbrev pub fieldNumbers : FieldRead → FieldReadNumbers
 fieldNumbers (field (header g t) next) = record { refusal = 0; tag = headerTag; offset = next; numbers = g ∷ t ∷ 0 ∷ 0 ∷ 0 ∷ [] }
 fieldNumbers (field (port n r b) next) = record { refusal = 0; tag = portTag; offset = next; numbers = n ∷ r ∷ b ∷ 0 ∷ 0 ∷ [] }
 fieldNumbers (field (flow n p c l h) next) = record { refusal = 0; tag = flowTag; offset = next; numbers = n ∷ p ∷ c ∷ l ∷ h ∷ [] }

@@ -1,8 +1,9 @@
 // The planner for C and Rust: the calls with their answers as numbers (include/cycle_planner.h).
 use crate::answers::check_numbers;
 use crate::answers::field_numbers;
+use crate::answers::least_numbers;
 use crate::answers::load_numbers;
-use crate::answers::search_numbers;
+use crate::answers::margin_safe_numbers;
 use crate::answers::slack_numbers;
 use planner::Planner;
 ghost use mathlib.Core.Path.{_≡_};
@@ -11,6 +12,7 @@ ghost use Rattle.plan.specs.Field.{fieldAt, repeats};
 ghost use Rattle.tables.specs.Tables.{planOf};
 ghost use Rattle.loading.specs.Outcome.{loadAnswer, loadLeaves};
 ghost use Rattle.planner.specs.Outcome.{checkAnswer, slackAnswer, leastAnswer, leastLeaves, marginSafeAnswer, marginSafeLeaves};
+ghost use Rattle.capi.specs.Meaning.{CheckNumbersMean};
 ghost use Rattle.capi.specs.Numbers.{loadNumbers, checkNumbers, slackNumbers, searchNumbers, fieldNumbers};
 
 mod answers; // answers.rt: each answer as numbers
@@ -23,19 +25,19 @@ pub struct AnswerNumbers {
 }
 
 #[repr(C)]
-pub struct Loaded {
+pub struct LoadOutcomeNumbers {
     pub planner: Planner,
     pub answer: AnswerNumbers,
 }
 
 #[repr(C)]
-pub struct SlackNumbers {
+pub struct SlackAnswerNumbers {
     pub refusal: u32,
     pub slack: i64,
 }
 
 #[repr(C)]
-pub struct FieldNumbers {
+pub struct FieldReadNumbers {
     pub refusal: u32,
     pub tag: u32,
     pub offset: u64,
@@ -50,7 +52,7 @@ pub extern "C" fn cp_empty() -> Planner
 }
 
 #[no_mangle]
-pub extern "C" fn cp_field(plan: &[u8], offset: usize) -> FieldNumbers
+pub extern "C" fn cp_field(plan: &[u8], offset: usize) -> FieldReadNumbers
     ensures { λ r. ⌜ r ≡ fieldNumbers (fieldAt (now (plan .entry)) offset) ⌝ }
 {
     field_numbers(plan::read_field(plan, offset))
@@ -64,28 +66,30 @@ pub extern "C" fn cp_repeats(value: &[u8]) -> bool
 }
 
 #[no_mangle]
-pub extern "C" fn cp_load(planner: Planner, plan: &[u8]) -> Loaded
+pub extern "C" fn cp_load(planner: Planner, plan: &[u8]) -> LoadOutcomeNumbers
     ensures { λ r. ⌜ (planOf (r .planner) ≡ loadLeaves (planOf planner) (now (plan .entry))) × (r .answer ≡ loadNumbers (loadAnswer (now (plan .entry)))) ⌝ }
 {
     let outcome = planner::load(planner, plan);
     let held = outcome.planner;
     let answer = outcome.answer;
     let numbers = load_numbers(answer);
-    Loaded {
+    LoadOutcomeNumbers {
         planner: held,
         answer: numbers,
     }
 }
 
+// 21 and 0 mean what they mean from `planner::check`: demand 3.
 #[no_mangle]
 pub extern "C" fn cp_check(planner: Planner, duration: u64) -> AnswerNumbers
-    ensures { λ r. ⌜ r ≡ checkNumbers (checkAnswer (planOf planner) duration) ⌝ }
+    ensures answers { λ r. ⌜ r ≡ checkNumbers (checkAnswer (planOf planner) duration) ⌝ }
+    ensures means { λ r. ⌜ CheckNumbersMean (planOf planner) duration r ⌝ }
 {
     check_numbers(planner::check(planner, duration))
 }
 
 #[no_mangle]
-pub extern "C" fn cp_slack(planner: Planner, port: u64, duration: u64) -> SlackNumbers
+pub extern "C" fn cp_slack(planner: Planner, port: u64, duration: u64) -> SlackAnswerNumbers
     ensures { λ r. ⌜ r ≡ slackNumbers (slackAnswer (planOf planner) port duration) ⌝ }
 {
     slack_numbers(planner::slack(planner, port, duration))
@@ -95,12 +99,12 @@ pub extern "C" fn cp_slack(planner: Planner, port: u64, duration: u64) -> SlackN
 pub extern "C" fn cp_least(planner: Planner, scratch: &mut [u64]) -> AnswerNumbers
     ensures { λ r. ⌜ (r ≡ searchNumbers (leastAnswer (planOf planner) (now (scratch .entry)))) × (now (scratch .exit) ≡ leastLeaves (planOf planner) (now (scratch .entry))) ⌝ }
 {
-    search_numbers(22, planner::least(planner, scratch))
+    least_numbers(planner::least(planner, scratch))
 }
 
 #[no_mangle]
 pub extern "C" fn cp_margin_safe(planner: Planner, scratch: &mut [u64]) -> AnswerNumbers
     ensures { λ r. ⌜ (r ≡ searchNumbers (marginSafeAnswer (planOf planner) (now (scratch .entry)))) × (now (scratch .exit) ≡ marginSafeLeaves (planOf planner) (now (scratch .entry))) ⌝ }
 {
-    search_numbers(23, planner::margin_safe(planner, scratch))
+    margin_safe_numbers(planner::margin_safe(planner, scratch))
 }

@@ -4,7 +4,6 @@ ghost use lib.ListN.{length};
 ghost use Rattle.cycle.specs.{Within};
 use libc::STDIN_FILENO;
 use libc::STDOUT_FILENO;
-use plan::Fault;
 use planner::LoadAnswer;
 use planner::Planner;
 use planner::SearchAnswer;
@@ -59,9 +58,13 @@ fn read_input(buffer: &mut [u8]) -> Input
     Input::Bytes(at)
 }
 
-fn say_refused(fault: Fault, offset: usize) {
+fn say_refused(refusal: u32) {
     say(b"refused ");
-    say_number(plan::fault_number(fault) as u64);
+    say_number(refusal as u64);
+}
+
+fn say_refused_plan(refusal: u32, offset: usize) {
+    say_refused(refusal);
     say(b" place ");
     say_number(offset as u64);
     say(b"\n");
@@ -79,19 +82,27 @@ fn say_held(planner: Planner, ports: u16, flows: u16) {
     say(b"\n");
 }
 
-fn say_search(number: u64, answer: SearchAnswer) {
+fn say_search(refusal: u32, answer: SearchAnswer) {
     match answer {
         SearchAnswer::Duration(duration) => say_number(duration),
         SearchAnswer::Failing { port, count: _ } => {
-            say(b"refused ");
-            say_number(number);
+            say_refused(refusal);
             say(b" port ");
             say_number(port as u64);
         }
-        SearchAnswer::NoPlan => say(b"refused 20"),
-        SearchAnswer::ShortScratch => say(b"refused 11"),
+        _ => say_refused(refusal),
     }
     say(b"\n");
+}
+
+fn say_searches(planner: Planner) {
+    let mut scratch = [0u64; 64];
+    say(b"least ");
+    let least = planner::least(planner, &mut scratch);
+    say_search(planner::least_number(least), least);
+    say(b"safe ");
+    let safe = planner::margin_safe(planner, &mut scratch);
+    say_search(planner::margin_safe_number(safe), safe);
 }
 
 fn say_plan(bytes: &[u8]) {
@@ -99,14 +110,12 @@ fn say_plan(bytes: &[u8]) {
     let held = loaded.planner;
     let answer = loaded.answer;
     match answer {
-        LoadAnswer::Refused { fault, offset } => say_refused(fault, offset),
+        LoadAnswer::Refused { fault: _, offset } => {
+            say_refused_plan(planner::load_number(answer), offset)
+        }
         LoadAnswer::Held { ports, flows } => {
             say_held(held, ports, flows);
-            let mut scratch = [0u64; 64];
-            say(b"least ");
-            say_search(22, planner::least(held, &mut scratch));
-            say(b"safe ");
-            say_search(23, planner::margin_safe(held, &mut scratch));
+            say_searches(held);
         }
     }
 }

@@ -23,6 +23,11 @@ abbrev pub headOf : Head → HeadRead
 headOf (Whole tag size) = head tag size
 headOf Cut = cut
 
+-- its number: 0 where the plan holds the whole field
+abbrev pub headNumber : Head → ℕ
+headNumber (Whole tag size) = 0
+headNumber Cut = faultNumber Truncated
+
 abbrev pub fieldOf : declaredField.Field → Field
 fieldOf (declaredField.Field.Header h) = header (h .guard) (h .top)
 fieldOf (declaredField.Field.Port p) = port (p .number) (p .rate) (p .blocking)

@@ -1,7 +1,7 @@
 // The plan's bytes: a field's head and value, the fields, and the tests of one field.
 
 ghost use mathlib.Core.Path.{_≡_};
-ghost use Rattle.plan.specs.Answer.{faultNumber};
+ghost use Rattle.plan.specs.Answer.{faultNumber, headNumber};
 
 mod number; // number.rt: numbers of several bytes, high byte first
 pub mod split; // split.rt: a field's head, and its value as a part of the plan
@@ -76,5 +76,15 @@ pub fn fault_number(fault: Fault) -> u8
         Fault::RepeatedPort => 7,
         Fault::Incomplete => 8,
         Fault::UnknownPort => 9,
+    }
+}
+
+// 0 for a field that the plan holds whole.
+pub fn head_number(head: Head) -> u8
+    ensures { λ r. ⌜ r ≡ headNumber head ⌝ }
+{
+    match head {
+        Head::Whole { tag: _, size: _ } => 0,
+        Head::Cut => fault_number(Fault::Truncated),
     }
 }

@@ -10,7 +10,7 @@ pub struct Answer {
 
 #[repr(C)]
 #[derive(Clone, Copy, PartialEq, Eq, Debug)]
-pub struct SlackNumbers {
+pub struct SlackAnswer {
     pub refusal: u32,
     pub slack: i64,
 }
@@ -82,8 +82,8 @@ impl Answer {
     }
 }
 
-impl SlackNumbers {
-    pub fn refused(refusal: u32) -> SlackNumbers {
-        SlackNumbers { refusal, slack: 0 }
+impl SlackAnswer {
+    pub fn refused(refusal: u32) -> SlackAnswer {
+        SlackAnswer { refusal, slack: 0 }
     }
 }

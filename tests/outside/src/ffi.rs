@@ -1,20 +1,18 @@
 //! The C interface of the planner. A Rust slice is never null, an empty one neither.
 
-use crate::answers::{Answer, FieldRead, Planner, SlackNumbers};
+use crate::answers::{Answer, FieldRead, Planner, SlackAnswer};
 
 #[repr(C)]
-struct Loaded {
+struct LoadOutcome {
     planner: Planner,
-    refusal: u32,
-    first: u64,
-    second: u64,
+    answer: Answer,
 }
 
 extern "C" {
     fn cp_empty() -> Planner;
-    fn cp_load(planner: Planner, plan: *const u8, length: usize) -> Loaded;
+    fn cp_load(planner: Planner, plan: *const u8, length: usize) -> LoadOutcome;
     fn cp_check(planner: Planner, duration: u64) -> Answer;
-    fn cp_slack(planner: Planner, port: u64, duration: u64) -> SlackNumbers;
+    fn cp_slack(planner: Planner, port: u64, duration: u64) -> SlackAnswer;
     fn cp_least(planner: Planner, scratch: *mut u64, length: usize) -> Answer;
     fn cp_margin_safe(planner: Planner, scratch: *mut u64, length: usize) -> Answer;
     fn cp_field(plan: *const u8, length: usize, offset: usize) -> FieldRead;
@@ -26,15 +24,15 @@ pub fn empty() -> Planner {
 }
 
 pub fn load(planner: &Planner, plan: &[u8]) -> (Planner, Answer) {
-    let loaded = unsafe { cp_load(planner.clone(), plan.as_ptr(), plan.len()) };
-    (loaded.planner, Answer::new(loaded.refusal, loaded.first, loaded.second))
+    let outcome = unsafe { cp_load(planner.clone(), plan.as_ptr(), plan.len()) };
+    (outcome.planner, outcome.answer)
 }
 
 pub fn check(planner: &Planner, duration: u64) -> Answer {
     unsafe { cp_check(planner.clone(), duration) }
 }
 
-pub fn slack(planner: &Planner, port: u64, duration: u64) -> SlackNumbers {
+pub fn slack(planner: &Planner, port: u64, duration: u64) -> SlackAnswer {
     unsafe { cp_slack(planner.clone(), port, duration) }
 }
 

@@ -4,7 +4,7 @@ pub mod read;
 pub mod spans;
 pub mod tables;
 
-use crate::answers::{Answer, SlackNumbers};
+use crate::answers::{Answer, SlackAnswer};
 use std::collections::BTreeMap;
 
 #[derive(Clone, Debug, PartialEq, Eq)]
@@ -115,17 +115,17 @@ pub fn check(held: Option<&Plan>, duration: u64) -> Answer {
 }
 
 /// The spare of a port.
-pub fn slack(held: Option<&Plan>, port: u64, duration: u64) -> SlackNumbers {
+pub fn slack(held: Option<&Plan>, port: u64, duration: u64) -> SlackAnswer {
     let plan = match held {
         Some(plan) => plan,
-        None => return SlackNumbers::refused(20),
+        None => return SlackAnswer::refused(20),
     };
     if !plan.in_reach(duration) {
-        return SlackNumbers::refused(10);
+        return SlackAnswer::refused(10);
     }
     if !plan.crossed(port) {
-        return SlackNumbers::refused(24);
+        return SlackAnswer::refused(24);
     }
     let spare = plan.spare(port, plan.demands(duration)[&port], duration);
-    SlackNumbers { refusal: 0, slack: i64::try_from(spare).expect("a spare fits 64 bits") }
+    SlackAnswer { refusal: 0, slack: i64::try_from(spare).expect("a spare fits 64 bits") }
 }

@@ -1,7 +1,8 @@
--- `capi::cp_check` meets its contract: the planner's answer as numbers.
+-- `capi::cp_check` meets its contract: the planner's answer as numbers, which mean what it means.
 use mathlib.Core.Path.{_∙_, ap}
 use borrow.Author.Needs.{needs}
 use Rattle.capi.specs.Numbers.{checkNumbers}
+use Rattle.capi.specs.laws.Meaning.{check-numbers-mean}
 use Rattle.capi.proofs.cp_check.Statement.{statement}
 use Rattle.capi.proofs.cp_check.Tie as tie
 
@@ -12,7 +13,8 @@ check-numbers-requires : tie.Need-check-numbers-requires
 check-numbers-requires c κs = search needs
 
 returns : tie.Need-returns
-returns c = c .check-numbers .ensures ∙ ap checkNumbers (c .before .check .ensures .0)
+returns c =
+    (c .check-numbers .ensures ∙ ap checkNumbers (c .before .check .ensures .0), check-numbers-mean (c .before .check .result) (c .check-numbers .result) (c .check-numbers .ensures) _ _ (c .before .check .ensures .1))
 
 pub cp-check-spec : {M : Type 1} → statement M
 cp-check-spec = tie.close (tie.spec check-requires check-numbers-requires returns)

@@ -8,14 +8,14 @@ use Rattle.capi.proofs.cp_least.Tie as tie
 least-requires : tie.Need-least-requires
 least-requires c κs = search needs
 
-search-numbers-requires : tie.Need-search-numbers-requires
-search-numbers-requires c κs = search needs
+least-numbers-requires : tie.Need-least-numbers-requires
+least-numbers-requires c κs = search needs
 
 same-length : tie.Need-same-length
 same-length c = search needs
 
 returns : tie.Need-returns
-returns c = (c .search-numbers .ensures ∙ ap searchNumbers (c .before .before .before .least .ensures .0), c .before .before .before .least .ensures .1)
+returns c = (c .least-numbers .ensures ∙ ap searchNumbers (c .before .before .before .least .ensures .0), c .before .before .before .least .ensures .1)
 
 pub cp-least-spec : {M : Type 1} → statement M
-cp-least-spec = tie.close (tie.spec least-requires search-numbers-requires same-length returns)
+cp-least-spec = tie.close (tie.spec least-requires least-numbers-requires same-length returns)

@@ -1,6 +1,6 @@
 //! Plan K and its neighbours, with the numbers that document 01 gives.
 
-use crate::answers::{Answer, Planner, SlackNumbers};
+use crate::answers::{Answer, Planner, SlackAnswer};
 use crate::ffi;
 use crate::report::Tally;
 
@@ -40,7 +40,7 @@ pub fn with_port_2() -> Vec<u8> {
 }
 
 /// The rows of K, whoever answers them.
-pub fn rows(tally: &mut Tally, check: impl Fn(u64) -> Answer, slack: impl Fn(u64) -> SlackNumbers) {
+pub fn rows(tally: &mut Tally, check: impl Fn(u64) -> Answer, slack: impl Fn(u64) -> SlackAnswer) {
     for (duration, refusal, spare) in ROWS {
         let want = match refusal {
             21 => Answer::new(21, 1, 1),
@@ -48,11 +48,11 @@ pub fn rows(tally: &mut Tally, check: impl Fn(u64) -> Answer, slack: impl Fn(u64
         };
         tally.same(format_args!("K: check({duration})"), check(duration), want);
         if let Some(spare) = spare {
-            let want = SlackNumbers { refusal: 0, slack: spare };
+            let want = SlackAnswer { refusal: 0, slack: spare };
             tally.same(format_args!("K: slack(1, {duration})"), slack(duration), want);
         }
         if refusal == 10 {
-            tally.same(format_args!("K: slack(1, {duration})"), slack(duration), SlackNumbers::refused(10));
+            tally.same(format_args!("K: slack(1, {duration})"), slack(duration), SlackAnswer::refused(10));
         }
     }
 }
@@ -101,7 +101,7 @@ pub fn run(tally: &mut Tally) {
     rows(tally, |duration| ffi::check(&planner, duration), |duration| ffi::slack(&planner, 1, duration));
     found(tally, &planner, 72_000, 142_000, [7_000, 14_000]);
     for port in [0, 2, 64, 65, u64::MAX] {
-        tally.same(format_args!("slack({port}, 72000)"), ffi::slack(&planner, port, 72_000), SlackNumbers::refused(24));
+        tally.same(format_args!("slack({port}, 72000)"), ffi::slack(&planner, port, 72_000), SlackAnswer::refused(24));
     }
     let bytes = with_blocker();
     tally.case(1, &bytes);
@@ -113,6 +113,6 @@ pub fn run(tally: &mut Tally) {
     let (wider, answer) = ffi::load(&planner, &bytes);
     tally.same(format_args!("cp_load(K with port 2)"), answer, Answer::new(0, 2, 2));
     found(tally, &wider, 72_000, 142_000, [7_000, 14_000]);
-    tally.same(format_args!("slack(2, 72000)"), ffi::slack(&wider, 2, 72_000), SlackNumbers::refused(24));
+    tally.same(format_args!("slack(2, 72000)"), ffi::slack(&wider, 2, 72_000), SlackAnswer::refused(24));
     refusals(tally);
 }

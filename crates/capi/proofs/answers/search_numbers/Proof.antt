@@ -1,5 +1,6 @@
 -- `capi::answers::search_numbers` meets its contract: each case of the answer as its numbers.
 use borrow.Author.Needs.{needs}
+use Rattle.capi.specs.laws.Numbers.{with-number}
 use Rattle.capi.proofs.answers.search_numbers.Statement.{statement}
 use Rattle.capi.proofs.answers.search_numbers.Tie as tie
 
@@ -34,16 +35,24 @@ numbered-requires-4 : tie.Need-numbered-requires-4
 numbered-requires-4 c κs = search needs
 
 returns : tie.Need-returns
-returns c = rw (c .before .before .answer .given .1) (c .numbered .ensures)
+returns c failing e =
+    let case = c .before .before .answer .given .1 in
+    rw case (with-number (c .numbered .ensures) (rw case at e))
 
 returns-2 : tie.Need-returns-2
-returns-2 c = rw (c .before .enum-told .given .1) (c .numbered2 .ensures)
+returns-2 c failing e =
+    let case = c .before .enum-told .given .1 in
+    rw case (with-number (c .numbered2 .ensures) (rw case at e))
 
 returns-3 : tie.Need-returns-3
-returns-3 c = rw (c .before .enum-told2 .given .1) (c .numbered3 .ensures)
+returns-3 c failing e =
+    let case = c .before .enum-told2 .given .1 in
+    rw case (with-number (c .numbered3 .ensures) (rw case at e))
 
 returns-4 : tie.Need-returns-4
-returns-4 c = rw (c .before .before .answer2 .given .1) (c .numbered4 .ensures)
+returns-4 c failing e =
+    let case = c .before .before .answer2 .given .1 in
+    rw case (with-number (c .numbered4 .ensures) (rw case at e))
 
 pub search-numbers-spec : {M : Type 1} → statement M
 search-numbers-spec =

@@ -1,0 +1,3 @@
+-- Laws of the numbers.
+pub mod Numbers
+pub mod Meaning

@@ -1,0 +1,79 @@
+// Document 01's number of each answer, 0 for a result.
+use super::CheckAnswer;
+use super::SearchAnswer;
+use super::SlackAnswer;
+use loading::LoadAnswer;
+use plan::fault_number;
+ghost use mathlib.Core.Path.{_≡_};
+ghost use Rattle.loading.specs.Outcome.{numberOf};
+ghost use Rattle.loading.specs.Answer.{loadOf};
+ghost use Rattle.planner.specs.Answer.{checkOf, slackOf, searchOf, leastOf, marginSafeOf};
+
+const BAD_DURATION: u32 = 10;
+
+const SHORT_SCRATCH: u32 = 11;
+
+const NO_PLAN: u32 = 20;
+
+const NOT_ADMISSIBLE: u32 = 21;
+
+const NO_LEAST: u32 = 22;
+
+const NO_MARGIN_SAFE: u32 = 23;
+
+const NOT_CROSSED: u32 = 24;
+
+pub fn load_number(answer: LoadAnswer) -> u32
+    ensures { λ r. ⌜ r ≡ numberOf (loadOf answer) ⌝ }
+{
+    match answer {
+        LoadAnswer::Held { ports: _, flows: _ } => 0,
+        LoadAnswer::Refused { fault, offset: _ } => fault_number(fault) as u32,
+    }
+}
+
+pub fn check_number(answer: CheckAnswer) -> u32
+    ensures { λ r. ⌜ r ≡ numberOf (checkOf answer) ⌝ }
+{
+    match answer {
+        CheckAnswer::Admissible => 0,
+        CheckAnswer::NoPlan => NO_PLAN,
+        CheckAnswer::BadDuration => BAD_DURATION,
+        CheckAnswer::Failing { port: _, count: _ } => NOT_ADMISSIBLE,
+    }
+}
+
+pub fn slack_number(answer: SlackAnswer) -> u32
+    ensures { λ r. ⌜ r ≡ numberOf (slackOf answer) ⌝ }
+{
+    match answer {
+        SlackAnswer::Slack(_) => 0,
+        SlackAnswer::NoPlan => NO_PLAN,
+        SlackAnswer::BadDuration => BAD_DURATION,
+        SlackAnswer::NotCrossed => NOT_CROSSED,
+    }
+}
+
+// Where the failing ports at top come with this refusal.
+fn search_number(failing: u32, answer: SearchAnswer) -> u32
+    ensures { λ r. ⌜ r ≡ numberOf (searchOf failing answer) ⌝ }
+{
+    match answer {
+        SearchAnswer::Duration(_) => 0,
+        SearchAnswer::NoPlan => NO_PLAN,
+        SearchAnswer::ShortScratch => SHORT_SCRATCH,
+        SearchAnswer::Failing { port: _, count: _ } => failing,
+    }
+}
+
+pub fn least_number(answer: SearchAnswer) -> u32
+    ensures { λ r. ⌜ r ≡ numberOf (leastOf answer) ⌝ }
+{
+    search_number(NO_LEAST, answer)
+}
+
+pub fn margin_safe_number(answer: SearchAnswer) -> u32
+    ensures { λ r. ⌜ r ≡ numberOf (marginSafeOf answer) ⌝ }
+{
+    search_number(NO_MARGIN_SAFE, answer)
+}
