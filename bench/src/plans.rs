@@ -36,7 +36,7 @@ fn flow(plan: &mut Vec<u8>, number: u16, period: u32, length: u16, route: &[u16]
     plan.extend(route.iter().flat_map(|port| port.to_be_bytes()));
 }
 
-fn k() -> Vec<u8> {
+pub fn k() -> Vec<u8> {
     let mut plan = Vec::new();
     header(&mut plan, 1_000, 1_000_000);
     port(&mut plan, 1, 100, 0);
@@ -118,7 +118,7 @@ fn many_ports(top: u32, rates: &[u32; 64], blockers: &[u16; 64], periods: &[u32]
 
 const BOTH: &[&str] = &["least", "safe"];
 
-pub fn all() -> Vec<Case> {
+pub fn searches() -> Vec<Case> {
     let case = |name, bytes, scanned, searches| Case { name, bytes, scanned, timed: false, searches };
     let short = many_ports(1_000_000, &found::SHORT_RATES, &found::SHORT_BLOCKERS, &found::SHORT_PERIODS);
     let long = many_ports(100_000_000, &found::LONG_RATES, &found::LONG_BLOCKERS, &found::LONG_PERIODS);
@@ -134,4 +134,12 @@ pub fn all() -> Vec<Case> {
         Case { timed: true, ..case("up-64-ports", long, 2_000, &["least"]) },
         case("down-one-port", one_port(&found::DOWN_PERIODS), 5_000, &["safe"]),
     ]
+}
+
+/// The plans whose load is measured: the last two differ in the field of port 64, which the last lacks (refusal 9).
+pub fn loads() -> Vec<(&'static str, Vec<u8>)> {
+    let longest = large(0.6);
+    let port_64 = 11 + 63 * 11;
+    let lacking = [&longest[..port_64], &longest[port_64 + 11..]].concat();
+    vec![("K", k()), ("longest", longest), ("longest-lacking", lacking)]
 }
