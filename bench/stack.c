@@ -134,6 +134,7 @@ int main(int count, char **paths) {
   if (count != 3) return 1;
   read_plan(paths[1], &accepted);
   read_plan(paths[2], &refused);
+  printf("%-22s %8s %9s %12s %9s\n", "call", "bytes", "planners", "with caller", "planners");
   row("cp_empty", on_empty, 0, planner);
   held = empty;
   row("cp_load, longest plan", on_load, planner, sizeof(cp_loaded));

@@ -121,7 +121,8 @@ impl Draft<'_> {
         if self.tables.periods[slot] != 0 {
             return Err(6);
         }
-        if if SETS { repeated } else { repeats(route) } {
+        let repeated = if SETS { repeated } else { repeats(route) };
+        if repeated {
             return Err(7);
         }
         self.named |= seen;
