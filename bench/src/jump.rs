@@ -81,6 +81,11 @@ pub fn refused_at_top<const CHECKED: bool>(refusal: u32, planner: &Planner, out:
     Answer::new(refusal, set.trailing_zeros() as u64 + 1, set.count_ones() as u64)
 }
 
+/// The duration that the most needy crossed port needs for its demand; 0 where none is crossed.
+fn largest_need(planner: &Planner, demands: &[u64; PORTS]) -> u64 {
+    (0..PORTS).map(|slot| need(planner, slot, demands[slot])).max().unwrap_or(0)
+}
+
 /// The least duration, or one above top where there is none; and the rounds.
 fn climb<const CHECKED: bool>(planner: &Planner, out: &mut [u64; PORTS]) -> (u64, u64) {
     let top = planner.top as u64;
@@ -89,16 +94,10 @@ fn climb<const CHECKED: bool>(planner: &Planner, out: &mut [u64; PORTS]) -> (u64
         rounds += 1;
         demands::<CHECKED>(planner, t, out);
         let span = window(planner, t);
-        let mut next = 0;
-        for slot in 0..PORTS {
-            if fails(planner, slot, span, out[slot]) {
-                next = need(planner, slot, out[slot]);
-                break;
-            }
-        }
-        if next == 0 {
+        if !(0..PORTS).any(|slot| fails(planner, slot, span, out[slot])) {
             return (t, rounds);
         }
+        let next = largest_need(planner, out);
         if top < next {
             return (top + 1, rounds);
         }
@@ -113,13 +112,7 @@ fn descend<const CHECKED: bool>(planner: &Planner, out: &mut [u64; PORTS]) -> (u
     let found = loop {
         rounds += 1;
         demands::<CHECKED>(planner, below, out);
-        let mut most = 1;
-        for slot in 0..PORTS {
-            most = most.max(need(planner, slot, out[slot]));
-            if below < most {
-                break;
-            }
-        }
+        let most = largest_need(planner, out).max(1);
         if below < most {
             break below + 1;
         }

@@ -6,13 +6,15 @@ mod answers;
 #[allow(dead_code)]
 #[path = "../../tests/outside/src/ffi.rs"]
 mod ffi;
-mod valid;
 mod found;
 mod jump;
 mod plans;
+mod reader;
 mod scan;
+mod valid;
 
 use answers::{Answer, Planner};
+use std::io::Write;
 use std::os::raw::c_long;
 
 /// The answer, if the part came to one, and its rounds (none told by the planner) or durations tried.
@@ -32,10 +34,10 @@ extern "C" fn jump_safe<const CHECKED: bool>(planner: Planner, scratch: &mut [u6
     answer
 }
 
-/// What callgrind counts: from here to the return.
+/// A search. What callgrind counts: from here to the return.
 #[no_mangle]
 #[inline(never)]
-fn measured(part: &str, planner: &Planner, scratch: &mut [u64; 64], most: u64) -> Outcome {
+fn measured_search(part: &str, planner: &Planner, scratch: &mut [u64; 64], most: u64) -> Outcome {
     let mut rounds = 0;
     match part {
         "least" => (Some(ffi::least(planner, scratch)), 0),
@@ -46,6 +48,23 @@ fn measured(part: &str, planner: &Planner, scratch: &mut [u64; 64], most: u64) -
         "bare-safe" => (Some(jump_safe::<false>(planner.clone(), scratch, &mut rounds)), rounds),
         "scan-least" => scan::least(planner, scratch, most),
         "scan-safe" => scan::margin_safe(planner, scratch, most),
+        other => panic!("no such part: {other}"),
+    }
+}
+
+fn read<const SETS: bool>(planner: &Planner, plan: &[u8]) -> (Planner, Answer) {
+    let loaded = reader::load::<SETS>(planner.clone(), plan);
+    (loaded.planner, loaded.answer)
+}
+
+/// A load, counted likewise.
+#[no_mangle]
+#[inline(never)]
+fn measured_load(part: &str, planner: &Planner, plan: &[u8]) -> (Planner, Answer) {
+    match part {
+        "load" => ffi::load(planner, plan),
+        "read" => read::<true>(planner, plan),
+        "read-by-port" => read::<false>(planner, plan),
         other => panic!("no such part: {other}"),
     }
 }
@@ -70,17 +89,14 @@ extern "C" {
     fn clock() -> c_long;
 }
 
-fn main() {
-    let arguments: Vec<String> = std::env::args().collect();
-    if arguments.len() < 3 {
-        for case in plans::all() {
-            let how = if case.timed { "timed" } else { "counted" };
-            println!("{} {} {}", case.name, how, case.searches.join(" "));
-        }
-        return;
-    }
-    let (name, part) = (&arguments[1], &arguments[2]);
-    let case = plans::all().into_iter().find(|case| case.name == name.as_str()).expect("no such plan");
+/// The answer's numbers, and one number for all that the call left in memory.
+fn told(answer: Answer, left: impl Iterator<Item = u64>) -> String {
+    let sum = left.fold(0u64, |sum, number| sum.wrapping_mul(31).wrapping_add(number));
+    format!("{}/{}/{}/{sum:x}", answer.refusal, answer.first, answer.second)
+}
+
+/// A search on a plan: the answer, its rounds or the durations tried, and its microseconds.
+fn search(case: &plans::Case, part: &str) {
     let (planner, loaded) = ffi::load(&ffi::empty(), &case.bytes);
     assert_eq!(loaded.refusal, 0, "the plan is refused: {loaded:?}");
     if let Some(part) = part.strip_prefix("whole:") {
@@ -89,9 +105,34 @@ fn main() {
     }
     let mut scratch = [0; 64];
     let start = unsafe { clock() };
-    let (answer, taken) = measured(part, &planner, &mut scratch, case.scanned);
+    let (answer, taken) = measured_search(part, &planner, &mut scratch, case.scanned);
     let microseconds = unsafe { clock() } - start;
-    let sum = scratch.iter().fold(0u64, |sum, demand| sum.wrapping_mul(31).wrapping_add(*demand));
-    let answer = answer.map_or("open".into(), |answer| format!("{}/{}/{}/{sum:x}", answer.refusal, answer.first, answer.second));
+    let answer = answer.map_or("open".into(), |answer| told(answer, scratch.into_iter()));
     println!("{answer} {taken} {microseconds}");
+}
+
+/// A load of a plan over plan K: the answer.
+fn load(plan: &[u8], part: &str) {
+    let held = ffi::load(&ffi::empty(), &plans::k()).0;
+    let (planner, answer) = measured_load(part, &held, plan);
+    println!("{}", told(answer, planner.to_bytes().into_iter().map(u64::from)));
+}
+
+fn main() {
+    let arguments: Vec<String> = std::env::args().skip(1).collect();
+    let arguments: Vec<&str> = arguments.iter().map(String::as_str).collect();
+    let (searches, loads) = (plans::searches(), plans::loads());
+    let plan = |name: &str| &loads.iter().find(|plan| plan.0 == name).expect("no such plan").1;
+    match arguments[..] {
+        ["searches"] => {
+            for case in searches {
+                println!("{} {} {}", case.name, if case.timed { "timed" } else { "counted" }, case.searches.join(" "));
+            }
+        }
+        ["loads"] => loads.iter().for_each(|plan| println!("{} {}", plan.0, plan.1.len())),
+        ["bytes", name] => std::io::stdout().write_all(plan(name)).expect("cannot write"),
+        [part @ ("load" | "read" | "read-by-port"), name] => load(plan(name), part),
+        [part, name] => search(searches.iter().find(|case| case.name == name).expect("no such plan"), part),
+        _ => panic!("searches, loads, bytes PLAN, or PART PLAN"),
+    }
 }

@@ -36,7 +36,7 @@ fn flow(plan: &mut Vec<u8>, number: u16, period: u32, length: u16, route: &[u16]
     plan.extend(route.iter().flat_map(|port| port.to_be_bytes()));
 }
 
-fn k() -> Vec<u8> {
+pub fn k() -> Vec<u8> {
     let mut plan = Vec::new();
     header(&mut plan, 1_000, 1_000_000);
     port(&mut plan, 1, 100, 0);
@@ -81,36 +81,47 @@ fn one_flow() -> Vec<u8> {
     plan
 }
 
-/// One port at 100,000 Mbit/s, flows of the shortest frames with the given periods.
-fn one_port(periods: &[u32]) -> Vec<u8> {
+/// Ports at 100,000 Mbit/s, each crossed by all flows, of frames of these periods and lengths.
+fn alike_ports(ports: u16, flows: &[(u32, u16)]) -> Vec<u8> {
     let mut plan = Vec::new();
     header(&mut plan, 0, 100_000_000);
-    port(&mut plan, 1, 100_000, 0);
-    for (slot, period) in periods.iter().enumerate() {
-        flow(&mut plan, slot as u16 + 1, *period, 64, &[1]);
+    let route: Vec<u16> = (1..=ports).collect();
+    for number in &route {
+        port(&mut plan, *number, 100_000, 0);
+    }
+    for (slot, (period, length)) in flows.iter().enumerate() {
+        flow(&mut plan, slot as u16 + 1, *period, *length, &route);
     }
     plan
 }
 
+fn found_ports(ports: u16, found: found::OnePort) -> Vec<u8> {
+    let short = found.periods.iter().map(|period| (*period, 64));
+    let late = found.late.iter().map(|period| (*period, found.late_length));
+    alike_ports(ports, &short.chain(late).collect::<Vec<_>>())
+}
+
 /// 149 flows of 64 bytes at 100,000 Mbit/s, one with a period that brings the load to 1.000004.
 fn spread() -> Vec<u8> {
-    let mut periods: Vec<u32> = (0..148).map(|slot| 1_000 + slot % 3).collect();
-    let rest = 100.0 * 1.000003 - periods.iter().map(|period| 672.0 / *period as f64).sum::<f64>();
-    periods.push((672.0 / rest).round() as u32);
-    one_port(&periods)
+    let mut flows: Vec<(u32, u16)> = (0..148).map(|slot| (1_000 + slot % 3, 64)).collect();
+    let rest = 100.0 * 1.000003 - flows.iter().map(|flow| 672.0 / flow.0 as f64).sum::<f64>();
+    flows.push(((672.0 / rest).round() as u32, 64));
+    alike_ports(1, &flows)
 }
 
 /// The same flows over each group of 16 ports, with blockers that rise from port to port.
-fn many_ports(top: u32, rates: &[u32; 64], blockers: &[u16; 64], periods: &[u32]) -> Vec<u8> {
+fn many_ports() -> Vec<u8> {
     let mut plan = Vec::new();
-    header(&mut plan, 0, top);
+    header(&mut plan, 0, 100_000_000);
     for slot in 0..64 {
-        port(&mut plan, slot as u16 + 1, rates[slot], blockers[slot]);
+        let rate = if slot == 63 { 32_999 } else { 33_000 };
+        port(&mut plan, slot as u16 + 1, rate, found::MANY_BLOCKERS[slot]);
     }
+    let flows = found::MANY_PERIODS.len() as u16;
     for group in 0..4 {
         let route: Vec<u16> = (1..=16).map(|hop| group * 16 + hop).collect();
-        for (slot, period) in periods.iter().enumerate() {
-            flow(&mut plan, group * periods.len() as u16 + slot as u16 + 1, *period, 64, &route);
+        for (slot, period) in found::MANY_PERIODS.iter().enumerate() {
+            flow(&mut plan, group * flows + slot as u16 + 1, *period, 64, &route);
         }
     }
     plan
@@ -118,10 +129,8 @@ fn many_ports(top: u32, rates: &[u32; 64], blockers: &[u16; 64], periods: &[u32]
 
 const BOTH: &[&str] = &["least", "safe"];
 
-pub fn all() -> Vec<Case> {
+pub fn searches() -> Vec<Case> {
     let case = |name, bytes, scanned, searches| Case { name, bytes, scanned, timed: false, searches };
-    let short = many_ports(1_000_000, &found::SHORT_RATES, &found::SHORT_BLOCKERS, &found::SHORT_PERIODS);
-    let long = many_ports(100_000_000, &found::LONG_RATES, &found::LONG_BLOCKERS, &found::LONG_PERIODS);
     vec![
         case("K", k(), 100_000, BOTH),
         case("large-60", large(0.6), 2_000, BOTH),
@@ -129,9 +138,18 @@ pub fn all() -> Vec<Case> {
         case("large-99.9", large(0.999), 2_000, BOTH),
         case("one-flow", one_flow(), 20_000, &["least"]),
         case("149-flows", spread(), 5_000, &["least"]),
-        case("up-one-port", one_port(&found::UP_PERIODS), 5_000, &["least"]),
-        case("up-64-ports-1ms", short, 2_000, &["least"]),
-        Case { timed: true, ..case("up-64-ports", long, 2_000, &["least"]) },
-        case("down-one-port", one_port(&found::DOWN_PERIODS), 5_000, &["safe"]),
+        case("up-one-port", found_ports(1, found::UP), 5_000, &["least"]),
+        case("down-one-port", found_ports(1, found::DOWN), 5_000, &["safe"]),
+        Case { timed: true, ..case("up-16-ports", found_ports(16, found::UP), 0, &["least"]) },
+        Case { timed: true, ..case("down-16-ports", found_ports(16, found::DOWN), 0, &["safe"]) },
+        Case { timed: true, ..case("up-64-ports", many_ports(), 0, &["least"]) },
     ]
+}
+
+/// The plans whose load is measured: the last two differ in the field of port 64, which the last lacks (refusal 9).
+pub fn loads() -> Vec<(&'static str, Vec<u8>)> {
+    let longest = large(0.6);
+    let port_64 = 11 + 63 * 11;
+    let lacking = [&longest[..port_64], &longest[port_64 + 11..]].concat();
+    vec![("K", k()), ("longest", longest), ("longest-lacking", lacking)]
 }

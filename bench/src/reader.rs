@@ -1,0 +1,189 @@
+//! The load in safe Rust: a plan's bytes read into fresh tables, by tests 1 to 9 of document 01 in their order. SETS says whether
+//! sets of ports are bits of a number, so that test 7 looks at each port of a route once and test 9 walks the fields again only
+//! where it refuses; otherwise both tests go port by port.
+
+use crate::answers::{Answer, Planner};
+use crate::jump::{FLOWS, MAX_HOPS, PORTS};
+
+const MAX_BYTES: usize = 16_384;
+const HEAD: usize = 3;
+const FLOW_NUMBERS: usize = 10;
+
+/// Laid out as the C header says.
+#[repr(C)]
+pub struct Loaded {
+    pub planner: Planner,
+    pub answer: Answer,
+}
+
+fn be16(bytes: &[u8], at: usize) -> u16 {
+    u16::from_be_bytes([bytes[at], bytes[at + 1]])
+}
+
+fn be32(bytes: &[u8], at: usize) -> u32 {
+    u32::from_be_bytes([bytes[at], bytes[at + 1], bytes[at + 2], bytes[at + 3]])
+}
+
+/// The tag and the value of the field at an offset; none where it is cut short (test 2).
+fn split(plan: &[u8], offset: usize) -> Option<(u8, &[u8])> {
+    let rest = &plan[offset..];
+    let head = rest.get(..HEAD)?;
+    Some((head[0], rest[HEAD..].get(..be16(head, 1) as usize)?))
+}
+
+/// A port's bit in a set of ports.
+fn bit(port: u16) -> u64 {
+    1 << (port - 1)
+}
+
+fn ports(route: &[u8]) -> impl Iterator<Item = u16> + '_ {
+    route.chunks_exact(2).map(|bytes| be16(bytes, 0))
+}
+
+fn in_range(port: u16) -> bool {
+    (1..=PORTS as u16).contains(&port)
+}
+
+/// Test 7 port by port.
+fn repeats(route: &[u8]) -> bool {
+    ports(route).enumerate().any(|(at, port)| ports(&route[2 * at + 2..]).any(|later| later == port))
+}
+
+struct Draft<'a> {
+    tables: &'a mut Planner,
+    ports: u64,
+    flows: u64,
+    /// Ports that have a field, and ports that some route names.
+    present: u64,
+    named: u64,
+}
+
+impl Draft<'_> {
+    fn header(&mut self, value: &[u8]) -> Result<(), u32> {
+        let value: &[u8; 8] = value.try_into().map_err(|_| 4u32)?;
+        let (guard, top) = (be32(value, 0), be32(value, 4));
+        if guard > 1_000_000 || !(1..=100_000_000).contains(&top) {
+            return Err(5);
+        }
+        if self.tables.top != 0 {
+            return Err(6);
+        }
+        self.tables.guard = guard;
+        self.tables.top = top;
+        Ok(())
+    }
+
+    fn port(&mut self, value: &[u8]) -> Result<(), u32> {
+        let value: &[u8; 8] = value.try_into().map_err(|_| 4u32)?;
+        let (number, rate, blocking) = (be16(value, 0), be32(value, 2), be16(value, 6));
+        if !in_range(number)
+            || !(1..=100_000).contains(&rate)
+            || (blocking != 0 && !(64..=2_000).contains(&blocking))
+        {
+            return Err(5);
+        }
+        if self.present & bit(number) != 0 {
+            return Err(6);
+        }
+        self.present |= bit(number);
+        self.ports += 1;
+        self.tables.rates[number as usize - 1] = rate;
+        self.tables.blockings[number as usize - 1] = blocking;
+        Ok(())
+    }
+
+    fn flow<const SETS: bool>(&mut self, value: &[u8]) -> Result<(), u32> {
+        let route = value.get(FLOW_NUMBERS..).ok_or(4u32)?;
+        let hops = route.len() / 2;
+        if !(1..=MAX_HOPS).contains(&hops) || route.len() % 2 != 0 {
+            return Err(4);
+        }
+        let (number, period) = (be16(value, 0), be32(value, 2));
+        let (count, length) = (be16(value, 6), be16(value, 8));
+        if !(1..=FLOWS as u16).contains(&number)
+            || !(1_000..=100_000_000).contains(&period)
+            || !(1..=64).contains(&count)
+            || !(64..=2_000).contains(&length)
+        {
+            return Err(5);
+        }
+        let slot = number as usize - 1;
+        let (mut seen, mut repeated) = (0, false);
+        let stored = &mut self.tables.routes[slot * MAX_HOPS..][..hops];
+        for (stored, port) in stored.iter_mut().zip(ports(route)) {
+            if !in_range(port) {
+                return Err(5);
+            }
+            repeated |= seen & bit(port) != 0;
+            seen |= bit(port);
+            *stored = port as u8;
+        }
+        if self.tables.periods[slot] != 0 {
+            return Err(6);
+        }
+        let repeated = if SETS { repeated } else { repeats(route) };
+        if repeated {
+            return Err(7);
+        }
+        self.named |= seen;
+        self.flows += 1;
+        self.tables.periods[slot] = period;
+        self.tables.counts[slot] = count;
+        self.tables.lengths[slot] = length;
+        self.tables.hops[slot] = hops as u8;
+        Ok(())
+    }
+}
+
+/// The first flow that names a port not among those present.
+fn first_absent(plan: &[u8], present: u64) -> Option<usize> {
+    let mut offset = 0;
+    while offset < plan.len() {
+        let (tag, value) = split(plan, offset)?;
+        if tag == 3 && ports(&value[FLOW_NUMBERS..]).any(|port| present & bit(port) == 0) {
+            return Some(offset);
+        }
+        offset += HEAD + value.len();
+    }
+    None
+}
+
+/// The numbers of port and flow fields, or the refusal and its offset. A refusal leaves the tables half filled.
+fn read<const SETS: bool>(plan: &[u8], tables: &mut Planner) -> Result<(u64, u64), (u32, usize)> {
+    if plan.is_empty() || plan.len() > MAX_BYTES {
+        return Err((1, 0));
+    }
+    let mut draft = Draft { tables, ports: 0, flows: 0, present: 0, named: 0 };
+    let mut offset = 0;
+    while offset < plan.len() {
+        let (tag, value) = split(plan, offset).ok_or((2, offset))?;
+        let taken = match tag {
+            1 => draft.header(value),
+            2 => draft.port(value),
+            3 => draft.flow::<SETS>(value),
+            _ => Err(3),
+        };
+        taken.map_err(|refusal| (refusal, offset))?;
+        offset += HEAD + value.len();
+    }
+    if draft.tables.top == 0 || draft.flows == 0 {
+        return Err((8, plan.len()));
+    }
+    if !SETS || draft.named & !draft.present != 0 {
+        if let Some(offset) = first_absent(plan, draft.present) {
+            return Err((9, offset));
+        }
+    }
+    Ok((draft.ports, draft.flows))
+}
+
+/// The planner that holds this plan, or the one that came; both go by value as in C, so that the caller's copies are the same.
+#[allow(improper_ctypes_definitions)]
+#[inline(never)]
+pub extern "C" fn load<const SETS: bool>(planner: Planner, plan: &[u8]) -> Loaded {
+    let mut fresh = Planner::zero();
+    match read::<SETS>(plan, &mut fresh) {
+        Ok((ports, flows)) => Loaded { planner: fresh, answer: Answer::new(0, ports, flows) },
+        Err((refusal, offset)) => Loaded { planner, answer: Answer::new(refusal, offset as u64, 0) },
+    }
+}

@@ -1,0 +1,152 @@
+/* How far down the stack each call of the planner goes: the stack below the caller is painted, the call made, and the lowest
+ * word that no longer has the paint looked up. The caller's own copies lie above that and are told apart: the planner given by
+ * value, and the answer's place. Arguments: a file with a plan, and one with a plan that is refused. */
+#include "cycle_planner.h"
+#include <pthread.h>
+#include <stdio.h>
+#include <stdlib.h>
+#include <string.h>
+
+enum { PAINTED = 1 << 20, PORTS = 64, MAX_BYTES = 16384 };
+#define PAINT 0xa5c3965a0ff0695aULL
+
+typedef struct { uint8_t bytes[MAX_BYTES]; size_t length; } plan_bytes;
+
+static plan_bytes accepted, refused;
+static cp_planner held, empty;
+static cp_loaded loaded;
+static cp_answer answer;
+static cp_slacked slacked;
+static cp_field_read field;
+static uint64_t scratch[PORTS];
+static uint8_t repeats;
+
+/* The stack pointer in the caller at the call, as a function of the same type sees it. */
+static char *at_call;
+#define SEEN at_call = __builtin_dwarf_cfa()
+static cp_planner see_empty(void) { SEEN; return held; }
+static cp_loaded see_load(cp_planner p, const uint8_t *b, size_t n) { SEEN; (void)p, (void)b, (void)n; return loaded; }
+static cp_answer see_check(cp_planner p, uint64_t d) { SEEN; (void)p, (void)d; return answer; }
+static cp_slacked see_slack(cp_planner p, uint64_t n, uint64_t d) { SEEN; (void)p, (void)n, (void)d; return slacked; }
+static cp_answer see_search(cp_planner p, uint64_t *s, size_t n) { SEEN; (void)p, (void)s, (void)n; return answer; }
+static cp_field_read see_field(const uint8_t *b, size_t n, size_t o) { SEEN; (void)b, (void)n, (void)o; return field; }
+static uint8_t see_repeats(const uint8_t *b, size_t n) { SEEN; (void)b, (void)n; return 0; }
+
+/* The bytes below the caller that the last measured call went through. */
+static size_t used;
+
+/* One call site for both functions, so that the stack pointer is the same in all rounds: the first sees it, the second binds
+ * what the library takes from C's, the third is measured. Paint and search stay in this frame; a call would write below it. */
+#define MEASURE(TYPE, SEE, CALL, ...)                                                                         \
+  do {                                                                                                        \
+    TYPE = SEE;                                                                                               \
+    for (int round = 0; round < 3; round++) {                                                                 \
+      if (round == 2)                                                                                         \
+        for (volatile uint64_t *word = (uint64_t *)(at_call - PAINTED); word < (uint64_t *)at_call; word++)   \
+          *word = PAINT;                                                                                      \
+      __VA_ARGS__;                                                                                            \
+      call = CALL;                                                                                            \
+    }                                                                                                         \
+    volatile uint64_t *lowest = (uint64_t *)(at_call - PAINTED);                                              \
+    while (lowest < (uint64_t *)at_call && *lowest == PAINT) lowest++;                                        \
+    used = (size_t)(at_call - (char *)lowest);                                                                \
+  } while (0)
+
+#define MEASURED(NAME) static __attribute__((noinline)) void *NAME(void *unused)
+
+MEASURED(on_empty) {
+  MEASURE(cp_planner (*volatile call)(void), see_empty, cp_empty, empty = call());
+  return unused;
+}
+
+MEASURED(on_load) {
+  MEASURE(cp_loaded (*volatile call)(cp_planner, const uint8_t *, size_t), see_load, cp_load,
+          loaded = call(held, accepted.bytes, accepted.length));
+  return unused;
+}
+
+MEASURED(on_refused_load) {
+  MEASURE(cp_loaded (*volatile call)(cp_planner, const uint8_t *, size_t), see_load, cp_load,
+          loaded = call(held, refused.bytes, refused.length));
+  return unused;
+}
+
+MEASURED(on_check) {
+  MEASURE(cp_answer (*volatile call)(cp_planner, uint64_t), see_check, cp_check, answer = call(held, held.top));
+  return unused;
+}
+
+MEASURED(on_slack) {
+  MEASURE(cp_slacked (*volatile call)(cp_planner, uint64_t, uint64_t), see_slack, cp_slack,
+          slacked = call(held, 1, held.top));
+  return unused;
+}
+
+MEASURED(on_least) {
+  MEASURE(cp_answer (*volatile call)(cp_planner, uint64_t *, size_t), see_search, cp_least,
+          answer = call(held, scratch, PORTS));
+  return unused;
+}
+
+MEASURED(on_margin_safe) {
+  MEASURE(cp_answer (*volatile call)(cp_planner, uint64_t *, size_t), see_search, cp_margin_safe,
+          answer = call(held, scratch, PORTS));
+  return unused;
+}
+
+MEASURED(on_field) {
+  MEASURE(cp_field_read (*volatile call)(const uint8_t *, size_t, size_t), see_field, cp_field,
+          field = call(accepted.bytes, accepted.length, 0));
+  return unused;
+}
+
+MEASURED(on_repeats) {
+  MEASURE(uint8_t (*volatile call)(const uint8_t *, size_t), see_repeats, cp_repeats,
+          repeats = call(accepted.bytes + accepted.length - 42, 42));
+  return unused;
+}
+
+static void row(const char *name, void *(*measured)(void *), size_t given, size_t given_back) {
+  pthread_t thread;
+  if (pthread_create(&thread, NULL, measured, NULL) != 0 || pthread_join(thread, NULL) != 0) exit(1);
+  if (used >= PAINTED) exit(1);
+  size_t with = used + given + given_back;
+  printf("%-22s %8zu %9.2f %12zu %9.2f\n", name, used, (double)used / sizeof(cp_planner), with,
+         (double)with / sizeof(cp_planner));
+}
+
+static void read_plan(const char *path, plan_bytes *plan) {
+  FILE *file = fopen(path, "rb");
+  if (file == NULL) exit(1);
+  plan->length = fread(plan->bytes, 1, MAX_BYTES, file);
+  fclose(file);
+}
+
+/* The load's answer stands behind the planner. */
+static uint32_t load_refusal(void) {
+  cp_answer numbers;
+  memcpy(&numbers, (char *)&loaded + sizeof(cp_planner), sizeof numbers);
+  return numbers.refusal;
+}
+
+int main(int count, char **paths) {
+  const size_t planner = sizeof(cp_planner);
+  if (count != 3) return 1;
+  read_plan(paths[1], &accepted);
+  read_plan(paths[2], &refused);
+  printf("%-22s %8s %9s %12s %9s\n", "call", "bytes", "planners", "with caller", "planners");
+  row("cp_empty", on_empty, 0, planner);
+  held = empty;
+  row("cp_load, longest plan", on_load, planner, sizeof(cp_loaded));
+  if (load_refusal() != 0) return 1;
+  held = loaded.planner;
+  row("cp_load, refused", on_refused_load, planner, sizeof(cp_loaded));
+  if (load_refusal() == 0) return 1;
+  row("cp_check", on_check, planner, sizeof(cp_answer));
+  row("cp_slack", on_slack, planner, sizeof(cp_slacked));
+  row("cp_least", on_least, planner, sizeof(cp_answer));
+  row("cp_margin_safe", on_margin_safe, planner, sizeof(cp_answer));
+  row("cp_field", on_field, 0, sizeof(cp_field_read));
+  row("cp_repeats", on_repeats, 0, 1);
+  return 0;
+}
