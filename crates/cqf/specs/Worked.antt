@@ -46,9 +46,9 @@ planK2 =
     }
 
 -- the rules accept K
-valid : validPlan planK ≡ true
+validK : validPlan planK ≡ true
 unfolding planK noPlan validPlan validPort validFlow allTo anyTo every distinct elem sublist
-valid = refl
+validK = refl
 
 -- wire bits 2,000 and 5,000
 bits : map (λ (f : ℕ). wireBits planK f 0) (0 ∷ 1 ∷ []) ≡ 2000 ∷ 5000 ∷ []
@@ -78,47 +78,47 @@ early zero = 0 ∷ 100000 ∷ []
 early (suc zero) = 0 ∷ 110000 ∷ []
 early (suc (suc f)) = []
 
-absent : (f : ℕ) → present planK f ≡ false → early f ≡ []
+early-absent : (f : ℕ) → present planK f ≡ false → early f ≡ []
 unfolding planK noPlan early
-absent zero h = absurd (true≢false h)
-absent (suc zero) h = absurd (true≢false h)
-absent (suc (suc f)) h = refl
+early-absent zero h = absurd (true≢false h)
+early-absent (suc zero) h = absurd (true≢false h)
+early-absent (suc (suc f)) h = refl
 
-rising : (f k : ℕ) → suc k < length (early f) → getD (early f) k 0 ≤ getD (early f) (suc k) 0
+early-rising : (f k : ℕ) → suc k < length (early f) → getD (early f) k 0 ≤ getD (early f) (suc k) 0
 unfolding early
-rising zero zero h = lit≤ tt
-rising zero (suc k) h = absurd (omega arith)
-rising (suc zero) zero h = lit≤ tt
-rising (suc zero) (suc k) h = absurd (omega arith)
-rising (suc (suc f)) k h = absurd (omega arith)
+early-rising zero zero h = lit≤ tt
+early-rising zero (suc k) h = absurd (omega arith)
+early-rising (suc zero) zero h = lit≤ tt
+early-rising (suc zero) (suc k) h = absurd (omega arith)
+early-rising (suc (suc f)) k h = absurd (omega arith)
 
-spaced
+early-spaced
     : (f k : ℕ)
     → k + countOf planK f < length (early f)
     → getD (early f) k 0 + periodOf planK f ≤ getD (early f) (k + countOf planK f) 0
 unfolding planK noPlan early
-spaced zero zero h = lit≤ tt
-spaced zero (suc k) h = absurd (omega arith)
-spaced (suc zero) zero h = lit≤ tt
-spaced (suc zero) (suc k) h = absurd (omega arith)
-spaced (suc (suc f)) k h = absurd (omega arith)
+early-spaced zero zero h = lit≤ tt
+early-spaced zero (suc k) h = absurd (omega arith)
+early-spaced (suc zero) zero h = lit≤ tt
+early-spaced (suc zero) (suc k) h = absurd (omega arith)
+early-spaced (suc (suc f)) k h = absurd (omega arith)
 
-keeps : Keeps planK early
-keeps = record { absent = absent; rising = rising; spaced = spaced }
+early-keeps : Keeps planK early
+early-keeps = record { absent = early-absent; rising = early-rising; spaced = early-spaced }
 
 -- at 120,000 all four frames fall into cycle 0, and port 1 cannot send them in cycle 1
 broken : Counterexample planK 120000
 unfolding planK noPlan early run overrun queuedBits overrunAt anyTo sumTo countTo sublist capacity window workload wireBits
-broken = record { emission = early; keeps = keeps; overruns = record { cycle = 2; unsent = refl } }
+broken = record { emission = early; keeps = early-keeps; overruns = record { cycle = 2; unsent = refl } }
 
 -- at 72,000, where the slack is 0, port 1 sends just as much as it can in cycles 1 and 2
 isRunning : Network → Bool
 isRunning (running places) = true
 isRunning stopped = false
 
-filled : isRunning (run planK 72000 (cyclesOf 72000 early) 3) ≡ true
+filled-window : isRunning (run planK 72000 (cyclesOf 72000 early) 3) ≡ true
 unfolding isRunning planK noPlan early run overrun queuedBits overrunAt anyTo sumTo countTo sublist capacity window workload wireBits
-filled = refl
+filled-window = refl
 
 -- where the frames are when cycle c of 100,000 starts
 placesAt : ℕ → Places
@@ -128,9 +128,9 @@ placesAt (suc c) f k = advance (eqb (getD (cyclesOf 100000 early f) k 0) c) (rou
 abbrev GoesOn : ℕ → Type 0
 GoesOn c = run planK 100000 (cyclesOf 100000 early) c ≡ running (placesAt c)
 
-goes-on : GoesOn 1 × GoesOn 2 × GoesOn 3
+goes-on-K : GoesOn 1 × GoesOn 2 × GoesOn 3
 unfolding placesAt planK noPlan early run overrun queuedBits overrunAt anyTo sumTo countTo sublist capacity window workload wireBits
-goes-on = (refl, refl, refl)
+goes-on-K = (refl, refl, refl)
 
 -- at 100,000 the same frames fall into cycles 0 and 1, and each leaves port 1 in the cycle after its own
 leaving : (f k c : ℕ) → Type 0
@@ -139,8 +139,8 @@ leaving f k c = Leaves planK 100000 (cyclesOf 100000 early) f k c
 kept : leaving 0 0 1 × leaving 1 0 1 × leaving 0 1 2 × leaving 1 1 2
 unfolding leaving placesAt planK noPlan early sublist
 kept = (
-  record { before = placesAt 1; after = placesAt 2; starts = goes-on .0; ends = goes-on .1; there = refl; left = refl },
-  record { before = placesAt 1; after = placesAt 2; starts = goes-on .0; ends = goes-on .1; there = refl; left = refl },
-  record { before = placesAt 2; after = placesAt 3; starts = goes-on .1; ends = goes-on .2; there = refl; left = refl },
-  record { before = placesAt 2; after = placesAt 3; starts = goes-on .1; ends = goes-on .2; there = refl; left = refl },
+  record { before = placesAt 1; after = placesAt 2; starts = goes-on-K .0; ends = goes-on-K .1; there = refl; left = refl },
+  record { before = placesAt 1; after = placesAt 2; starts = goes-on-K .0; ends = goes-on-K .1; there = refl; left = refl },
+  record { before = placesAt 2; after = placesAt 3; starts = goes-on-K .1; ends = goes-on-K .2; there = refl; left = refl },
+  record { before = placesAt 2; after = placesAt 3; starts = goes-on-K .1; ends = goes-on-K .2; there = refl; left = refl },
 )

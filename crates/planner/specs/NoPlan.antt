@@ -18,7 +18,7 @@ use Rattle.loading.specs.Outcome.{Answer, result, numberOf}
 use Rattle.planner.specs.Outcome.{failingAt, checkAnswer}
 use Rattle.planner.specs.Calls as Calls
 use Rattle.planner.specs.Calls.{Call, Question, after, heldBytes}
-use Rattle.planner.specs.Reply.{Reply, verdict, spare, found, reply, noPlanReply}
+use Rattle.planner.specs.Reply.{Reply, ofCheck, ofSlack, ofSearch, reply, noPlanReply}
 use Rattle.planner.specs.laws.Answers
 use Rattle.planner.specs.laws.Answers.{check-none, slack-none, check-within}
 use Rattle.planner.specs.laws.Calls.{after-none, after-loaded}
@@ -26,20 +26,20 @@ use Rattle.planner.specs.laws.Searched.{ends-no-plan, least-ends, margin
 
 -- tables that are not valid
 answers-none : (p : Plan) → validPlan p ≡ false → (x : Question) → reply p x ≡ noPlanReply x
-answers-none p e (Calls.check T) = ap verdict (check-none p T e)
-answers-none p e (Calls.slack n T) = ap spare (slack-none p n T e)
+answers-none p e (Calls.check T) = ap ofCheck (check-none p T e)
+answers-none p e (Calls.slack n T) = ap ofSlack (slack-none p n T e)
 answers-none p e (Calls.least scratch) =
     let h = least-ends p scratch (ends-no-plan 22 p (least p) scratch e) in
-    ap₂ found (sym (h .0)) (sym (h .1))
+    ap₂ ofSearch (sym (h .0)) (sym (h .1))
 answers-none p e (Calls.marginSafe scratch) =
     let h = margin-safe-ends p scratch (ends-no-plan 23 p (marginSafe p) scratch e) in
-    ap₂ found (sym (h .0)) (sym (h .1))
+    ap₂ ofSearch (sym (h .0)) (sym (h .1))
 
 -- a valid plan is not refused 20 at 1 ns
 verdictNumber : Reply → ℕ
-verdictNumber (verdict answer) = numberOf answer
-verdictNumber (spare answer) = 0
-verdictNumber (found answer scratch) = 0
+verdictNumber (ofCheck answer) = numberOf answer
+verdictNumber (ofSlack answer) = 0
+verdictNumber (ofSearch answer scratch) = 0
 
 answers-some : (p : Plan) → validPlan p ≡ true → reply p (Calls.check 1) ≡ noPlanReply (Calls.check 1) → ⊥
 unfolding verdictNumber

@@ -9,22 +9,22 @@ use Rattle.planner.specs.Outcome.{checkAnswer, slackAnswer, leastAnswer,
 use Rattle.planner.specs.Calls.{Question, check, slack, least, marginSafe}
 
 pub data Reply : Type 0 where
-  verdict : Answer (Unit {0}) → Reply
-  spare : Answer ℤ → Reply
-  found : Answer ℕ → (scratch : List ℕ) → Reply
+  ofCheck : Answer (Unit {0}) → Reply
+  ofSlack : Answer ℤ → Reply
+  ofSearch : Answer ℕ → (scratch : List ℕ) → Reply
 
 abbrev pub reply : Plan → Question → Reply
-reply p (check T) = verdict (checkAnswer p T)
-reply p (slack n T) = spare (slackAnswer p n T)
-reply p (least scratch) = found (leastAnswer p scratch) (leastLeaves p scratch)
-reply p (marginSafe scratch) = found (marginSafeAnswer p scratch) (marginSafeLeaves p scratch)
+reply p (check T) = ofCheck (checkAnswer p T)
+reply p (slack n T) = ofSlack (slackAnswer p n T)
+reply p (least scratch) = ofSearch (leastAnswer p scratch) (leastLeaves p scratch)
+reply p (marginSafe scratch) = ofSearch (marginSafeAnswer p scratch) (marginSafeLeaves p scratch)
 
 -- 20 with 0, and lent memory as it was
 abbrev pub noPlanReply : Question → Reply
-noPlanReply (check T) = verdict (refusal 20 (0 ∷ []))
-noPlanReply (slack n T) = spare (refusal 20 (0 ∷ []))
-noPlanReply (least scratch) = found (refusal 20 (0 ∷ [])) scratch
-noPlanReply (marginSafe scratch) = found (refusal 20 (0 ∷ [])) scratch
+noPlanReply (check T) = ofCheck (refusal 20 (0 ∷ []))
+noPlanReply (slack n T) = ofSlack (refusal 20 (0 ∷ []))
+noPlanReply (least scratch) = ofSearch (refusal 20 (0 ∷ [])) scratch
+noPlanReply (marginSafe scratch) = ofSearch (refusal 20 (0 ∷ [])) scratch
 
 -- two planners that answer every question alike
 abbrev pub SameAnswers : Plan → Plan → Type 0
