@@ -1,35 +1,64 @@
 -- The load's working values, as the definitions of the reading have them.
+use Prim.Native.Nat.{ℕ}
+use mathlib.Core.Path.{_≡_}
+use mathlib.Core.Bool.{Bool}
+use mathlib.Core.List.{List}
 use Rattle.cqf.specs.Plan.{Plan}
 use Rattle.plan.specs.Answer.{faultNumber}
-use Rattle.plan.specs.Draft as plan
-use Rattle.plan.specs.Reading.{PlanRead, accepted, rejected, Step, stop, more}
+use Rattle.plan.specs.Draft.{Draft}
+use Rattle.plan.specs.Reading.{PlanRead, accepted, rejected, Step, stop, more, namesAbsent, closing}
+use Rattle.loading.specs.Outcome.{readingAnswer, readingLeaves}
+use Rattle.loading.specs.Answer.{loadOf}
 use Rattle.loading.specs.declared.LoadAnswer.{LoadAnswer}
 use Rattle.loading.specs.declared.LoadOutcome.{LoadOutcome}
-use Rattle.loading.specs.declared.reading.Draft.{Draft}
+use Rattle.loading.specs.declared.first.Sought.{Sought}
+use Rattle.loading.specs.declared.store.Totals.{Totals}
 use Rattle.loading.specs.declared.reading.Progress.{Progress}
-use Rattle.loading.specs.declared.reading.StepOutcome.{StepOutcome}
 use Rattle.tables.specs.Tables.{planOf}
 
--- the tables so far
-abbrev pub draftOf : Draft → plan.Draft
-draftOf d = record { tables = planOf (d .planner); ports = d .ports; flows = d .flows }
-
--- nothing read yet, with these tables to store into
-abbrev pub into : Plan → plan.Draft
-into p = record { tables = p; ports = 0; flows = 0 }
+-- the draft in the columns so far
+abbrev pub draftOf : Totals → (rates blockings periods counts lengths hops routes seen : List ℕ) → Draft
+draftOf t rates blockings periods counts lengths hops routes seen =
+    record {
+      tables = record {
+        guard = t .guard;
+        top = t .top;
+        rates = rates;
+        blockings = blockings;
+        periods = periods;
+        counts = counts;
+        lengths = lengths;
+        hops = hops;
+        routes = routes;
+      };
+      seen = seen;
+      ports = t .ports;
+      flows = t .flows;
+    }
 
 -- one field read
-abbrev pub progressOf : plan.Draft → Progress → Step
-progressOf d (Progress.More next) = more next d
-progressOf d (Progress.Stop fault offset) = stop (faultNumber fault) offset
+abbrev pub progressOf : Progress → (rates blockings periods counts lengths hops routes seen : List ℕ) → Step
+progressOf (Progress.More next totals) rates blockings periods counts lengths hops routes seen =
+    more next (draftOf totals rates blockings periods counts lengths hops routes seen)
+progressOf (Progress.Stop fault offset) rates blockings periods counts lengths hops routes seen = stop (faultNumber fault) offset
 
-abbrev pub stepOf : StepOutcome → Step
-stepOf r = progressOf (draftOf (r .draft)) (r .progress)
+-- what is sought in a field, in a plan with these rates
+abbrev pub soughtIn : Sought → List ℕ → List ℕ → ℕ → Bool
+soughtIn Sought.AbsentPort rates = namesAbsent rates
 
--- a whole plan read
+-- a whole plan read into these tables
 abbrev pub answerOf : Plan → LoadAnswer → PlanRead
 answerOf p (LoadAnswer.Held ports flows) = accepted p ports flows
 answerOf p (LoadAnswer.Refused fault offset) = rejected (faultNumber fault) offset
 
-abbrev pub readOf : LoadOutcome → PlanRead
-readOf r = answerOf (planOf (r .planner)) (r .answer)
+-- the answer of the tests 8 and 9, for any tables with these rates
+abbrev pub Closes : (bytes rates seen : List ℕ) (ports flows : ℕ) → LoadAnswer → Type 0
+Closes bytes rates seen ports flows answer =
+    (p : Plan)
+    → p .rates ≡ rates
+    → answerOf p answer ≡ closing bytes (record { tables = p; seen = seen; ports = ports; flows = flows })
+
+-- what a reading answers, and leaves of the plan that was held
+pub record Leaves (held : Plan) (read : PlanRead) (outcome : LoadOutcome) : Type 0 where
+  pub leaves : planOf (outcome .planner) ≡ readingLeaves held read
+  pub answers : loadOf (outcome .answer) ≡ readingAnswer read

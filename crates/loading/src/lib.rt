@@ -1,14 +1,13 @@
-// The load: a plan's bytes read into fresh tables, held where the rules find no refusal.
+// The load: a plan's bytes read into fresh columns, held where the rules find no refusal.
 use crate::reading::read_plan;
 use plan::Fault;
 use tables::Planner;
-use tables::empty;
 ghost use Rattle.tables.specs.Tables.{planOf};
 ghost use Rattle.loading.specs.Answer.{Loads};
 
-mod reading; // reading.rt: a whole plan read into fresh tables
-mod absent; // absent.rt: test 9, a route that names a port not in the plan
-mod store; // store.rt: a field stored into the tables
+mod reading; // reading.rt: a whole plan read into columns of its own
+mod first; // first.rt: the first field that is sought, as test 9 wants it
+mod store; // store.rt: a field stored into the columns
 
 pub enum LoadAnswer {
     Held { ports: u16, flows: u16 },
@@ -48,14 +47,5 @@ pub fn load(planner: Planner, plan: &[u8]) -> LoadOutcome
             },
         };
     }
-    let fresh = empty();
-    let read = read_plan(plan, fresh);
-    let answer = read.answer;
-    match answer {
-        LoadAnswer::Held { ports: _, flows: _ } => read,
-        LoadAnswer::Refused {
-            fault: _,
-            offset: _,
-        } => LoadOutcome { planner, answer },
-    }
+    read_plan(planner, plan)
 }

@@ -1,205 +1,201 @@
-// A whole plan read into fresh tables: fields from the front, each tested for 2 to 7; then 8, then 9.
+// A whole plan read into columns of its own: fields from the front, each tested for 2 to 7; then 8, then 9.
 
 use crate::LoadAnswer;
 use crate::LoadOutcome;
-use crate::absent::first_absent;
-use crate::store::is_taken;
-use crate::store::with_field;
+use crate::first::Sought;
+use crate::first::first_field;
+use crate::store::HEADER_KEY;
+use crate::store::KEYS;
+use crate::store::Totals;
+use crate::store::key_of;
+use crate::store::store_field;
 use plan::Fault;
 use plan::Field;
 use plan::FieldRead;
 use plan::read::read_field;
-use plan::route::repeats_port;
+use plan::route::route_bytes;
+use plan::route::route_repeats;
 use plan::split::field_value;
 use tables::Planner;
 ghost use Prim.Native.Nat.{_≤_};
 ghost use mathlib.Core.Path.{_≡_};
 ghost use lib.ListN.{length};
-ghost use Rattle.plan.specs.Field.{field, fieldAt};
-ghost use Rattle.plan.specs.Draft.{fieldRepeats, added, portsIn, flowsIn};
-ghost use Rattle.plan.specs.Reading.{stepAt, closing, readFrom, maxBytes};
-ghost use Rattle.plan.specs.Ranges.{NumbersOk, RouteFits};
+ghost use Rattle.plan.specs.Field.{field, fieldAt, routePorts};
+ghost use Rattle.plan.specs.Draft.{blank, fieldRepeats};
+ghost use Rattle.plan.specs.Reading.{loose, stepAt, readFrom, maxBytes};
 ghost use Rattle.plan.specs.Answer.{fieldOf};
 ghost use Rattle.tables.specs.Tables.{planOf};
-ghost use Rattle.loading.specs.Loading.{draftOf, into, stepOf, readOf};
-
-// The tables so far, and how many port and flow fields they came from.
-pub(crate) struct Draft {
-    pub planner: Planner,
-    pub ports: u16,
-    pub flows: u16,
-}
+ghost use Rattle.loading.specs.Loading.{draftOf, progressOf, Closes, Leaves};
 
 // Whether the reading goes on after a field.
 pub(crate) enum Progress {
-    More { next: usize },
+    More { next: usize, totals: Totals },
     Stop { fault: Fault, offset: usize },
 }
 
-pub(crate) struct StepOutcome {
-    pub draft: Draft,
-    pub progress: Progress,
-}
-
 // Test 7: whether the field's route holds a port twice.
-fn field_repeats(field: Field, value: &[u8]) -> bool
-    ensures { λ r. ⌜ r ≡ fieldRepeats (fieldOf field) (now (value .entry)) ⌝ }
+fn field_repeats(field: Field, route: &[u8]) -> bool
+    ensures { λ r. ⌜ r ≡ fieldRepeats (fieldOf field) (routePorts (now (route .entry))) ⌝ }
 {
     match field {
         Field::Header(_) => false,
         Field::Port(_) => false,
-        Field::Flow(_) => repeats_port(value),
-    }
-}
-
-fn ports_in(field: Field) -> u16
-    ensures { λ r. ⌜ r ≡ portsIn (fieldOf field) ⌝ }
-{
-    match field {
-        Field::Header(_) => 0,
-        Field::Port(_) => 1,
-        Field::Flow(_) => 0,
-    }
-}
-
-fn flows_in(field: Field) -> u16
-    ensures { λ r. ⌜ r ≡ flowsIn (fieldOf field) ⌝ }
-{
-    match field {
-        Field::Header(_) => 0,
-        Field::Port(_) => 0,
-        Field::Flow(_) => 1,
-    }
-}
-
-fn with_added(draft: Draft, field: Field, value: &[u8]) -> Draft
-    requires { ⌜ (draft .ports ≤ maxBytes) × (draft .flows ≤ maxBytes) × NumbersOk (fieldOf field) × RouteFits (fieldOf field) (now value) ⌝ }
-    ensures { λ r. ⌜ draftOf r ≡ added (draftOf draft) (fieldOf field) (now (value .entry)) ⌝ }
-{
-    let planner = draft.planner;
-    let ports = draft.ports + ports_in(field);
-    let flows = draft.flows + flows_in(field);
-    Draft {
-        planner: with_field(planner, field, value),
-        ports,
-        flows,
+        Field::Flow(_) => route_repeats(route),
     }
 }
 
 // A field that passed the tests 2 to 5: the tests 6 and 7, and the field stored.
-fn take_field(plan: &[u8], at: usize, draft: Draft, x: Field, next: usize) -> StepOutcome
-    requires { ⌜ (draft .ports ≤ maxBytes) × (draft .flows ≤ maxBytes) × (fieldAt (now plan) at ≡ field (fieldOf x) next) ⌝ }
-    ensures { λ r. ⌜ stepOf r ≡ stepAt (now (plan .entry)) at (draftOf draft) ⌝ }
+fn take_field(
+    plan: &[u8],
+    at: usize,
+    x: Field,
+    next: usize,
+    totals: Totals,
+    rates: &mut [u32; 64],
+    blockings: &mut [u16; 64],
+    periods: &mut [u32; 256],
+    counts: &mut [u16; 256],
+    lengths: &mut [u16; 256],
+    hops: &mut [u8; 256],
+    routes: &mut [u8; 4096],
+    seen: &mut [u8; KEYS],
+) -> Progress
+    requires { ⌜ (totals .ports ≤ maxBytes) × (totals .flows ≤ maxBytes) × (fieldAt (now plan) at ≡ field (fieldOf x) next) ⌝ }
+    ensures { λ r. ⌜ progressOf r (now (rates .exit)) (now (blockings .exit)) (now (periods .exit)) (now (counts .exit)) (now (lengths .exit)) (now (hops .exit)) (now (routes .exit)) (now (seen .exit)) ≡ stepAt loose (now (plan .entry)) at (draftOf totals (now (rates .entry)) (now (blockings .entry)) (now (periods .entry)) (now (counts .entry)) (now (lengths .entry)) (now (hops .entry)) (now (routes .entry)) (now (seen .entry))) ⌝ }
 {
-    let planner = draft.planner;
-    let taken = is_taken(planner, x);
-    if taken {
-        return StepOutcome {
-            draft,
-            progress: Progress::Stop {
-                fault: Fault::Duplicate,
-                offset: at,
-            },
+    let key = key_of(x);
+    if 0 < seen[key] {
+        return Progress::Stop {
+            fault: Fault::Duplicate,
+            offset: at,
         };
     }
-    let value = field_value(plan, at);
-    let repeated = field_repeats(x, value);
-    if repeated {
-        return StepOutcome {
-            draft,
-            progress: Progress::Stop {
-                fault: Fault::RepeatedPort,
-                offset: at,
-            },
+    let route = route_bytes(field_value(plan, at));
+    if field_repeats(x, route) {
+        return Progress::Stop {
+            fault: Fault::RepeatedPort,
+            offset: at,
         };
     }
-    StepOutcome {
-        draft: with_added(draft, x, value),
-        progress: Progress::More { next },
-    }
+    let sums = store_field(
+        x,
+        route,
+        totals,
+        rates,
+        blockings,
+        periods,
+        counts,
+        lengths,
+        hops,
+        routes,
+        seen,
+    );
+    Progress::More { next, totals: sums }
 }
 
 // One field.
-fn step(plan: &[u8], at: usize, draft: Draft) -> StepOutcome
-    requires { ⌜ (draft .ports ≤ maxBytes) × (draft .flows ≤ maxBytes) ⌝ }
-    ensures { λ r. ⌜ stepOf r ≡ stepAt (now (plan .entry)) at (draftOf draft) ⌝ }
+fn step(
+    plan: &[u8],
+    at: usize,
+    totals: Totals,
+    rates: &mut [u32; 64],
+    blockings: &mut [u16; 64],
+    periods: &mut [u32; 256],
+    counts: &mut [u16; 256],
+    lengths: &mut [u16; 256],
+    hops: &mut [u8; 256],
+    routes: &mut [u8; 4096],
+    seen: &mut [u8; KEYS],
+) -> Progress
+    requires { ⌜ (totals .ports ≤ maxBytes) × (totals .flows ≤ maxBytes) ⌝ }
+    ensures { λ r. ⌜ progressOf r (now (rates .exit)) (now (blockings .exit)) (now (periods .exit)) (now (counts .exit)) (now (lengths .exit)) (now (hops .exit)) (now (routes .exit)) (now (seen .exit)) ≡ stepAt loose (now (plan .entry)) at (draftOf totals (now (rates .entry)) (now (blockings .entry)) (now (periods .entry)) (now (counts .entry)) (now (lengths .entry)) (now (hops .entry)) (now (routes .entry)) (now (seen .entry))) ⌝ }
 {
     match read_field(plan, at) {
-        FieldRead::Field { field, next } => take_field(plan, at, draft, field, next),
-        FieldRead::Refused { fault, offset } => StepOutcome {
-            draft,
-            progress: Progress::Stop { fault, offset },
-        },
+        FieldRead::Field { field, next } => take_field(
+            plan,
+            at,
+            field,
+            next,
+            totals,
+            rates,
+            blockings,
+            periods,
+            counts,
+            lengths,
+            hops,
+            routes,
+            seen,
+        ),
+        FieldRead::Refused { fault, offset } => Progress::Stop { fault, offset },
     }
 }
 
 // All fields are read: the tests 8 and 9.
-fn close(plan: &[u8], draft: Draft) -> LoadOutcome
-    ensures { λ r. ⌜ readOf r ≡ closing (now (plan .entry)) (draftOf draft) ⌝ }
+fn close(plan: &[u8], ports: u16, flows: u16, rates: &[u32; 64], seen: &[u8; KEYS]) -> LoadAnswer
+    ensures { λ r. ⌜ Closes (now (plan .entry)) (now (rates .entry)) (now (seen .entry)) ports flows r ⌝ }
 {
-    let planner = draft.planner;
-    let top = planner.top;
-    let flows = draft.flows;
-    if top == 0 {
-        return LoadOutcome {
-            planner,
-            answer: LoadAnswer::Refused {
-                fault: Fault::Incomplete,
-                offset: plan.len(),
-            },
+    if seen[HEADER_KEY] == 0 {
+        return LoadAnswer::Refused {
+            fault: Fault::Incomplete,
+            offset: plan.len(),
         };
     }
     if flows == 0 {
-        return LoadOutcome {
-            planner,
-            answer: LoadAnswer::Refused {
-                fault: Fault::Incomplete,
-                offset: plan.len(),
-            },
+        return LoadAnswer::Refused {
+            fault: Fault::Incomplete,
+            offset: plan.len(),
         };
     }
-    let rates = planner.rates;
-    let offset = first_absent(plan, rates);
+    let offset = first_field(plan, Sought::AbsentPort, rates);
     if offset < plan.len() {
-        return LoadOutcome {
-            planner,
-            answer: LoadAnswer::Refused {
-                fault: Fault::UnknownPort,
-                offset,
-            },
+        return LoadAnswer::Refused {
+            fault: Fault::UnknownPort,
+            offset,
         };
     }
-    LoadOutcome {
-        planner,
-        answer: LoadAnswer::Held {
-            ports: draft.ports,
-            flows,
-        },
-    }
+    LoadAnswer::Held { ports, flows }
 }
 
-// All fields of the plan, stored into these tables. A refusal leaves them half filled: only the answer counts then.
-pub(crate) fn read_plan(plan: &[u8], tables: Planner) -> LoadOutcome
+// All fields of the plan, read into fresh columns. Where the plan is accepted the planner is built of them; a refusal gives
+// back the planner that came in.
+pub(crate) fn read_plan(planner: Planner, plan: &[u8]) -> LoadOutcome
     requires { ⌜ length (now plan) ≤ maxBytes ⌝ }
-    ensures { λ r. ⌜ readOf r ≡ readFrom (length (now (plan .entry))) (now (plan .entry)) 0 (into (planOf tables)) ⌝ }
+    ensures { λ r. ⌜ Leaves (planOf planner) (readFrom loose (length (now (plan .entry))) (now (plan .entry)) 0 blank) r ⌝ }
 {
-    let mut draft = Draft {
-        planner: tables,
+    let mut rates = [0u32; 64];
+    let mut blockings = [0u16; 64];
+    let mut periods = [0u32; 256];
+    let mut counts = [0u16; 256];
+    let mut lengths = [0u16; 256];
+    let mut hops = [0u8; 256];
+    let mut routes = [0u8; 4096];
+    let mut seen = [0u8; KEYS];
+    let mut totals = Totals {
+        guard: 0,
+        top: 0,
         ports: 0,
         flows: 0,
     };
     let mut at = 0;
     while at < plan.len() {
-        let stepped = step(plan, at, draft);
-        let progress = stepped.progress;
-        let read = stepped.draft;
-        match progress {
-            Progress::More { next } => {
-                draft = read;
+        match step(
+            plan,
+            at,
+            totals,
+            &mut rates,
+            &mut blockings,
+            &mut periods,
+            &mut counts,
+            &mut lengths,
+            &mut hops,
+            &mut routes,
+            &mut seen,
+        ) {
+            Progress::More { next, totals: sums } => {
+                totals = sums;
                 at = next;
             }
             Progress::Stop { fault, offset } => {
-                let planner = read.planner;
                 return LoadOutcome {
                     planner,
                     answer: LoadAnswer::Refused { fault, offset },
@@ -207,5 +203,25 @@ pub(crate) fn read_plan(plan: &[u8], tables: Planner) -> LoadOutcome
             }
         }
     }
-    close(plan, draft)
+    let answer = close(plan, totals.ports, totals.flows, &rates, &seen);
+    match answer {
+        LoadAnswer::Held { ports: _, flows: _ } => LoadOutcome {
+            planner: Planner {
+                guard: totals.guard,
+                top: totals.top,
+                rates,
+                blockings,
+                periods,
+                counts,
+                lengths,
+                hops,
+                routes,
+            },
+            answer,
+        },
+        LoadAnswer::Refused {
+            fault: _,
+            offset: _,
+        } => LoadOutcome { planner, answer },
+    }
 }

@@ -1,105 +1,125 @@
-// A field stored into the tables.
+// A field stored into the columns of a plan that is being read.
 
 use plan::Field;
 use plan::Flow;
-use plan::Header;
 use plan::Port;
 use plan::route::route_port;
-use tables::Planner;
+use tables::FLOWS;
+use tables::PORTS;
 use tables::STRIDE;
-ghost use Prim.Native.Nat.{_+_, _≤_};
+ghost use Prim.Native.Nat.{_+_, _-_, _*_, _≤_};
 ghost use mathlib.Core.Path.{_≡_};
-ghost use mathlib.Core.List.{[]};
+ghost use lib.ListN.{set};
 ghost use lib.Seq.{sets};
-ghost use Rattle.plan.specs.Field.{header, port, flow, routeIn};
-ghost use Rattle.plan.specs.Draft.{taken, store};
+ghost use Rattle.cqf.specs.Limits.{routeStride};
+ghost use Rattle.plan.specs.Field.{routePorts};
+ghost use Rattle.plan.specs.Key.{keyOf};
+ghost use Rattle.plan.specs.Draft.{added};
+ghost use Rattle.plan.specs.Reading.{maxBytes};
 ghost use Rattle.plan.specs.Ranges.{PortOk, FlowOk, NumbersOk, RouteOk, RouteFits};
 ghost use Rattle.plan.specs.Answer.{fieldOf};
-ghost use Rattle.tables.specs.Tables.{planOf};
+ghost use Rattle.loading.specs.Loading.{draftOf};
 
-// Test 6: whether the field's slot is taken.
-pub(crate) fn is_taken(planner: Planner, field: Field) -> bool
-    requires { ⌜ NumbersOk (fieldOf field) ⌝ }
-    ensures { λ r. ⌜ r ≡ taken (planOf planner) (fieldOf field) ⌝ }
+// A flag for each key: the header's, the ports', the flows'.
+pub(crate) const HEADER_KEY: usize = 0;
+
+pub(crate) const KEYS: usize = 1 + PORTS + FLOWS;
+
+// The header's numbers, and how many port and flow fields were read.
+pub(crate) struct Totals {
+    pub guard: u32,
+    pub top: u32,
+    pub ports: u16,
+    pub flows: u16,
+}
+
+pub(crate) fn key_of(field: Field) -> usize
+    ensures { λ r. ⌜ r ≡ keyOf (fieldOf field) ⌝ }
 {
     match field {
-        Field::Header(_) => {
-            let top = planner.top;
-            0 < top
-        }
-        Field::Port(x) => {
-            let slot = (x.number - 1) as usize;
-            let rate = planner.rates[slot];
-            0 < rate
-        }
-        Field::Flow(x) => {
-            let slot = (x.number - 1) as usize;
-            let period = planner.periods[slot];
-            0 < period
-        }
+        Field::Header(_) => HEADER_KEY,
+        Field::Port(x) => HEADER_KEY + x.number as usize,
+        Field::Flow(x) => PORTS + x.number as usize,
     }
 }
 
-fn with_header(planner: Planner, x: Header) -> Planner
-    ensures { λ r. ⌜ planOf r ≡ store (planOf planner) (header (x .guard) (x .top)) [] ⌝ }
-{
-    let mut next = planner;
-    next.guard = x.guard;
-    next.top = x.top;
-    next
-}
-
-fn with_port(planner: Planner, x: Port) -> Planner
+fn store_port(rates: &mut [u32; 64], blockings: &mut [u16; 64], x: Port)
     requires { ⌜ PortOk (x .number) (x .rate) (x .blocking) ⌝ }
-    ensures { λ r. ⌜ planOf r ≡ store (planOf planner) (port (x .number) (x .rate) (x .blocking)) [] ⌝ }
+    ensures { λ r. ⌜ (now (rates .exit) ≡ set (now (rates .entry)) (x .number - 1) (x .rate)) × (now (blockings .exit) ≡ set (now (blockings .entry)) (x .number - 1) (x .blocking)) ⌝ }
 {
     let slot = (x.number - 1) as usize;
-    let mut next = planner;
-    next.rates[slot] = x.rate;
-    next.blockings[slot] = x.blocking;
-    next
+    rates[slot] = x.rate;
+    blockings[slot] = x.blocking;
 }
 
-// The route in a flow's value, copied to position base of the routes and on.
-fn with_route(routes: [u8; 4096], base: usize, value: &[u8], hops: usize) -> [u8; 4096]
-    requires { ⌜ (base + hops ≤ 4096) × RouteOk hops (now value) ⌝ }
-    ensures { λ r. ⌜ r ≡ sets routes base (routeIn (now (value .entry))) ⌝ }
+// The ports of a route, copied to position base of the routes and on.
+fn store_route(routes: &mut [u8; 4096], base: usize, route: &[u8], hops: usize)
+    requires { ⌜ (base + hops ≤ 4096) × RouteOk hops (routePorts (now route)) ⌝ }
+    ensures { λ r. ⌜ now (routes .exit) ≡ sets (now (routes .entry)) base (routePorts (now (route .entry))) ⌝ }
 {
-    let mut next = routes;
     let mut i = 0;
     while i < hops {
-        let port = route_port(value, i);
-        next[base + i] = port as u8;
+        let port = route_port(route, i);
+        routes[base + i] = port as u8;
         i += 1;
     }
-    next
 }
 
-fn with_flow(planner: Planner, x: Flow, value: &[u8]) -> Planner
-    requires { ⌜ FlowOk (x .number) (x .period) (x .count) (x .length) (x .hops) × RouteOk (x .hops) (now value) ⌝ }
-    ensures { λ r. ⌜ planOf r ≡ store (planOf planner) (flow (x .number) (x .period) (x .count) (x .length) (x .hops)) (now (value .entry)) ⌝ }
+fn store_flow(
+    periods: &mut [u32; 256],
+    counts: &mut [u16; 256],
+    lengths: &mut [u16; 256],
+    hops: &mut [u8; 256],
+    routes: &mut [u8; 4096],
+    x: Flow,
+    route: &[u8],
+)
+    requires { ⌜ FlowOk (x .number) (x .period) (x .count) (x .length) (x .hops) × RouteOk (x .hops) (routePorts (now route)) ⌝ }
+    ensures { λ r. ⌜ (now (periods .exit) ≡ set (now (periods .entry)) (x .number - 1) (x .period)) × (now (counts .exit) ≡ set (now (counts .entry)) (x .number - 1) (x .count)) × (now (lengths .exit) ≡ set (now (lengths .entry)) (x .number - 1) (x .length)) × (now (hops .exit) ≡ set (now (hops .entry)) (x .number - 1) (x .hops)) × (now (routes .exit) ≡ sets (now (routes .entry)) ((x .number - 1) * routeStride) (routePorts (now (route .entry)))) ⌝ }
 {
     let slot = (x.number - 1) as usize;
-    let hops = x.hops as usize;
-    let routes = planner.routes;
-    let copied = with_route(routes, slot * STRIDE, value, hops);
-    let mut next = planner;
-    next.periods[slot] = x.period;
-    next.counts[slot] = x.count;
-    next.lengths[slot] = x.length;
-    next.hops[slot] = x.hops;
-    next.routes = copied;
-    next
+    periods[slot] = x.period;
+    counts[slot] = x.count;
+    lengths[slot] = x.length;
+    hops[slot] = x.hops;
+    store_route(routes, slot * STRIDE, route, x.hops as usize);
 }
 
-// The field, with its value, stored into its slot.
-pub(crate) fn with_field(planner: Planner, field: Field, value: &[u8]) -> Planner
-    requires { ⌜ NumbersOk (fieldOf field) × RouteFits (fieldOf field) (now value) ⌝ }
-    ensures { λ r. ⌜ planOf r ≡ store (planOf planner) (fieldOf field) (now (value .entry)) ⌝ }
+// The field stored, with the bytes of its route, and its key marked as seen.
+pub(crate) fn store_field(
+    field: Field,
+    route: &[u8],
+    totals: Totals,
+    rates: &mut [u32; 64],
+    blockings: &mut [u16; 64],
+    periods: &mut [u32; 256],
+    counts: &mut [u16; 256],
+    lengths: &mut [u16; 256],
+    hops: &mut [u8; 256],
+    routes: &mut [u8; 4096],
+    seen: &mut [u8; KEYS],
+) -> Totals
+    requires { ⌜ (totals .ports ≤ maxBytes) × (totals .flows ≤ maxBytes) × NumbersOk (fieldOf field) × RouteFits (fieldOf field) (routePorts (now route)) ⌝ }
+    ensures { λ r. ⌜ draftOf r (now (rates .exit)) (now (blockings .exit)) (now (periods .exit)) (now (counts .exit)) (now (lengths .exit)) (now (hops .exit)) (now (routes .exit)) (now (seen .exit)) ≡ added (draftOf totals (now (rates .entry)) (now (blockings .entry)) (now (periods .entry)) (now (counts .entry)) (now (lengths .entry)) (now (hops .entry)) (now (routes .entry)) (now (seen .entry))) (fieldOf field) (routePorts (now (route .entry))) ⌝ }
 {
+    let key = key_of(field);
+    seen[key] = 1;
+    let mut sums = totals;
     match field {
-        Field::Header(x) => with_header(planner, x),
-        Field::Port(x) => with_port(planner, x),
-        Field::Flow(x) => with_flow(planner, x, value),
+        Field::Header(x) => {
+            sums.guard = x.guard;
+            sums.top = x.top;
+            sums
+        }
+        Field::Port(x) => {
+            store_port(rates, blockings, x);
+            sums.ports = sums.ports + 1;
+            sums
+        }
+        Field::Flow(x) => {
+            store_flow(periods, counts, lengths, hops, routes, x, route);
+            sums.flows = sums.flows + 1;
+            sums
+        }
     }
 }

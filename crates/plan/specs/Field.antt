@@ -3,7 +3,7 @@ use Prim.Native.Nat.{ℕ, _+_, _-_, _*_, _/_}
 use mathlib.Core.List.{List}
 use mathlib.Core.Bool.{Bool, cond, not, _&&_}
 use lib.Dec.{eqb}
-use lib.ListN.{length, getD}
+use lib.ListN.{length, getD, drop}
 use Rattle.cqf.specs.Bounded.{every, distinct}
 use Rattle.cqf.specs.Limits.{guardOk, topOk, portOk, rateOk, lengthOk, blockingOk, flowOk, periodOk, countOk, hopsOk}
 use Rattle.plan.specs.Bytes.{number2, number4, numbers2, headSize, tagAt, sizeAt, wholeAt, valueAt}
@@ -13,6 +13,22 @@ pub data Field : Type 0 where
   header : (guard top : ℕ) → Field
   port : (number rate blocking : ℕ) → Field
   flow : (number period count length hops : ℕ) → Field
+
+-- what a field of one kind gives; a field of any other kind gives the first
+abbrev pub ofHeader {ℓ} : {A : Type ℓ} → A → ((guard top : ℕ) → A) → Field → A
+ofHeader other gives (header g t) = gives g t
+ofHeader other gives (port n r b) = other
+ofHeader other gives (flow n p c l h) = other
+
+abbrev pub ofPort {ℓ} : {A : Type ℓ} → A → ((number rate blocking : ℕ) → A) → Field → A
+ofPort other gives (header g t) = other
+ofPort other gives (port n r b) = gives n r b
+ofPort other gives (flow n p c l h) = other
+
+abbrev pub ofFlow {ℓ} : {A : Type ℓ} → A → ((number period count length hops : ℕ) → A) → Field → A
+ofFlow other gives (header g t) = other
+ofFlow other gives (port n r b) = other
+ofFlow other gives (flow n p c l h) = gives n p c l h
 
 -- a field's head: its tag and its value's length, or cut where the plan does not hold the whole field (refusal 2)
 pub data HeadRead : Type 0 where
@@ -56,15 +72,27 @@ flowSize = 10
 abbrev pub hopsIn : ℕ → ℕ
 hopsIn size = (size - flowSize) / 2
 
--- the route in a flow's value
-unfoldable pub routeIn : List ℕ → List ℕ
-unfolding numbers2
-routeIn v = numbers2 v flowSize (hopsIn (length v))
+-- the bytes of the route in a flow's value
+abbrev pub routeBytes : List ℕ → List ℕ
+routeBytes v = drop flowSize v
 
--- port i of that route, counted from 0; 0 past its end
+-- how many ports a route's bytes name, and which
+abbrev pub routeLength : List ℕ → ℕ
+routeLength r = length r / 2
+
+unfoldable pub routePorts : List ℕ → List ℕ
+unfolding numbers2
+routePorts r = numbers2 r 0 (routeLength r)
+
+-- port i of them, counted from 0; 0 past their end
 unfoldable pub routePort : List ℕ → ℕ → ℕ
-unfolding routeIn
-routePort v i = getD (routeIn v) i 0
+unfolding routePorts
+routePort r i = getD (routePorts r) i 0
+
+-- the ports of the route in a flow's value
+unfoldable pub routeIn : List ℕ → List ℕ
+unfolding routePorts
+routeIn v = routePorts (routeBytes v)
 
 -- a field with value v at offset at, next being the offset after it: test 4, then test 5
 unfoldable pub headerIn : List ℕ → ℕ → ℕ → FieldRead

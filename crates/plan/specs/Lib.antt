@@ -2,6 +2,9 @@
 pub mod Bytes
 pub mod Field
 pub mod Answer
+pub mod Key
+pub mod Put
+pub mod Store
 pub mod Draft
 pub mod Reading
 pub mod FieldOrder

@@ -6,7 +6,7 @@ use mathlib.Core.Bool.{true}
 use lib.ListN.{length}
 use Rattle.cqf.specs.Bounded.{every}
 use Rattle.cqf.specs.Limits.{guardOk, topOk, portOk, rateOk, lengthOk, blockingOk, flowOk, periodOk, countOk, hopsOk}
-use Rattle.plan.specs.Field.{Field, header, port, flow, routeIn}
+use Rattle.plan.specs.Field.{Field, header, port, flow, ofFlow}
 
 pub record HeaderOk (g t : ℕ) : Type 0 where
   pub guard : guardOk g ≡ true
@@ -30,13 +30,11 @@ NumbersOk (header g t) = HeaderOk g t
 NumbersOk (port n r b) = PortOk n r b
 NumbersOk (flow n p c l h) = FlowOk n p c l h
 
--- the route in a flow's value has h ports, each with a number in range
-pub record RouteOk (h : ℕ) (v : List ℕ) : Type 0 where
-  pub hops : length (routeIn v) ≡ h
-  pub ports : every portOk (routeIn v) ≡ true
+-- a route of h ports, each with a number in range
+pub record RouteOk (h : ℕ) (r : List ℕ) : Type 0 where
+  pub hops : length r ≡ h
+  pub ports : every portOk r ≡ true
 
--- v holds the field's route; only a flow has one
+-- r is the field's route; only a flow has one
 abbrev pub RouteFits : Field → List ℕ → Type 0
-RouteFits (header g t) v = Unit {0}
-RouteFits (port n r b) v = Unit {0}
-RouteFits (flow n p c l h) v = RouteOk h v
+RouteFits x r = ofFlow (Unit {0}) (λ n p c l h. RouteOk h r) x

@@ -8,7 +8,8 @@ use Rattle.cqf.specs.Bounded.{within, every}
 use Rattle.cqf.specs.Plan.{Plan, portIn}
 use Rattle.plan.specs.Bytes.{headSize, tagAt, sizeAt, wholeAt, valueAt}
 use Rattle.plan.specs.Field.{FieldRead, field, refused, flowTag, fieldAt, routeIn}
-use Rattle.plan.specs.Draft.{Draft, blank, taken, fieldRepeats, added}
+use Rattle.plan.specs.Key.{headerKey}
+use Rattle.plan.specs.Draft.{Draft, blank, hasKey, taken, fieldRepeats, added}
 
 -- a plan has 1 to 16,384 bytes
 abbrev pub maxBytes : ℕ
@@ -19,58 +20,74 @@ pub data PlanRead : Type 0 where
   accepted : Plan → (ports flows : ℕ) → PlanRead
   rejected : (number offset : ℕ) → PlanRead
 
+-- how the fields are read: loose, in any order
+pub data Mode : Type 0 where
+  loose : Mode
+
 -- one field: refused, or read with the offset after it
 pub data Step : Type 0 where
   stop : (number offset : ℕ) → Step
   more : ℕ → Draft → Step
 
+-- the ports of the route in the field at this offset
+abbrev pub routeAt : List ℕ → ℕ → List ℕ
+routeAt s at = routeIn (valueAt s at)
+
 -- tests 6 and 7 of a field that passed 2 to 5
-abbrev pub fieldStep : List ℕ → ℕ → Draft → FieldRead → Step
-fieldStep s at d (refused number offset) = stop number offset
-fieldStep s at d (field x next) =
-    cond (taken (d .tables) x) (stop 6 at)
-    (cond (fieldRepeats x (valueAt s at)) (stop 7 at)
-    (more next (added d x (valueAt s at))))
+abbrev pub fieldStep : Mode → List ℕ → ℕ → Draft → FieldRead → Step
+fieldStep mode s at d (refused number offset) = stop number offset
+fieldStep mode s at d (field x next) =
+    cond (taken d x) (stop 6 at)
+    (cond (fieldRepeats x (routeAt s at)) (stop 7 at)
+    (more next (added d x (routeAt s at))))
 
-unfoldable pub stepAt : List ℕ → ℕ → Draft → Step
+unfoldable pub stepAt : Mode → List ℕ → ℕ → Draft → Step
 unfolding fieldAt
-stepAt s at d = fieldStep s at d (fieldAt s at)
+stepAt mode s at d = fieldStep mode s at d (fieldAt s at)
 
--- whether the field at this offset is a flow whose route names a port that is not in the plan
-unfoldable pub namesAbsent : List ℕ → ℕ → List ℕ → Bool
-unfolding valueAt every routeIn
-namesAbsent s at rates = eqb (tagAt s at) flowTag && not (every (portIn rates) (routeIn (valueAt s at)))
-
--- test 9: the offset of the first flow, from this offset on, that names a port not in the plan; the plan's length where there
--- is none. The first number bounds how many fields are looked at: the plan's length is enough.
-unfoldable pub absentFrom : ℕ → List ℕ → ℕ → List ℕ → ℕ
-unfolding wholeAt sizeAt namesAbsent
-absentFrom zero s at rates = length s
-absentFrom (suc n) s at rates =
+-- the offset of the first whole field in the bytes, from this offset on, that is sought; the plan's length where none is.
+-- The first number bounds how many fields are looked at: the plan's length is enough.
+unfoldable pub firstFrom : (List ℕ → ℕ → Bool) → ℕ → List ℕ → ℕ → ℕ
+unfolding wholeAt sizeAt
+firstFrom sought zero s at = length s
+firstFrom sought (suc n) s at =
     elim (wholeAt s at) [
-      | true ↦ elim (namesAbsent s at rates) [ true ↦ at | false ↦ absentFrom n s (at + headSize + sizeAt s at) rates ]
+      | true ↦ elim (sought s at) [ true ↦ at | false ↦ firstFrom sought n s (at + headSize + sizeAt s at) ]
       | false ↦ length s
     ]
 
+abbrev pub firstField : (List ℕ → ℕ → Bool) → List ℕ → ℕ
+firstField sought s = firstFrom sought (length s) s 0
+
+-- test 9 seeks a flow whose route names a port that is not in the plan with these rates
+unfoldable pub namesAbsent : List ℕ → List ℕ → ℕ → Bool
+unfolding valueAt every routeIn
+namesAbsent rates s at = eqb (tagAt s at) flowTag && not (every (portIn rates) (routeAt s at))
+
 -- all fields are read: tests 8 and 9
 unfoldable pub closing : List ℕ → Draft → PlanRead
-unfolding absentFrom
+unfolding firstFrom namesAbsent
 closing s d =
-    cond (eqb (d .tables .top) 0 || eqb (d .flows) 0) (rejected 8 (length s))
-    (cond (ltb (absentFrom (length s) s 0 (d .tables .rates)) (length s))
-    (rejected 9 (absentFrom (length s) s 0 (d .tables .rates)))
+    cond (not (hasKey d headerKey) || eqb (d .flows) 0) (rejected 8 (length s))
+    (cond (ltb (firstField (namesAbsent (d .tables .rates)) s) (length s))
+    (rejected 9 (firstField (namesAbsent (d .tables .rates)) s))
     (accepted (d .tables) (d .ports) (d .flows)))
 
 -- the fields from this offset on. The first number bounds how many are read: the plan's length is enough.
-unfoldable pub readFrom : ℕ → List ℕ → ℕ → Draft → PlanRead
+unfoldable pub readFrom : Mode → ℕ → List ℕ → ℕ → Draft → PlanRead
 unfolding stepAt closing
-readFrom zero s at d = closing s d
-readFrom (suc n) s at d =
+readFrom mode zero s at d = closing s d
+readFrom mode (suc n) s at d =
     elim (ltb at (length s)) [
-      | true ↦ elim (stepAt s at d) [ stop number offset ↦ rejected number offset | more next d′ ↦ readFrom n s next d′ ]
+      | true ↦ elim (stepAt mode s at d) [ stop number offset ↦ rejected number offset | more next d′ ↦ readFrom mode n s next d′ ]
       | false ↦ closing s d
     ]
 
-unfoldable pub readPlan : List ℕ → PlanRead
+unfoldable pub readAs : Mode → List ℕ → PlanRead
 unfolding readFrom blank
-readPlan s = elim (within 1 maxBytes (length s)) [ true ↦ readFrom (length s) s 0 blank | false ↦ rejected 1 0 ]
+readAs mode s = elim (within 1 maxBytes (length s)) [ true ↦ readFrom mode (length s) s 0 blank | false ↦ rejected 1 0 ]
+
+-- the reading of a load
+unfoldable pub readPlan : List ℕ → PlanRead
+unfolding readAs
+readPlan s = readAs loose s

@@ -1,12 +1,15 @@
 -- Laws of the definitions: numbers in bytes, heads, values, routes; the walk over the fields and what an accepted plan is.
 pub mod Whole
 pub mod Lists
+pub mod Within
 pub mod Route
 pub mod Tested
 pub mod Stores
 pub mod Passes
 pub mod Walk
-pub mod Named
+pub mod First
+pub mod Kinds
+pub mod Puts
 pub mod Tables
 pub mod Slots
 pub mod Drafts
@@ -14,7 +17,6 @@ pub mod Valid
 pub mod Commute
 pub mod Stored
 pub mod Order
-pub mod Within
 pub mod Found
 pub mod Steps
 pub mod Absent

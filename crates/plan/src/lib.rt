@@ -10,7 +10,10 @@ pub mod read; // read.rt: a whole field, tests 2 to 5
 
 pub use read::read_field;
 pub use route::repeats_port;
+pub use route::route_bytes;
+pub use route::route_len;
 pub use route::route_port;
+pub use route::route_repeats;
 pub use split::field_value;
 pub use split::split_head;
 

@@ -11,6 +11,7 @@ use crate::number::be16;
 use crate::number::be32;
 use crate::route::FLOW_SIZE;
 use crate::route::hops_in;
+use crate::route::route_bytes;
 use crate::route::route_in_range;
 use crate::split::HEAD_SIZE;
 use crate::split::field_value;
@@ -159,7 +160,7 @@ fn flow_of(value: &[u8], at: usize, next: usize) -> FieldRead
             offset: at,
         };
     }
-    if !route_in_range(value) {
+    if !route_in_range(route_bytes(value)) {
         return FieldRead::Refused {
             fault: Fault::OutOfRange,
             offset: at,

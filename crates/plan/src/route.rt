@@ -1,18 +1,19 @@
-// A flow's route, in the value of its field.
+// A flow's route: the bytes behind the other numbers of its field's value, two for each port.
 
 use crate::number::be16;
 use numbers::limits::port_ok;
 ghost use mathlib.Core.Path.{_≡_};
+ghost use mathlib.Core.Bool.{not};
 ghost use lib.ListN.{drop};
-ghost use Rattle.cqf.specs.Bounded.{elem, every};
+ghost use Rattle.cqf.specs.Bounded.{elem, every, distinct};
 ghost use Rattle.cqf.specs.Limits.{portOk};
-ghost use Rattle.plan.specs.Field.{hopsIn, routeIn, routePort, repeats};
+ghost use Rattle.plan.specs.Field.{hopsIn, routeBytes, routeLength, routePorts, routePort, repeats};
 
 // A flow's value before its route.
 pub(crate) const FLOW_SIZE: usize = 10;
 
 // How many ports a flow's value of this length names.
-pub fn hops_in(size: usize) -> usize
+pub(crate) fn hops_in(size: usize) -> usize
     ensures { λ r. ⌜ r ≡ hopsIn size ⌝ }
 {
     if size < FLOW_SIZE {
@@ -21,25 +22,41 @@ pub fn hops_in(size: usize) -> usize
     (size - FLOW_SIZE) / 2
 }
 
-// Port i of the route, counted from 0; 0 past its end.
-pub fn route_port(value: &[u8], i: usize) -> u16
-    ensures { λ r. ⌜ r ≡ routePort (now (value .entry)) i ⌝ }
+// The route's own bytes in a flow's value; none where the value is too short for them.
+pub fn route_bytes(value: &[u8]) -> &[u8]
+    ensures { λ r. ⌜ now r ≡ routeBytes (now (value .entry)) ⌝ }
 {
-    let hops = hops_in(value.len());
-    if hops <= i {
+    if value.len() < FLOW_SIZE {
+        return &value[..0];
+    }
+    &value[FLOW_SIZE..]
+}
+
+// How many ports a route's bytes name.
+pub fn route_len(route: &[u8]) -> usize
+    ensures { λ r. ⌜ r ≡ routeLength (now (route .entry)) ⌝ }
+{
+    route.len() / 2
+}
+
+// Port i of the route, counted from 0; 0 past its end.
+pub fn route_port(route: &[u8], i: usize) -> u16
+    ensures { λ r. ⌜ r ≡ routePort (now (route .entry)) i ⌝ }
+{
+    if route_len(route) <= i {
         return 0;
     }
-    be16(value, FLOW_SIZE + 2 * i)
+    be16(route, 2 * i)
 }
 
 // Whether each port number of the route is in range.
-pub(crate) fn route_in_range(value: &[u8]) -> bool
-    ensures { λ r. ⌜ r ≡ every portOk (routeIn (now (value .entry))) ⌝ }
+pub(crate) fn route_in_range(route: &[u8]) -> bool
+    ensures { λ r. ⌜ r ≡ every portOk (routePorts (now (route .entry))) ⌝ }
 {
-    let hops = hops_in(value.len());
+    let hops = route_len(route);
     let mut i = 0;
     while i < hops {
-        if !port_ok(route_port(value, i)) {
+        if !port_ok(route_port(route, i)) {
             return false;
         }
         i += 1;
@@ -48,13 +65,13 @@ pub(crate) fn route_in_range(value: &[u8]) -> bool
 }
 
 // Whether the route holds this port at position from or after it.
-fn names_from(value: &[u8], from: usize, port: u16) -> bool
-    ensures { λ r. ⌜ r ≡ elem port (drop from (routeIn (now (value .entry)))) ⌝ }
+fn names_from(route: &[u8], from: usize, port: u16) -> bool
+    ensures { λ r. ⌜ r ≡ elem port (drop from (routePorts (now (route .entry)))) ⌝ }
 {
-    let hops = hops_in(value.len());
+    let hops = route_len(route);
     let mut k = from;
     while k < hops {
-        if port == route_port(value, k) {
+        if port == route_port(route, k) {
             return true;
         }
         k += 1;
@@ -62,18 +79,25 @@ fn names_from(value: &[u8], from: usize, port: u16) -> bool
     false
 }
 
-// Test 7: whether the route holds a port twice.
-pub fn repeats_port(value: &[u8]) -> bool
-    ensures { λ r. ⌜ r ≡ repeats (now (value .entry)) ⌝ }
+// Whether the route holds a port twice.
+pub fn route_repeats(route: &[u8]) -> bool
+    ensures { λ r. ⌜ r ≡ not (distinct (routePorts (now (route .entry)))) ⌝ }
 {
-    let hops = hops_in(value.len());
+    let hops = route_len(route);
     let mut i = 0;
     while i < hops {
-        let port = route_port(value, i);
-        if names_from(value, i + 1, port) {
+        let port = route_port(route, i);
+        if names_from(route, i + 1, port) {
             return true;
         }
         i += 1;
     }
     false
+}
+
+// Test 7 of a flow's value.
+pub fn repeats_port(value: &[u8]) -> bool
+    ensures { λ r. ⌜ r ≡ repeats (now (value .entry)) ⌝ }
+{
+    route_repeats(route_bytes(value))
 }

@@ -8,9 +8,10 @@ use lib.Dec.{lit≤}
 use Rattle.cqf.specs.Bounded.{elem, distinct, every}
 use Rattle.cqf.specs.Plan.{noPlan}
 use Rattle.plan.specs.Bytes.{number2, number4, sizeAt, wholeAt, valueAt, numbers2}
-use Rattle.plan.specs.Field.{routeIn, headerIn, portInValue, flowIn, fieldIn, fieldAt, repeats}
-use Rattle.plan.specs.Draft.{blank, taken, fieldRepeats, store, added}
-use Rattle.plan.specs.Reading.{stepAt, namesAbsent, absentFrom, closing, readFrom, readPlan}
+use Rattle.plan.specs.Field.{routePorts, routeIn, headerIn, portInValue, flowIn, fieldIn, fieldAt, repeats}
+use Rattle.plan.specs.Store.{store}
+use Rattle.plan.specs.Draft.{blank, added}
+use Rattle.plan.specs.Reading.{stepAt, namesAbsent, firstFrom, closing, readFrom, readAs, readPlan}
 use Rattle.plan.specs.FieldOrder.{IsField, AllFields, none, more, SameFields}
 use Rattle.planner.specs.Calls.{load, after, heldFrom, heldBytes}
 use Rattle.planner.specs.Reply.{SameAnswers}
@@ -70,7 +71,7 @@ sameFieldsK =
     }
 
 heldReordered : heldBytes (load bytesReordered ∷ []) ≡ some bytesReordered
-unfolding bytesReordered noPlan heldBytes heldFrom readPlan readFrom blank stepAt fieldAt fieldIn headerIn portInValue flowIn number2 number4 sizeAt wholeAt valueAt numbers2 routeIn repeats every distinct elem taken fieldRepeats store added closing absentFrom namesAbsent
+unfolding bytesReordered noPlan heldBytes heldFrom readPlan readAs readFrom blank stepAt fieldAt fieldIn headerIn portInValue flowIn number2 number4 sizeAt wholeAt valueAt numbers2 routePorts routeIn repeats every distinct elem store added closing firstFrom namesAbsent
 heldReordered = refl
 
 sameAnswersK : SameAnswers (after (load bytesK ∷ [])) (after (load bytesReordered ∷ []))

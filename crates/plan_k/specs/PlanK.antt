@@ -9,9 +9,10 @@ use Rattle.cqf.specs.Plan.{noPlan, validPlan, validPort, validFlow}
 use Rattle.cqf.specs.Condition.{bitsOf, wireBits, ceilDiv, stretch, begun, frames, demand, window, capacity, workload, slack, crossed, fails, failing, lowestFailing, admissible}
 use Rattle.cqf.specs.Worked.{planK}
 use Rattle.plan.specs.Bytes.{number2, number4, sizeAt, wholeAt, valueAt, numbers2}
-use Rattle.plan.specs.Field.{routeIn, headerIn, portInValue, flowIn, fieldIn, fieldAt, repeats}
-use Rattle.plan.specs.Draft.{blank, taken, fieldRepeats, store, added}
-use Rattle.plan.specs.Reading.{stepAt, namesAbsent, absentFrom, closing, readFrom, readPlan, accepted}
+use Rattle.plan.specs.Field.{routePorts, routeIn, headerIn, portInValue, flowIn, fieldIn, fieldAt, repeats}
+use Rattle.plan.specs.Store.{store}
+use Rattle.plan.specs.Draft.{blank, added}
+use Rattle.plan.specs.Reading.{stepAt, namesAbsent, firstFrom, closing, readFrom, readAs, readPlan, accepted}
 use Rattle.loading.specs.Outcome.{Answer, result, refusal, loadAnswer, loadLeaves}
 use Rattle.planner.specs.Outcome.{checkAnswer, slackAnswer}
 use Rattle.planner.specs.Calls.{load, afterFrom, after, heldFrom, heldBytes}
@@ -53,22 +54,22 @@ table =
 
 -- K is accepted, with one port and two flows, and its tables are planK
 readK : readPlan bytesK ≡ accepted planK 1 2
-unfolding bytesK planK noPlan readPlan readFrom blank stepAt fieldAt fieldIn headerIn portInValue flowIn number2 number4 sizeAt wholeAt valueAt numbers2 routeIn repeats every distinct elem taken fieldRepeats store added closing absentFrom namesAbsent
+unfolding bytesK planK noPlan readPlan readAs readFrom blank stepAt fieldAt fieldIn headerIn portInValue flowIn number2 number4 sizeAt wholeAt valueAt numbers2 routePorts routeIn repeats every distinct elem store added closing firstFrom namesAbsent
 readK = refl
 
 -- K is the plan held after its load
 pub heldK : heldBytes (load bytesK ∷ []) ≡ some bytesK
-unfolding bytesK noPlan heldBytes heldFrom readPlan readFrom blank stepAt fieldAt fieldIn headerIn portInValue flowIn number2 number4 sizeAt wholeAt valueAt numbers2 routeIn repeats every distinct elem taken fieldRepeats store added closing absentFrom namesAbsent
+unfolding bytesK noPlan heldBytes heldFrom readPlan readAs readFrom blank stepAt fieldAt fieldIn headerIn portInValue flowIn number2 number4 sizeAt wholeAt valueAt numbers2 routePorts routeIn repeats every distinct elem store added closing firstFrom namesAbsent
 heldK = refl
 
 -- every line of the table, of the planner that holds the plan in K's bytes
 tableOfK
     : map (λ (r : Line). at (r .duration) (checkAnswer (after (load bytesK ∷ [])) (r .duration)) (slackAnswer (after (load bytesK ∷ [])) 1 (r .duration))) table
     ≡ table
-unfolding bytesK table after afterFrom loadLeaves noPlan readPlan readFrom blank stepAt fieldAt fieldIn headerIn portInValue flowIn number2 number4 sizeAt wholeAt valueAt numbers2 routeIn repeats every distinct elem taken fieldRepeats store added closing absentFrom namesAbsent checkAnswer slackAnswer validPlan validPort validFlow allTo anyTo sublist admissible failing lowestFailing lowest countTo fails crossed capacity window workload demand sumTo frames begun stretch ceilDiv wireBits slack
+unfolding bytesK table after afterFrom loadLeaves noPlan readPlan readAs readFrom blank stepAt fieldAt fieldIn headerIn portInValue flowIn number2 number4 sizeAt wholeAt valueAt numbers2 routePorts routeIn repeats every distinct elem store added closing firstFrom namesAbsent checkAnswer slackAnswer validPlan validPort validFlow allTo anyTo sublist admissible failing lowestFailing lowest countTo fails crossed capacity window workload demand sumTo frames begun stretch ceilDiv wireBits slack
 tableOfK = refl
 
 -- a field cut short is 2 at its tag, whatever the tag
 cutShort : loadAnswer (0x04 ∷ 0x00 ∷ 0x01 ∷ []) ≡ refusal 2 (0 ∷ [])
-unfolding loadAnswer readPlan readFrom blank stepAt fieldAt fieldIn headerIn portInValue flowIn number2 number4 sizeAt wholeAt valueAt numbers2 routeIn every
+unfolding loadAnswer readPlan readAs readFrom blank stepAt fieldAt fieldIn headerIn portInValue flowIn number2 number4 sizeAt wholeAt valueAt numbers2 routePorts routeIn every
 cutShort = refl

@@ -2,30 +2,30 @@
 use Prim.Native.Nat.{ℕ, _≤_, _<_}
 use mathlib.Core.Path.{_≡_}
 use mathlib.Core.List.{List}
-use mathlib.Core.Bool.{or-true}
+use mathlib.Core.Bool.{true, false, not, or-true}
 use borrow.Author.Tests.{eq-eqb, ne-eqb, lt-ltb, le-ltb}
-use lib.Dec.{eqb}
 use lib.ListN.{length}
-use Rattle.plan.specs.Draft.{Draft}
-use Rattle.plan.specs.Reading.{accepted, rejected, absentFrom, closing}
+use Rattle.plan.specs.Key.{headerKey}
+use Rattle.plan.specs.Draft.{Draft, hasKey}
+use Rattle.plan.specs.Reading.{accepted, rejected, firstField, namesAbsent, closing}
 
 module _ (s : List ℕ) (d : Draft) where
   -- no header, or no flow
-  pub close-headless : d .tables .top ≡ 0 → closing s d ≡ rejected 8 (length s)
+  pub close-headless : hasKey d headerKey ≡ false → closing s d ≡ rejected 8 (length s)
   unfolding closing
-  close-headless e = rw (eq-eqb _ _ e)
+  close-headless e = rw e
 
   pub close-flowless : d .flows ≡ 0 → closing s d ≡ rejected 8 (length s)
   unfolding closing
-  close-flowless e = rw (eq-eqb _ _ e, or-true (eqb (d .tables .top) 0))
+  close-flowless e = rw (eq-eqb _ _ e, or-true (not (hasKey d headerKey)))
 
   -- both are there: the first flow that names an absent port decides
-  module _ (h : d .tables .top ≡ 0 → ⊥) (g : d .flows ≡ 0 → ⊥) where
-    pub close-absent : absentFrom (length s) s 0 (d .tables .rates) < length s
-        → closing s d ≡ rejected 9 (absentFrom (length s) s 0 (d .tables .rates))
+  module _ (h : hasKey d headerKey ≡ true) (g : d .flows ≡ 0 → ⊥) where
+    pub close-absent : firstField (namesAbsent (d .tables .rates)) s < length s
+        → closing s d ≡ rejected 9 (firstField (namesAbsent (d .tables .rates)) s)
     unfolding closing
-    close-absent l = rw (ne-eqb _ _ h, ne-eqb _ _ g, lt-ltb _ _ l)
+    close-absent l = rw (h, ne-eqb _ _ g, lt-ltb _ _ l)
 
-    pub close-accepted : length s ≤ absentFrom (length s) s 0 (d .tables .rates) → closing s d ≡ accepted (d .tables) (d .ports) (d .flows)
+    pub close-accepted : length s ≤ firstField (namesAbsent (d .tables .rates)) s → closing s d ≡ accepted (d .tables) (d .ports) (d .flows)
     unfolding closing
-    close-accepted l = rw (ne-eqb _ _ h, ne-eqb _ _ g, le-ltb _ _ l)
+    close-accepted l = rw (h, ne-eqb _ _ g, le-ltb _ _ l)

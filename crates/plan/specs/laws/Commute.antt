@@ -1,153 +1,129 @@
--- Two fields that a plan may hold together are stored in either order.
+-- Two fields of different keys are stored in either order: column by column, what each puts there stands where its key says.
 use mathlib.Core.Path.{_≡_, refl, sym, _∙_}
-use mathlib.Core.Logic.{_≢_, _⊎_, inl, inr}
+use mathlib.Core.Logic.{_≢_}
 use mathlib.Core.List.{List}
-use mathlib.Core.Bool.{false, true≢false}
-use Prim.Native.Nat.{ℕ, _+_, _-_, _*_, _≤_, _<_}
+use mathlib.Core.Bool.{true, false, true≢false}
+use mathlib.Core.Option.{none}
+use Prim.Native.Nat.{ℕ, _+_, _-_, _*_, _≤_}
 use native.Mathlib.Omega.{arith}
-use native.Mathlib.Decide.{decLt}
-use lib.Dec.{ltb}
-use lib.ListN.{length}
+use lib.ListN.{length, getD}
 use lib.Seq.{set-comm, getD-set-same, getD-set-other}
 use borrow.Author.Tests.{lt-ltb}
-use Rattle.cqf.specs.Limits.{portSlots, flowSlots, maxHops, routeStride}
+use Rattle.cqf.specs.Limits.{portSlots, flowSlots, routeStride, portOk, flowOk}
 use Rattle.cqf.specs.Plan.{Plan}
-use Rattle.plan.specs.Field.{Field, header, port, flow, routeIn}
-use Rattle.plan.specs.Draft.{Draft, taken, store, added, portsIn, flowsIn}
-use Rattle.plan.specs.laws.Passes.{FlowPasses, Passes}
-use Rattle.plan.specs.laws.Route.{route-length}
-use Rattle.plan.specs.laws.Within.{within-low, within-high, slot-below}
-use Rattle.plan.specs.laws.Stores.{sets-comm}
-use Rattle.plan.specs.laws.Tables.{Sized}
+use Rattle.plan.specs.Field.{Field}
+use Rattle.plan.specs.Key.{headerKey, portKeys, flowKeys, keySlots, keyOf}
+use Rattle.plan.specs.Put.{keep, put, given}
+use Rattle.plan.specs.Store.{headerNumber, portNumber, flowNumber, putsRoute, store}
+use Rattle.plan.specs.Draft.{Draft, taken, added, portsIn, flowsIn}
+use Rattle.plan.specs.Ranges.{NumbersOk, RouteFits}
+use Rattle.plan.specs.laws.Within.{within-low, within-high}
+use Rattle.plan.specs.laws.Kinds.{of-header, of-port, of-flow, key-below}
+use Rattle.plan.specs.laws.Puts.{Block, Placed, put-comm, Owned, given-comm}
 
--- two fields that are not two headers, nor two ports or two flows of one slot
-abbrev pub Apart : Field → Field → Type 0
-Apart (header g t) (header g′ t′) = ⊥
-Apart (header g t) (port n r b) = Unit {0}
-Apart (header g t) (flow n p c l h) = Unit {0}
-Apart (port n r b) (header g t) = Unit {0}
-Apart (port n r b) (port n′ r′ b′) = n - 1 ≢ n′ - 1
-Apart (port n r b) (flow n′ p c l h) = Unit {0}
-Apart (flow n p c l h) (header g t) = Unit {0}
-Apart (flow n p c l h) (port n′ r b) = Unit {0}
-Apart (flow n p c l h) (flow n′ p′ c′ l′ h′) = n - 1 ≢ n′ - 1
-
-pub apart-sym : (x y : Field) → Apart x y → Apart y x
-apart-sym (header g t) (header g′ t′) a = a
-apart-sym (header g t) (port n r b) a = tt
-apart-sym (header g t) (flow n p c l h) a = tt
-apart-sym (port n r b) (header g t) a = tt
-apart-sym (port n r b) (port n′ r′ b′) a = λ e. a (sym e)
-apart-sym (port n r b) (flow n′ p c l h) a = tt
-apart-sym (flow n p c l h) (header g t) a = tt
-apart-sym (flow n p c l h) (port n′ r b) a = tt
-apart-sym (flow n p c l h) (flow n′ p′ c′ l′ h′) a = λ e. a (sym e)
-
--- test 6 of one does not see the other
-pub taken-apart : (p : Plan) (x y : Field) (v : List ℕ) → Apart x y → taken (store p x v) y ≡ taken p y
-unfolding taken store
-taken-apart p (header g t) (header g′ t′) v a = absurd a
-taken-apart p (header g t) (port n r b) v a = refl
-taken-apart p (header g t) (flow n o c l h) v a = refl
-taken-apart p (port n r b) (header g t) v a = refl
-taken-apart p (port n r b) (port n′ r′ b′) v a = rw (getD-set-other (p .rates) (n - 1) (n′ - 1) r 0 (λ e. a (sym e)))
-taken-apart p (port n r b) (flow n′ o c l h) v a = refl
-taken-apart p (flow n o c l h) (header g t) v a = refl
-taken-apart p (flow n o c l h) (port n′ r b) v a = refl
-taken-apart p (flow n o c l h) (flow n′ o′ c′ l′ h′) v a = rw (getD-set-other (p .periods) (n - 1) (n′ - 1) o 0 (λ e. a (sym e)))
-
--- a number of 1 or more passes test 6's test
-above : (n : ℕ) → 0 < n → ltb 0 n ≡ false → ⊥
-above n l e = true≢false (sym (lt-ltb 0 n l) ∙ e)
-
--- fields of which neither is refused for the other are apart
-pub fresh-apart
-    : (p : Plan) (tag tag′ : ℕ) (v w : List ℕ) (x y : Field)
-    → Sized p
-    → Passes tag v x
-    → Passes tag′ w y
-    → taken (store p x v) y ≡ false
-    → Apart x y
-unfolding taken store
-fresh-apart p tag tag′ v w (header g t) (header g′ t′) s k m e = above t (within-low _ _ t (k .ok .top)) e
-fresh-apart p tag tag′ v w (header g t) (port n r b) s k m e = tt
-fresh-apart p tag tag′ v w (header g t) (flow n o c l h) s k m e = tt
-fresh-apart p tag tag′ v w (port n r b) (header g t) s k m e = tt
-fresh-apart p tag tag′ v w (port n r b) (port n′ r′ b′) s k m e = apart
-  where
-    apart : n - 1 ≢ n′ - 1
-    apart same =
-        let fits = slot-below portSlots n (k .ok .number) in
-        above r (within-low _ _ r (k .ok .rate))
-        (rw (← same, getD-set-same (p .rates) (n - 1) r 0 (rw (s .rates) fits)) at e)
-fresh-apart p tag tag′ v w (port n r b) (flow n′ o c l h) s k m e = tt
-fresh-apart p tag tag′ v w (flow n o c l h) (header g t) s k m e = tt
-fresh-apart p tag tag′ v w (flow n o c l h) (port n′ r b) s k m e = tt
-fresh-apart p tag tag′ v w (flow n o c l h) (flow n′ o′ c′ l′ h′) s k m e = apart
-  where
-    apart : n - 1 ≢ n′ - 1
-    apart same =
-        let fits = slot-below flowSlots n (k .ok .number) in
-        above o (omega (arith, within-low _ _ o (k .ok .period)))
-        (rw (← same, getD-set-same (p .periods) (n - 1) o 0 (rw (s .periods) fits)) at e)
-
--- the route of a flow that passes fits its slot
-short-route : (tag n o c l h : ℕ) (v : List ℕ) → FlowPasses tag v n o c l h → length (routeIn v) ≤ maxHops
-short-route tag n o c l h v k =
-    omega (arith, route-length v, k .hops, within-high _ _ h (k .ok .hops))
-
--- routes of two slots do not meet
-routes-apart
-    : (i j : ℕ) (v w : List ℕ)
-    → i ≢ j
-    → length v ≤ maxHops
-    → length w ≤ maxHops
-    → (i * routeStride + length v ≤ j * routeStride) ⊎ (j * routeStride + length w ≤ i * routeStride)
-routes-apart i j v w ne a b = go (decLt i j)
-  where
-    go : Dec (i < j) → (i * routeStride + length v ≤ j * routeStride) ⊎ (j * routeStride + length w ≤ i * routeStride)
-    go (yes less) = inl (omega arith)
-    go (no more) = let less : j < i = omega arith in inr (omega arith)
-
--- the order of two fields that are apart is free
-pub store-comm
-    : (p : Plan) (tag tag′ : ℕ) (v w : List ℕ) (x y : Field)
-    → Passes tag v x
-    → Passes tag′ w y
-    → Apart x y
-    → store (store p x v) y w ≡ store (store p y w) x v
-unfolding store
-store-comm p tag tag′ v w (header g t) (header g′ t′) k m a = absurd a
-store-comm p tag tag′ v w (header g t) (port n r b) k m a = refl
-store-comm p tag tag′ v w (header g t) (flow n o c l h) k m a = refl
-store-comm p tag tag′ v w (port n r b) (header g t) k m a = refl
-store-comm p tag tag′ v w (port n r b) (port n′ r′ b′) k m a =
-    rw (set-comm (p .rates) (n - 1) (n′ - 1) r r′ a, set-comm (p .blockings) (n - 1) (n′ - 1) b b′ a)
-store-comm p tag tag′ v w (port n r b) (flow n′ o c l h) k m a = refl
-store-comm p tag tag′ v w (flow n o c l h) (header g t) k m a = refl
-store-comm p tag tag′ v w (flow n o c l h) (port n′ r b) k m a = refl
-store-comm p tag tag′ v w (flow n o c l h) (flow n′ o′ c′ l′ h′) k m a =
-    let apart =
-    routes-apart (n - 1) (n′ - 1) (routeIn v) (routeIn w) a
-    (short-route tag n o c l h v k)
-    (short-route tag′ n′ o′ c′ l′ h′ w m) in
-    rw (
-      set-comm (p .periods) (n - 1) (n′ - 1) o o′ a,
-      set-comm (p .counts) (n - 1) (n′ - 1) c c′ a,
-      set-comm (p .lengths) (n - 1) (n′ - 1) l l′ a,
-      set-comm (p .hops) (n - 1) (n′ - 1) h h′ a,
-      sets-comm (p .routes) ((n - 1) * routeStride) (routeIn v) ((n′ - 1) * routeStride) (routeIn w) apart,
-    )
-
-pub added-comm
-    : (d : Draft) (tag tag′ : ℕ) (v w : List ℕ) (x y : Field)
-    → Passes tag v x
-    → Passes tag′ w y
-    → Apart x y
-    → added (added d x v) y w ≡ added (added d y w) x v
+-- test 6 of one does not see another of a different key
+pub taken-apart : (d : Draft) (x y : Field) (r : List ℕ) → keyOf x ≢ keyOf y → taken (added d x r) y ≡ taken d y
 unfolding added
-added-comm d tag tag′ v w x y k m a =
-    let ports : d .ports + portsIn x + portsIn y ≡ d .ports + portsIn y + portsIn x = omega arith in
-    let flows : d .flows + flowsIn x + flowsIn y ≡ d .flows + flowsIn y + flowsIn x = omega arith in
-    let tables = store-comm (d .tables) tag tag′ v w x y k m a in
-    λ i. record { tables = tables i; ports = ports i; flows = flows i }
+taken-apart d x y r differ = rw (getD-set-other (d .seen) (keyOf x) (keyOf y) 1 0 (λ e. differ (sym e)))
+
+-- fields of which neither is refused for the other have different keys
+pub fresh-apart
+    : (d : Draft) (x y : Field) (r : List ℕ)
+    → length (d .seen) ≡ keySlots
+    → NumbersOk x
+    → taken (added d x r) y ≡ false
+    → keyOf x ≢ keyOf y
+unfolding added
+fresh-apart d x y r sized k e same =
+    let fits = key-below x k in
+    let here = getD-set-same (d .seen) (keyOf x) 1 0 (omega arith) in
+    true≢false (rw (← same, here) at e)
+
+-- the blocks of a port's and of a flow's columns
+port-block : (n : ℕ) → portOk n ≡ true → Block portKeys 1 (headerKey + n) (n - 1) 1
+port-block n ok =
+    let low = within-low 1 portSlots n ok in
+    record { owned = omega arith; here = omega arith; fits = omega arith }
+
+flow-block : (n i width m : ℕ) → flowOk n ≡ true → i ≡ (n - 1) * width → m ≤ width → Block flowKeys width (portSlots + n) i m
+flow-block n i width m ok here fits =
+    let low = within-low 1 flowSlots n ok in
+    let slot : portSlots + n - flowKeys ≡ n - 1 = omega arith in
+    record { owned = omega arith; here = rw slot here; fits = fits }
+
+-- where what a field puts stands: a number of the header, of a port, of a flow, and the route
+header-owned : (which : (guard top : ℕ) → ℕ) (x : Field) → NumbersOk x → Owned headerKey (keyOf x) (headerNumber which x)
+header-owned which = of-header (Owned headerKey) none (λ key. tt) _ (λ g t ok. refl)
+
+port-placed : (which : (number rate blocking : ℕ) → ℕ) (x : Field) → NumbersOk x → Placed portKeys 1 (keyOf x) (portNumber which x)
+port-placed which = of-port (Placed portKeys 1) keep (λ key. tt) _ (λ n r b ok. port-block n (ok .number))
+
+flow-placed
+    : (which : (number period count length hops : ℕ) → ℕ) (x : Field) (route : List ℕ)
+    → NumbersOk x
+    → RouteFits x route
+    → Placed flowKeys 1 (keyOf x) (flowNumber which x)
+flow-placed which x route =
+    of-flow (Placed flowKeys 1) keep (λ key. tt) route _
+    (λ n p c l h ok fits. flow-block n (n - 1) 1 1 (ok .number) (omega arith) (omega arith))
+    x
+
+route-placed : (x : Field) (route : List ℕ) → NumbersOk x → RouteFits x route → Placed flowKeys routeStride (keyOf x) (putsRoute route x)
+route-placed x route =
+    of-flow (Placed flowKeys routeStride) keep (λ key. tt) route _
+    (λ n p c l h ok fits.
+    flow-block n ((n - 1) * routeStride) routeStride (length route) (ok .number) refl
+    (omega (arith, fits .hops, within-high _ _ h (ok .hops))))
+    x
+
+-- the order of two fields of different keys is free, in each column and so in the tables
+module _ (x y : Field) (v w : List ℕ) (k : NumbersOk x) (m : NumbersOk y) (a : RouteFits x v) (b : RouteFits y w) (differ : keyOf x ≢ keyOf y) where
+  header-comm : (which : (guard top : ℕ) → ℕ) (n : ℕ) → let u = headerNumber which in given (given n (u x)) (u y) ≡ given (given n (u y)) (u x)
+  header-comm which n =
+      given-comm headerKey (keyOf x) (keyOf y) differ n (headerNumber which x) (headerNumber which y)
+      (header-owned which x k)
+      (header-owned which y m)
+
+  port-comm : (which : (number rate blocking : ℕ) → ℕ) (l : List ℕ) → let u = portNumber which in put (put l (u x)) (u y) ≡ put (put l (u y)) (u x)
+  port-comm which l =
+      put-comm portKeys 1 (keyOf x) (keyOf y) differ l (portNumber which x) (portNumber which y)
+      (port-placed which x k)
+      (port-placed which y m)
+
+  flow-comm
+      : (which : (number period count length hops : ℕ) → ℕ) (l : List ℕ)
+      → let u = flowNumber which in
+      put (put l (u x)) (u y) ≡ put (put l (u y)) (u x)
+  flow-comm which l =
+      put-comm flowKeys 1 (keyOf x) (keyOf y) differ l (flowNumber which x) (flowNumber which y)
+      (flow-placed which x v k a)
+      (flow-placed which y w m b)
+
+  route-comm : (l : List ℕ) → put (put l (putsRoute v x)) (putsRoute w y) ≡ put (put l (putsRoute w y)) (putsRoute v x)
+  route-comm l =
+      put-comm flowKeys routeStride (keyOf x) (keyOf y) differ l (putsRoute v x) (putsRoute w y)
+      (route-placed x v k a)
+      (route-placed y w m b)
+
+  store-comm : (p : Plan) → store (store p x v) y w ≡ store (store p y w) x v
+  unfolding store
+  store-comm p = λ i. record {
+    guard = header-comm (λ guard top. guard) (p .guard) i;
+    top = header-comm (λ guard top. top) (p .top) i;
+    rates = port-comm (λ number rate blocking. rate) (p .rates) i;
+    blockings = port-comm (λ number rate blocking. blocking) (p .blockings) i;
+    periods = flow-comm (λ number period count length hops. period) (p .periods) i;
+    counts = flow-comm (λ number period count length hops. count) (p .counts) i;
+    lengths = flow-comm (λ number period count length hops. length) (p .lengths) i;
+    hops = flow-comm (λ number period count length hops. hops) (p .hops) i;
+    routes = route-comm (p .routes) i;
+  }
+
+  pub added-comm : (d : Draft) → added (added d x v) y w ≡ added (added d y w) x v
+  unfolding added
+  added-comm d =
+      let tables = store-comm (d .tables) in
+      let seen = set-comm (d .seen) (keyOf x) (keyOf y) 1 1 differ in
+      let ports : d .ports + portsIn x + portsIn y ≡ d .ports + portsIn y + portsIn x = omega arith in
+      let flows : d .flows + flowsIn x + flowsIn y ≡ d .flows + flowsIn y + flowsIn x = omega arith in
+      λ i. record { tables = tables i; seen = seen i; ports = ports i; flows = flows i }

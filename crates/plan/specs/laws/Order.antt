@@ -3,17 +3,17 @@ use mathlib.Core.Path.{_≡_, refl, sym, ap, _∙_}
 use mathlib.Core.List.{List, [], _∷_, _++_, flatten, append-assoc, append-nil, List·Permᴰ, List·Permᴰ·nil, List·Permᴰ·cons, List·Permᴰ·swap, List·Permᴰ·trans}
 use Prim.Native.Nat.{ℕ, _+_, _≤_, _<_}
 use native.Mathlib.Omega.{arith}
-use lib.ListN.{length, getD, take, drop, length-append, length-drop, List·getD-append}
+use lib.ListN.{length, getD, take, drop, length-append, length-drop, length-replicate, List·getD-append}
 use lib.Seq.{getD-append-add, drop-append-add, drop-append-le, take-append-le}
 use Rattle.cqf.specs.Plan.{Plan}
 use Rattle.plan.specs.Bytes.{headSize, tagAt, sizeAt, valueAt}
+use Rattle.plan.specs.Key.{keySlots}
 use Rattle.plan.specs.Draft.{Draft, blank, added}
-use Rattle.plan.specs.Reading.{accepted, readPlan}
+use Rattle.plan.specs.Reading.{accepted, routeAt, readPlan}
 use Rattle.plan.specs.FieldOrder.{IsField, AllFields, more, SameFields}
 use Rattle.plan.specs.laws.Passes.{field-passes}
 use Rattle.plan.specs.laws.Walk.{Reads, done, one, accepted-reads, closing-accepted}
-use Rattle.plan.specs.laws.Tables.{Sized, sized-none}
-use Rattle.plan.specs.laws.Stored.{Stored, nothing, next, stored-once, stored-permuted}
+use Rattle.plan.specs.laws.Stored.{Stored, nothing, next, Flagged, stored-once, stored-permuted}
 
 -- a whole field between other bytes has the tag, the length and the value that it has by itself
 module _ (front b rest : List ℕ) (is : IsField b) where
@@ -61,7 +61,7 @@ walk-stored (b ∷ bs) s front at d e p q (more is h) (one x after less stands f
     let ends : after ≡ length (front ++ b) = omega (arith, r .follows, length-append front b, is .whole) in
     Stored.next {d = d} {e = e} x (rw (tag, value) at (r .passes)) fresh
     (rw value at
-    (walk-stored bs s (front ++ b) after (added d x (valueAt s at)) e (p ∙ sym (append-assoc front b (flatten bs))) ends h rest))
+    (walk-stored bs s (front ++ b) after (added d x (routeAt s at)) e (p ∙ sym (append-assoc front b (flatten bs))) ends h rest))
 
 -- a permutation of whole fields is one
 all-permuted : {bs cs : List (List ℕ)} → List·Permᴰ bs cs → AllFields bs → AllFields cs
@@ -79,9 +79,9 @@ accepted-stored
     → Stored bs blank d
 accepted-stored bs s d p h reads = walk-stored bs s [] 0 blank d p refl h reads
 
-sized-blank : Sized (blank .tables)
+flagged-blank : Flagged blank
 unfolding blank
-sized-blank = sized-none
+flagged-blank = length-replicate {A = ℕ} keySlots 0
 
 -- the same tables, and the same numbers of port and flow fields
 pub field-order
@@ -99,7 +99,7 @@ field-order s t same p q m n k l left right =
     let first = accepted-stored (same .first) s (a .final) (same .bytes-first) (same .fields) (a .walk) in
     let fields = all-permuted (same .permuted) (same .fields) in
     let second = accepted-stored (same .second) t (b .final) (same .bytes-second) fields (b .walk) in
-    let final : a .final ≡ b .final = stored-once (stored-permuted blank (a .final) (same .permuted) sized-blank first) second in (
+    let final : a .final ≡ b .final = stored-once (stored-permuted blank (a .final) (same .permuted) flagged-blank first) second in (
       sym (c .plan) ∙ ap (λ (e : Draft). e .tables) final ∙ d .plan,
       sym (c .ports-read) ∙ ap (λ (e : Draft). e .ports) final ∙ d .ports-read,
       sym (c .flows-read) ∙ ap (λ (e : Draft). e .flows) final ∙ d .flows-read,

@@ -1,5 +1,5 @@
 -- What the tests 2 to 5 leave of a field: where it stands, its numbers and their ranges.
-use mathlib.Core.Path.{_≡_, refl, subst}
+use mathlib.Core.Path.{_≡_, refl, sym, _∙_, subst}
 use mathlib.Core.List.{List}
 use mathlib.Core.Bool.{Bool, true, false, cond, _&&_, and-eq-true-iff}
 use Prim.Native.Nat.{ℕ, _+_, _*_}
@@ -11,37 +11,27 @@ use Rattle.cqf.specs.Bounded.{every}
 use Rattle.cqf.specs.Limits.{guardOk, topOk, portOk, rateOk, lengthOk, blockingOk, flowOk, periodOk, countOk, hopsOk}
 use Rattle.plan.specs.Bytes.{number2, number4, headSize, tagAt, sizeAt, wholeAt, valueAt}
 use Rattle.plan.specs.Field.{Field, header, port, flow, FieldRead, field, refused, unless, headerTag, portTag, flowTag, headerSize, portSize, flowSize, hopsIn, routeIn, headerIn, portInValue, flowIn, fieldIn, fieldAt}
-use Rattle.plan.specs.Ranges.{HeaderOk, PortOk, FlowOk}
+use Rattle.plan.specs.Ranges.{NumbersOk, RouteFits}
+use Rattle.plan.specs.laws.Route.{value-hops}
 
--- the numbers of a header, a port and a flow are those of the value, in range
-pub record HeaderPasses (tag : ℕ) (v : List ℕ) (g t : ℕ) : Type 0 where
-  pub kind : tag ≡ headerTag
-  pub guard : g ≡ number4 v 0
-  pub top : t ≡ number4 v 4
-  pub ok : HeaderOk g t
+-- the tag of a field, and the field whose numbers stand in a value of this tag
+abbrev pub tagOf : Field → ℕ
+tagOf (header g t) = headerTag
+tagOf (port n r b) = portTag
+tagOf (flow n p c l h) = flowTag
 
-pub record PortPasses (tag : ℕ) (v : List ℕ) (n r b : ℕ) : Type 0 where
-  pub kind : tag ≡ portTag
-  pub number : n ≡ number2 v 0
-  pub rate : r ≡ number4 v 2
-  pub blocking : b ≡ number2 v 6
-  pub ok : PortOk n r b
-
-pub record FlowPasses (tag : ℕ) (v : List ℕ) (n p c l h : ℕ) : Type 0 where
-  pub kind : tag ≡ flowTag
-  pub number : n ≡ number2 v 0
-  pub period : p ≡ number4 v 2
-  pub count : c ≡ number2 v 6
-  pub bytes : l ≡ number2 v 8
-  pub hops : h ≡ hopsIn (length v)
-  pub ok : FlowOk n p c l h
-  pub ports : every portOk (routeIn v) ≡ true
+abbrev numbersIn : ℕ → List ℕ → Field
+numbersIn tag v =
+    cond (eqb tag headerTag) (header (number4 v 0) (number4 v 4))
+    (cond (eqb tag portTag) (port (number2 v 0) (number4 v 2) (number2 v 6))
+    (flow (number2 v 0) (number4 v 2) (number2 v 6) (number2 v 8) (hopsIn (length v))))
 
 -- field x is the one of this tag and value
-abbrev pub Passes : ℕ → List ℕ → Field → Type 0
-Passes tag v (header g t) = HeaderPasses tag v g t
-Passes tag v (port n r b) = PortPasses tag v n r b
-Passes tag v (flow n p c l h) = FlowPasses tag v n p c l h
+pub record Passes (tag : ℕ) (v : List ℕ) (x : Field) : Type 0 where
+  pub kind : tag ≡ tagOf x
+  pub numbers : numbersIn tag v ≡ x
+  pub ok : NumbersOk x
+  pub route : RouteFits x (routeIn v)
 
 -- the parts of a longer conjunction
 and-three : (a b c : Bool) → a && b && c ≡ true → (a ≡ true) × (b ≡ true) × (c ≡ true)
@@ -79,6 +69,19 @@ read-as
     → Read tag v after x next
 read-as tag v after y {x} h e = record { follows = cc; passes = let z : y ≡ x = cc in subst (Passes tag v) z h }
 
+-- the tag that is tested decides, or the tests of the tags after it do
+by-tag
+    : {A : Type 0} (tag kind : ℕ) (here rest : FieldRead) {x : Field} {next : ℕ}
+    → (tag ≡ kind → here ≡ field x next → A)
+    → (rest ≡ field x next → A)
+    → cond (eqb tag kind) here rest ≡ field x next
+    → A
+by-tag {A} tag kind here rest {x} {next} is other = go (eqb tag kind) refl
+  where
+    go : (b : Bool) → eqb tag kind ≡ b → cond b here rest ≡ field x next → A
+    go true k e = is (eqb-true _ _ k) e
+    go false k e = other e
+
 module _ (tag : ℕ) (v : List ℕ) (at after : ℕ) {x : Field} {next : ℕ} where
   header-read : tag ≡ headerTag → headerIn v at after ≡ field x next → Read tag v after x next
   unfolding headerIn
@@ -87,12 +90,7 @@ module _ (tag : ℕ) (v : List ℕ) (at after : ℕ) {x : Field} {next : ℕ} wh
       let b = unless-passes 5 at (guardOk (number4 v 0) && topOk (number4 v 4)) _ (a .1) in
       let t = and-eq-true-iff (guardOk (number4 v 0)) (topOk (number4 v 4)) .0 (b .0) in
       read-as tag v after (header (number4 v 0) (number4 v 4))
-      (record {
-        kind = k;
-        guard = refl;
-        top = refl;
-        ok = record { guard = t .0; top = t .1 };
-      })
+      (record { kind = k; numbers = rw k; ok = record { guard = t .0; top = t .1 }; route = tt })
       (b .1)
 
   port-read : tag ≡ portTag → portInValue v at after ≡ field x next → Read tag v after x next
@@ -102,13 +100,7 @@ module _ (tag : ℕ) (v : List ℕ) (at after : ℕ) {x : Field} {next : ℕ} wh
       let b = unless-passes 5 at (portOk (number2 v 0) && rateOk (number4 v 2) && blockingOk (number2 v 6)) _ (a .1) in
       let t = and-three (portOk (number2 v 0)) (rateOk (number4 v 2)) (blockingOk (number2 v 6)) (b .0) in
       read-as tag v after (port (number2 v 0) (number4 v 2) (number2 v 6))
-      (record {
-        kind = k;
-        number = refl;
-        rate = refl;
-        blocking = refl;
-        ok = record { number = t .0; rate = t .1; blocking = t .2 };
-      })
+      (record { kind = k; numbers = rw k; ok = record { number = t .0; rate = t .1; blocking = t .2 }; route = tt })
       (b .1)
 
   flow-read : tag ≡ flowTag → flowIn v at after ≡ field x next → Read tag v after x next
@@ -124,41 +116,22 @@ module _ (tag : ℕ) (v : List ℕ) (at after : ℕ) {x : Field} {next : ℕ} wh
       read-as tag v after (flow (number2 v 0) (number4 v 2) (number2 v 6) (number2 v 8) (hopsIn (length v)))
       (record {
         kind = k;
-        number = refl;
-        period = refl;
-        count = refl;
-        bytes = refl;
-        hops = refl;
+        numbers = rw k;
         ok = record { number = t .0; period = t .1; count = t .2; length = t .3; hops = and-eq-true-iff _ _ .0 (a .0) .0 };
-        ports = t .4;
+        route = record { hops = value-hops v; ports = t .4 };
       })
       (b .1)
 
+  unknown : refused 3 at ≡ field x next → Read tag v after x next
+  unknown e = let z : _≡_ {A = ℕ} 0 1 = cc in absurd (omega arith)
+
   field-read : fieldIn tag v at after ≡ field x next → Read tag v after x next
   unfolding fieldIn
-  field-read e = go (eqb tag headerTag) refl e
-    where
-      last : (c : Bool) → eqb tag flowTag ≡ c → cond c (flowIn v at after) (refused 3 at) ≡ field x next → Read tag v after x next
-      last true k e = flow-read (eqb-true _ _ k) e
-      last false k e = let z : _≡_ {A = ℕ} 0 1 = cc in absurd (omega arith)
-
-      middle
-          : (b : Bool)
-          → eqb tag portTag ≡ b
-          → cond b (portInValue v at after) (cond (eqb tag flowTag) (flowIn v at after) (refused 3 at)) ≡ field x next
-          → Read tag v after x next
-      middle true k e = port-read (eqb-true _ _ k) e
-      middle false k e = last (eqb tag flowTag) refl e
-
-      go
-          : (a : Bool)
-          → eqb tag headerTag ≡ a
-          → cond a (headerIn v at after)
-          (cond (eqb tag portTag) (portInValue v at after) (cond (eqb tag flowTag) (flowIn v at after) (refused 3 at)))
-          ≡ field x next
-          → Read tag v after x next
-      go true k e = header-read (eqb-true _ _ k) e
-      go false k e = middle (eqb tag portTag) refl e
+  field-read =
+      by-tag tag headerTag _ _ header-read
+      (by-tag tag portTag _ _ port-read
+      (by-tag tag flowTag _ _ flow-read
+      unknown))
 
 -- a field of the plan is whole, and passes
 pub field-is-whole : (s : List ℕ) (at : ℕ) (x : Field) (next : ℕ) → fieldAt s at ≡ field x next → wholeAt s at ≡ true
@@ -174,13 +147,4 @@ field-passes s at x next e = field-read (tagAt s at) (valueAt s at) at _ (unless
 
 -- a tag and a value are those of one field
 pub passes-once : (tag : ℕ) (v : List ℕ) (x y : Field) → Passes tag v x → Passes tag v y → x ≡ y
-passes-once tag v (header g t) (header g′ t′) a b = cc (a .guard, b .guard, a .top, b .top)
-passes-once tag v (port n r k) (port n′ r′ k′) a b = cc (a .number, b .number, a .rate, b .rate, a .blocking, b .blocking)
-passes-once tag v (flow n p c l h) (flow n′ p′ c′ l′ h′) a b =
-    cc (a .number, b .number, a .period, b .period, a .count, b .count, a .bytes, b .bytes, a .hops, b .hops)
-passes-once tag v (header g t) (port n r k) a b = absurd (omega (arith, a .kind, b .kind))
-passes-once tag v (header g t) (flow n p c l h) a b = absurd (omega (arith, a .kind, b .kind))
-passes-once tag v (port n r k) (header g t) a b = absurd (omega (arith, a .kind, b .kind))
-passes-once tag v (port n r k) (flow n′ p c l h) a b = absurd (omega (arith, a .kind, b .kind))
-passes-once tag v (flow n p c l h) (header g t) a b = absurd (omega (arith, a .kind, b .kind))
-passes-once tag v (flow n p c l h) (port n′ r k) a b = absurd (omega (arith, a .kind, b .kind))
+passes-once tag v x y a b = sym (a .numbers) ∙ b .numbers

@@ -9,22 +9,22 @@ use lib.Dec.{leb}
 use lib.ListN.{length}
 use Rattle.cqf.specs.Bounded.{within}
 use Rattle.plan.specs.Draft.{blank}
-use Rattle.plan.specs.Reading.{rejected, maxBytes, readFrom, readPlan}
+use Rattle.plan.specs.Reading.{rejected, Mode, maxBytes, readFrom, readAs}
 
-module _ (s : List ℕ) where
-  refused-size : within 1 maxBytes (length s) ≡ false → readPlan s ≡ rejected 1 0
-  unfolding readPlan
-  refused-size e = rw (e, readPlan)
+module _ (mode : Mode) (s : List ℕ) where
+  refused-size : within 1 maxBytes (length s) ≡ false → readAs mode s ≡ rejected 1 0
+  unfolding readAs
+  refused-size e = rw (e, readAs)
 
-  pub read-empty : length s ≡ 0 → readPlan s ≡ rejected 1 0
+  pub read-empty : length s ≡ 0 → readAs mode s ≡ rejected 1 0
   read-empty e = refused-size (ap (within 1 maxBytes) e)
 
-  pub read-long : maxBytes < length s → readPlan s ≡ rejected 1 0
+  pub read-long : maxBytes < length s → readAs mode s ≡ rejected 1 0
   read-long h = refused-size (rw (lt-leb (length s) maxBytes h) (and-false (leb 1 (length s))))
 
-  pub read-sized : (length s ≡ 0 → ⊥) → length s ≤ maxBytes → readPlan s ≡ readFrom (length s) s 0 blank
-  unfolding readPlan
+  pub read-sized : (length s ≡ 0 → ⊥) → length s ≤ maxBytes → readAs mode s ≡ readFrom mode (length s) s 0 blank
+  unfolding readAs
   read-sized n h =
       let g : 1 ≤ length s = omega arith in
       let e : within 1 maxBytes (length s) ≡ true = rw (le-leb 1 (length s) g) (le-leb (length s) maxBytes h) in
-      rw (e, readPlan)
+      rw (e, readAs)

@@ -7,53 +7,53 @@ use native.Mathlib.Omega.{arith}
 use borrow.Author.Tests.{lt-ltb, le-ltb, ltb-true, ltb-false}
 use lib.Dec.{ltb}
 use lib.ListN.{length}
-use Rattle.plan.specs.Bytes.{headSize, valueAt}
+use Rattle.plan.specs.Bytes.{headSize}
 use Rattle.plan.specs.Field.{Field, header, port, flow, FieldRead, field, refused, fieldAt}
 use Rattle.plan.specs.Draft.{Draft, taken, fieldRepeats, added, portsIn, flowsIn}
-use Rattle.plan.specs.Reading.{rejected, Step, stop, more, fieldStep, stepAt, closing, readFrom}
+use Rattle.plan.specs.Reading.{rejected, Mode, Step, stop, more, routeAt, fieldStep, stepAt, closing, readFrom}
 use Rattle.plan.specs.laws.Found.{found-forward, found-within}
 
 -- a field that tests 2 to 5 refuse
-pub step-refused : (s : List ℕ) (at : ℕ) (d : Draft) (n o : ℕ) → fieldAt s at ≡ refused n o → stepAt s at d ≡ stop n o
+pub step-refused : (mode : Mode) (s : List ℕ) (at : ℕ) (d : Draft) (n o : ℕ) → fieldAt s at ≡ refused n o → stepAt mode s at d ≡ stop n o
 unfolding stepAt
-step-refused s at d n o f = ap (fieldStep s at d) f
+step-refused mode s at d n o f = ap (fieldStep mode s at d) f
 
 -- the tests 6 and 7 of any other, and what it adds
-module _ (s : List ℕ) (at : ℕ) (d : Draft) (x : Field) (m : ℕ) (f : fieldAt s at ≡ field x m) where
-  passed : stepAt s at d ≡ fieldStep s at d (field x m)
+module _ (mode : Mode) (s : List ℕ) (at : ℕ) (d : Draft) (x : Field) (m : ℕ) (f : fieldAt s at ≡ field x m) where
+  passed : stepAt mode s at d ≡ fieldStep mode s at d (field x m)
   unfolding stepAt
-  passed = ap (fieldStep s at d) f
+  passed = ap (fieldStep mode s at d) f
 
-  pub step-taken : taken (d .tables) x ≡ true → stepAt s at d ≡ stop 6 at
+  pub step-taken : taken d x ≡ true → stepAt mode s at d ≡ stop 6 at
   step-taken e = passed ∙ rw e
 
-  pub step-repeats : taken (d .tables) x ≡ false → fieldRepeats x (valueAt s at) ≡ true → stepAt s at d ≡ stop 7 at
+  pub step-repeats : taken d x ≡ false → fieldRepeats x (routeAt s at) ≡ true → stepAt mode s at d ≡ stop 7 at
   step-repeats e g = passed ∙ rw (e, g)
 
-  pub step-added : taken (d .tables) x ≡ false → fieldRepeats x (valueAt s at) ≡ false → stepAt s at d ≡ more m (added d x (valueAt s at))
+  pub step-added : taken d x ≡ false → fieldRepeats x (routeAt s at) ≡ false → stepAt mode s at d ≡ more m (added d x (routeAt s at))
   step-added e g = passed ∙ rw (e, g)
 
 -- a field that was not refused
 pub record StepOutcome (s : List ℕ) (at : ℕ) (d : Draft) (next : ℕ) (e : Draft) : Type 0 where
   pub part : Field
   pub stands : fieldAt s at ≡ field part next
-  pub fresh : taken (d .tables) part ≡ false
-  pub no-repeat : fieldRepeats part (valueAt s at) ≡ false
-  pub adds : added d part (valueAt s at) ≡ e
+  pub fresh : taken d part ≡ false
+  pub no-repeat : fieldRepeats part (routeAt s at) ≡ false
+  pub adds : added d part (routeAt s at) ≡ e
 
-pub step-more : (s : List ℕ) (at : ℕ) (d : Draft) (next : ℕ) (e : Draft) → stepAt s at d ≡ more next e → StepOutcome s at d next e
+pub step-more : (mode : Mode) (s : List ℕ) (at : ℕ) (d : Draft) (next : ℕ) (e : Draft) → stepAt mode s at d ≡ more next e → StepOutcome s at d next e
 unfolding stepAt
-step-more s at d next e h = go (fieldAt s at) refl h
+step-more mode s at d next e h = go (fieldAt s at) refl h
   where
-    go : (r : FieldRead) → fieldAt s at ≡ r → fieldStep s at d r ≡ more next e → StepOutcome s at d next e
+    go : (r : FieldRead) → fieldAt s at ≡ r → fieldStep mode s at d r ≡ more next e → StepOutcome s at d next e
     go (refused number offset) q h = let z : _≡_ {A = ℕ} 0 1 = cc in absurd (omega arith)
-    go (field x after) q h = six (taken (d .tables) x) refl h
+    go (field x after) q h = six (taken d x) refl h
       where
         seven
-            : taken (d .tables) x ≡ false
+            : taken d x ≡ false
             → (b : Bool)
-            → fieldRepeats x (valueAt s at) ≡ b
-            → cond b (stop 7 at) (more after (added d x (valueAt s at))) ≡ more next e
+            → fieldRepeats x (routeAt s at) ≡ b
+            → cond b (stop 7 at) (more after (added d x (routeAt s at))) ≡ more next e
             → StepOutcome s at d next e
         seven t true l h = let z : _≡_ {A = ℕ} 0 1 = cc in absurd (omega arith)
         seven t false l h =
@@ -62,11 +62,11 @@ step-more s at d next e h = go (fieldAt s at) refl h
 
         six
             : (b : Bool)
-            → taken (d .tables) x ≡ b
-            → cond b (stop 6 at) (cond (fieldRepeats x (valueAt s at)) (stop 7 at) (more after (added d x (valueAt s at)))) ≡ more next e
+            → taken d x ≡ b
+            → cond b (stop 6 at) (cond (fieldRepeats x (routeAt s at)) (stop 7 at) (more after (added d x (routeAt s at)))) ≡ more next e
             → StepOutcome s at d next e
         six true t h = let z : _≡_ {A = ℕ} 0 1 = cc in absurd (omega arith)
-        six false t h = seven t (fieldRepeats x (valueAt s at)) refl h
+        six false t h = seven t (fieldRepeats x (routeAt s at)) refl h
 
 -- a step that goes on reaches a later offset within the plan, and has counted one field more at the most
 pub record Onward (s : List ℕ) (at : ℕ) (d : Draft) (next : ℕ) (d′ : Draft) : Type 0 where
@@ -86,10 +86,10 @@ flowsIn-one (header g t) = omega arith
 flowsIn-one (port n r b) = omega arith
 flowsIn-one (flow n p c l h) = omega arith
 
-pub onward : (s : List ℕ) (at : ℕ) (d : Draft) (next : ℕ) (d′ : Draft) → stepAt s at d ≡ more next d′ → Onward s at d next d′
+pub onward : (mode : Mode) (s : List ℕ) (at : ℕ) (d : Draft) (next : ℕ) (d′ : Draft) → stepAt mode s at d ≡ more next d′ → Onward s at d next d′
 unfolding added
-onward s at d next d′ e =
-    let t = step-more s at d next d′ e in
+onward mode s at d next d′ e =
+    let t = step-more mode s at d next d′ e in
     let ep : d .ports + portsIn (t .part) ≡ d′ .ports = ap (λ (y : Draft). y .ports) (t .adds) in
     let ef : d .flows + flowsIn (t .part) ≡ d′ .flows = ap (λ (y : Draft). y .flows) (t .adds) in
     record {
@@ -99,48 +99,48 @@ onward s at d next d′ e =
       flows = omega (arith, flowsIn-one (t .part));
     }
 
-module _ (s : List ℕ) (at : ℕ) (d : Draft) where
+module _ (mode : Mode) (s : List ℕ) (at : ℕ) (d : Draft) where
   -- at the plan's end, whatever number of steps is left
-  pub read-end : (n : ℕ) → length s ≤ at → readFrom n s at d ≡ closing s d
+  pub read-end : (n : ℕ) → length s ≤ at → readFrom mode n s at d ≡ closing s d
   unfolding readFrom
   read-end zero h = refl
   read-end (suc n) h = rw (le-ltb at (length s) h, readFrom)
 
-  stop-one : (n : ℕ) (k o : ℕ) → at < length s → stepAt s at d ≡ stop k o → readFrom (suc n) s at d ≡ rejected k o
+  stop-one : (n : ℕ) (k o : ℕ) → at < length s → stepAt mode s at d ≡ stop k o → readFrom mode (suc n) s at d ≡ rejected k o
   unfolding readFrom
   stop-one n k o h e = rw (lt-ltb at (length s) h, e, readFrom)
 
-  more-one : (n : ℕ) (next : ℕ) (d′ : Draft) → at < length s → stepAt s at d ≡ more next d′ → readFrom (suc n) s at d ≡ readFrom n s next d′
+  more-one : (n : ℕ) (next : ℕ) (d′ : Draft) → at < length s → stepAt mode s at d ≡ more next d′ → readFrom mode (suc n) s at d ≡ readFrom mode n s next d′
   unfolding readFrom
   more-one n next d′ h e = rw (lt-ltb at (length s) h, e, readFrom)
 
 -- any number of steps that is no less than the bytes left gives the same reading
-pub read-enough : (n m : ℕ) (s : List ℕ) (at : ℕ) (d : Draft) → length s ≤ at + n → length s ≤ at + m → readFrom n s at d ≡ readFrom m s at d
-read-enough zero m s at d h g = read-end s at d zero (omega arith) ∙ sym (read-end s at d m (omega arith))
-read-enough (suc n) zero s at d h g = read-end s at d (suc n) (omega arith) ∙ sym (read-end s at d zero (omega arith))
-read-enough (suc n) (suc m) s at d h g = by-end (λ next d′. read-enough n m s next d′) (ltb at (length s)) refl
+pub read-enough : (mode : Mode) (n m : ℕ) (s : List ℕ) (at : ℕ) (d : Draft) → length s ≤ at + n → length s ≤ at + m → readFrom mode n s at d ≡ readFrom mode m s at d
+read-enough mode zero m s at d h g = read-end mode s at d zero (omega arith) ∙ sym (read-end mode s at d m (omega arith))
+read-enough mode (suc n) zero s at d h g = read-end mode s at d (suc n) (omega arith) ∙ sym (read-end mode s at d zero (omega arith))
+read-enough mode (suc n) (suc m) s at d h g = by-end (λ next d′. read-enough mode n m s next d′) (ltb at (length s)) refl
   where
     Rest : Type 0
-    Rest = (next : ℕ) (d′ : Draft) → length s ≤ next + n → length s ≤ next + m → readFrom n s next d′ ≡ readFrom m s next d′
+    Rest = (next : ℕ) (d′ : Draft) → length s ≤ next + n → length s ≤ next + m → readFrom mode n s next d′ ≡ readFrom mode m s next d′
 
-    by-step : Rest → (r : Step) → stepAt s at d ≡ r → at < length s → readFrom (suc n) s at d ≡ readFrom (suc m) s at d
-    by-step rest (stop k o) e l = stop-one s at d n k o l e ∙ sym (stop-one s at d m k o l e)
+    by-step : Rest → (r : Step) → stepAt mode s at d ≡ r → at < length s → readFrom mode (suc n) s at d ≡ readFrom mode (suc m) s at d
+    by-step rest (stop k o) e l = stop-one mode s at d n k o l e ∙ sym (stop-one mode s at d m k o l e)
     by-step rest (more next d′) e l =
-        let f = onward s at d next d′ e in
-        more-one s at d n next d′ l e
+        let f = onward mode s at d next d′ e in
+        more-one mode s at d n next d′ l e
         ∙ rest next d′ (omega (arith, f .forward)) (omega (arith, f .forward))
-        ∙ sym (more-one s at d m next d′ l e)
+        ∙ sym (more-one mode s at d m next d′ l e)
 
-    by-end : Rest → (b : Bool) → ltb at (length s) ≡ b → readFrom (suc n) s at d ≡ readFrom (suc m) s at d
-    by-end rest true e = by-step rest (stepAt s at d) refl (ltb-true _ _ e)
-    by-end rest false e = read-end s at d (suc n) (ltb-false _ _ e) ∙ sym (read-end s at d (suc m) (ltb-false _ _ e))
+    by-end : Rest → (b : Bool) → ltb at (length s) ≡ b → readFrom mode (suc n) s at d ≡ readFrom mode (suc m) s at d
+    by-end rest true e = by-step rest (stepAt mode s at d) refl (ltb-true _ _ e)
+    by-end rest false e = read-end mode s at d (suc n) (ltb-false _ _ e) ∙ sym (read-end mode s at d (suc m) (ltb-false _ _ e))
 
 -- one field, with the plan's length as the bound throughout
-module _ (s : List ℕ) (at : ℕ) (d : Draft) (l : at < length s) where
-  pub read-stop : (k o : ℕ) → stepAt s at d ≡ stop k o → readFrom (length s) s at d ≡ rejected k o
+module _ (mode : Mode) (s : List ℕ) (at : ℕ) (d : Draft) (l : at < length s) where
+  pub read-stop : (k o : ℕ) → stepAt mode s at d ≡ stop k o → readFrom mode (length s) s at d ≡ rejected k o
   read-stop k o e =
-      read-enough (length s) (suc (length s)) s at d (omega arith) (omega arith) ∙ stop-one s at d (length s) k o l e
+      read-enough mode (length s) (suc (length s)) s at d (omega arith) (omega arith) ∙ stop-one mode s at d (length s) k o l e
 
-  pub read-more : (next : ℕ) (d′ : Draft) → stepAt s at d ≡ more next d′ → readFrom (length s) s at d ≡ readFrom (length s) s next d′
+  pub read-more : (next : ℕ) (d′ : Draft) → stepAt mode s at d ≡ more next d′ → readFrom mode (length s) s at d ≡ readFrom mode (length s) s next d′
   read-more next d′ e =
-      read-enough (length s) (suc (length s)) s at d (omega arith) (omega arith) ∙ more-one s at d (length s) next d′ l e
+      read-enough mode (length s) (suc (length s)) s at d (omega arith) (omega arith) ∙ more-one mode s at d (length s) next d′ l e

@@ -3,12 +3,17 @@ use mathlib.Core.Path.{_≡_, sym, _∙_, subst}
 use mathlib.Core.List.{List, [], _∷_, List·Permᴰ, List·Permᴰ·nil, List·Permᴰ·cons, List·Permᴰ·swap, List·Permᴰ·trans}
 use mathlib.Core.Bool.{false}
 use Prim.Native.Nat.{ℕ}
+use lib.ListN.{length, length-set}
 use Rattle.plan.specs.Bytes.{tagAt, valueAt}
-use Rattle.plan.specs.Field.{Field}
-use Rattle.plan.specs.Draft.{Draft, taken, store, added}
+use Rattle.plan.specs.Field.{Field, routeIn}
+use Rattle.plan.specs.Key.{keySlots, keyOf}
+use Rattle.plan.specs.Draft.{Draft, taken, added}
 use Rattle.plan.specs.laws.Passes.{Passes, passes-once}
-use Rattle.plan.specs.laws.Tables.{Sized, sized-store}
-use Rattle.plan.specs.laws.Commute.{apart-sym, taken-apart, fresh-apart, added-comm}
+use Rattle.plan.specs.laws.Commute.{taken-apart, fresh-apart, added-comm}
+
+-- the route in the value of a field that stands alone
+abbrev routeOf : List ℕ → List ℕ
+routeOf b = routeIn (valueAt b 0)
 
 -- these fields, stored into draft d, leave draft e
 pub data Stored : List (List ℕ) → Draft → Draft → Type 0 where
@@ -16,8 +21,8 @@ pub data Stored : List (List ℕ) → Draft → Draft → Type 0 where
   next
       : {b : List ℕ} {bs : List (List ℕ)} {d e : Draft} (x : Field)
       → Passes (tagAt b 0) (valueAt b 0) x
-      → taken (d .tables) x ≡ false
-      → Stored bs (added d x (valueAt b 0)) e
+      → taken d x ≡ false
+      → Stored bs (added d x (routeOf b)) e
       → Stored (b ∷ bs) d e
 
 -- they leave one draft
@@ -25,44 +30,40 @@ pub stored-once : {bs : List (List ℕ)} {d e f : Draft} → Stored bs d e → S
 stored-once (nothing p) (nothing q) = sym p ∙ q
 stored-once {f = f} (next {b = b} {bs = bs} {d = d} x k fresh rest) (next y m _ other) =
     let same : y ≡ x = passes-once (tagAt b 0) (valueAt b 0) y x m k in
-    stored-once {f = f} rest (subst (λ (z : Field). Stored bs (added d z (valueAt b 0)) f) same other)
+    stored-once {f = f} rest (subst (λ (z : Field). Stored bs (added d z (routeOf b)) f) same other)
 
--- a field keeps the sizes of the tables
-added-sized : (d : Draft) (x : Field) (v : List ℕ) → Sized (d .tables) → Sized (added d x v .tables)
+-- there is a flag for each key
+abbrev pub Flagged : Draft → Type 0
+Flagged d = length (d .seen) ≡ keySlots
+
+added-flagged : (d : Draft) (x : Field) (r : List ℕ) → Flagged d → Flagged (added d x r)
 unfolding added
-added-sized d x v s = sized-store (d .tables) x v s
+added-flagged d x r s = length-set (d .seen) (keyOf x) 1 ∙ s
 
 -- two neighbours change places
 swapped
     : (b c : List ℕ) (bs : List (List ℕ)) (d e : Draft)
-    → Sized (d .tables)
+    → Flagged d
     → Stored (b ∷ c ∷ bs) d e
     → Stored (c ∷ b ∷ bs) d e
-unfolding added
 swapped b c bs d e s (next x k free (next y m fresh rest)) =
-    let v = valueAt b 0 in
-    let w = valueAt c 0 in
-    let apart = fresh-apart (d .tables) (tagAt b 0) (tagAt c 0) v w x y s k m (before fresh) in
-    Stored.next {d = d} {e = e} y m (sym (taken-apart (d .tables) x y v apart) ∙ before fresh)
-    (Stored.next {d = added d y w} {e = e} x k (after (taken-apart (d .tables) y x w (apart-sym x y apart) ∙ free))
-    (subst (λ (z : Draft). Stored bs z e) (added-comm d (tagAt b 0) (tagAt c 0) v w x y k m apart) rest))
-  where
-    before : taken (added d x (valueAt b 0) .tables) y ≡ false → taken (store (d .tables) x (valueAt b 0)) y ≡ false
-    before h = h
-
-    after : taken (store (d .tables) y (valueAt c 0)) x ≡ false → taken (added d y (valueAt c 0) .tables) x ≡ false
-    after h = h
+    let v = routeOf b in
+    let w = routeOf c in
+    let differ = fresh-apart d x y v s (k .ok) fresh in
+    Stored.next {d = d} {e = e} y m (sym (taken-apart d x y v differ) ∙ fresh)
+    (Stored.next {d = added d y w} {e = e} x k (taken-apart d y x w (λ e. differ (sym e)) ∙ free)
+    (subst (λ (z : Draft). Stored bs z e) (added-comm x y v w (k .ok) (m .ok) (k .route) (m .route) differ d) rest))
 
 -- every order of the fields leaves the same draft
 pub stored-permuted
     : {bs cs : List (List ℕ)} (d e : Draft)
     → List·Permᴰ bs cs
-    → Sized (d .tables)
+    → Flagged d
     → Stored bs d e
     → Stored cs d e
 stored-permuted d e List·Permᴰ·nil s h = h
 stored-permuted d e (List·Permᴰ·cons {a = b} {b = c} same perm) s (next x k fresh rest) =
     Stored.next {d = d} x (rw same at k) fresh
-    (rw same at (stored-permuted (added d x (valueAt b 0)) e perm (added-sized d x (valueAt b 0) s) rest))
+    (rw same at (stored-permuted (added d x (routeOf b)) e perm (added-flagged d x (routeOf b) s) rest))
 stored-permuted d e (List·Permᴰ·swap {a = b} {b = c} {l = bs} p q) s h = rw (p, q) at (swapped b c bs d e s h)
 stored-permuted d e (List·Permᴰ·trans p q) s h = stored-permuted d e q s (stored-permuted d e p s h)

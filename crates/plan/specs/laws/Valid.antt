@@ -7,58 +7,52 @@ use Prim.Native.Nat.{ℕ, _<_}
 use lib.Dec.{eqb}
 use borrow.Author.Tests.{eq-eqb, not-false}
 use Rattle.cqf.specs.Bounded.{every, distinct, anyTo}
-use Rattle.cqf.specs.Limits.{portSlots, flowSlots, topOk}
+use Rattle.cqf.specs.Limits.{portSlots, flowSlots}
 use Rattle.cqf.specs.Plan.{Plan, present, portIn, validPort, validFlow, validPlan}
-use Rattle.cqf.specs.laws.Bounded.{or-cases, allTo-every, anyTo-some}
+use Rattle.cqf.specs.laws.Bounded.{allTo-every, anyTo-some}
 use Rattle.plan.specs.Bytes.{tagAt, valueAt}
-use Rattle.plan.specs.Field.{Field, header, port, flow, flowTag, routeIn, repeats}
-use Rattle.plan.specs.Draft.{Draft, fieldRepeats, added}
-use Rattle.plan.specs.Reading.{accepted, namesAbsent, readPlan}
+use Rattle.plan.specs.Field.{Field, header, port, flow, flowTag}
+use Rattle.plan.specs.Key.{headerKey}
+use Rattle.plan.specs.Draft.{Draft, hasKey, fieldRepeats, added}
+use Rattle.plan.specs.Reading.{accepted, routeAt, namesAbsent, readPlan}
 use Rattle.plan.specs.laws.Passes.{Passes, field-is-whole, field-passes}
 use Rattle.plan.specs.laws.Slots.{validIn}
 use Rattle.plan.specs.laws.Walk.{Reads, done, one, accepted-reads, closing-accepted}
 use Rattle.plan.specs.laws.Absent.{absent-flow}
-use Rattle.plan.specs.laws.Named.{Named, named-front}
+use Rattle.plan.specs.laws.First.{NoneFrom, none-front}
 use Rattle.plan.specs.laws.Drafts.{ValidDraft, blank-valid, header-valid, port-valid, flow-valid}
 
--- what tests 7 and 9 say of a flow's route
-distinct-route : (n t c l h : ℕ) (v : List ℕ) → fieldRepeats (flow n t c l h) v ≡ false → distinct (routeIn v) ≡ true
-unfolding fieldRepeats repeats
-distinct-route n t c l h v e = not-false _ e
-
+-- what test 9 says of a flow's route
 named-route
     : (rates s : List ℕ) (at : ℕ)
     → tagAt s at ≡ flowTag
-    → namesAbsent s at rates ≡ false
-    → every (portIn rates) (routeIn (valueAt s at)) ≡ true
-named-route rates s at kind e = not-false _ (sym (absent-flow s at rates kind) ∙ e)
+    → namesAbsent rates s at ≡ false
+    → every (portIn rates) (routeAt s at) ≡ true
+named-route rates s at kind e = not-false _ (sym (absent-flow rates s at kind) ∙ e)
 
 -- a field of the walk keeps the draft valid
 field-valid
     : (rates s : List ℕ) (at : ℕ) (d : Draft) (x : Field)
     → Passes (tagAt s at) (valueAt s at) x
-    → fieldRepeats x (valueAt s at) ≡ false
-    → namesAbsent s at rates ≡ false
+    → fieldRepeats x (routeAt s at) ≡ false
+    → namesAbsent rates s at ≡ false
     → ValidDraft rates d
-    → ValidDraft rates (added d x (valueAt s at))
-field-valid rates s at d (header g t) k once named h = header-valid rates d (tagAt s at) g t (valueAt s at) k h
-field-valid rates s at d (port n r b) k once named h = port-valid rates d (tagAt s at) n r b (valueAt s at) k h
+    → ValidDraft rates (added d x (routeAt s at))
+field-valid rates s at d (header g t) k once named h = header-valid rates d g t (routeAt s at) (k .ok) h
+field-valid rates s at d (port n r b) k once named h = port-valid rates d n r b (routeAt s at) (k .ok) h
 field-valid rates s at d (flow n t c l m) k once named h =
-    flow-valid rates d (tagAt s at) n t c l m (valueAt s at) k
-    (distinct-route n t c l m (valueAt s at) once)
-    (named-route rates s at (k .kind) named)
-    h
+    flow-valid rates d n t c l m (routeAt s at) (k .ok) (k .route) (not-false _ once) (named-route rates s at (k .kind) named) h
 
 -- so does the whole walk
 walk-valid
     : (rates s : List ℕ) {at : ℕ} {d e : Draft}
     → Reads s at d e
-    → Named rates s at
+    → NoneFrom (namesAbsent rates) s at
     → ValidDraft rates d
     → ValidDraft rates e
 walk-valid rates s (done same end) named h = rw same at h
 walk-valid rates s {at} {d} (one x next less stands fresh no-repeat rest) named h =
-    let f = named-front rates s at less (field-is-whole s at x next stands) named in
+    let f = none-front (namesAbsent rates) s at less (field-is-whole s at x next stands) named in
     let r = field-passes s at x next stands in
     walk-valid rates s rest (rw (r .follows) (f .rest)) (field-valid rates s at d x (r .passes) no-repeat (f .front) h)
 
@@ -66,13 +60,13 @@ walk-valid rates s {at} {d} (one x next less stands fresh no-repeat rest) named 
 draft-valid
     : (d : Draft)
     → ValidDraft (d .tables .rates) d
-    → eqb (d .tables .top) 0 ≡ false
+    → hasKey d headerKey ≡ true
     → eqb (d .flows) 0 ≡ false
     → validPlan (d .tables) ≡ true
 unfolding validPlan validFlow validIn
 draft-valid d h headed flowing =
     rw (
-      top,
+      h .top headed,
       h .guard,
       allTo-every portSlots (validPort p) (h .ports),
       allTo-every flowSlots (validFlow p) (h .flows),
@@ -81,9 +75,6 @@ draft-valid d h headed flowing =
   where
     p : Plan
     p = d .tables
-
-    top : topOk (p .top) ≡ true
-    top = or-cases (eqb (p .top) 0) (topOk (p .top)) (h .top) (λ e. absurd (true≢false (sym e ∙ headed))) (λ e. e)
 
     some : (d .flows ≡ 0) ⊎ ((f : ℕ) × (f < flowSlots) × (present p f ≡ true)) → anyTo flowSlots (present p) ≡ true
     some (inl e) = absurd (true≢false (sym (eq-eqb _ _ e) ∙ flowing))

@@ -1,33 +1,58 @@
 -- `close` meets its contract: test 8, then test 9.
-use mathlib.Core.Path.{sym}
+use Prim.Native.Nat.{ℕ, _<_}
+use mathlib.Core.Path.{_≡_, sym, ap, _∙_}
+use mathlib.Core.Bool.{true}
+use mathlib.Core.List.{List}
+use native.Mathlib.Omega.{arith}
+use borrow.Author.Tests.{lt-ltb}
+use lib.ListN.{getD}
 use denote.Ref.{now}
+use Rattle.cqf.specs.Plan.{Plan}
+use Rattle.plan.specs.Key.{headerKey}
+use Rattle.plan.specs.Draft.{Draft, hasKey}
+use Rattle.plan.specs.Reading.{firstField, namesAbsent}
 use Rattle.plan.specs.laws.Closing.{close-headless, close-flowless, close-absent, close-accepted}
-use Rattle.loading.specs.Loading.{draftOf}
 use borrow.Author.Needs.{needs}
 use Rattle.loading.proofs.reading.close.Statement.{statement}
 use Rattle.loading.proofs.reading.close.Tie as tie
 
+-- the draft that is closed, with any tables
+abbrev closed : tie.Start → Plan → Draft
+closed c p = record { tables = p; seen = now (c .args .seen); ports = c .args .ports; flows = c .args .flows }
+
+headed : (c : tie.Else1) (p : Plan) → hasKey (closed (c .before .before .before) p) headerKey ≡ true
+headed c p = lt-ltb 0 (getD (now (c .before .before .before .args .seen)) headerKey 0) (omega (arith, c .if1 .left))
+
+-- what was found is the first flow that names a port not in these tables
+found : (c : tie.After-first-field) (p : Plan)
+    → p .rates ≡ now (c .before .before .before .before .before .args .rates)
+    → c .first-field .result ≡ firstField (namesAbsent (p .rates)) (now (c .before .before .before .before .before .args .plan))
+found c p e =
+    c .first-field .ensures ∙ ap (λ (l : List ℕ). firstField (namesAbsent l) (now (c .before .before .before .before .before .args .plan))) (sym e)
+
+element-copy-out-if1 : tie.Need-element-copy-out-if1
+element-copy-out-if1 c = search needs
+
 returns : tie.Need-returns
-returns c = sym (close-headless _ (draftOf (c .before .before .before .args .draft)) (c .if1 .taken))
+returns c = λ p e. sym (close-headless (now (c .before .before .before .args .plan)) (closed (c .before .before .before) p) (rw (c .if1 .taken)))
 
 returns-2 : tie.Need-returns-2
-returns-2 c = sym (close-flowless _ (draftOf (c .before .before .before .before .args .draft)) (c .if2 .taken))
+returns-2 c = λ p e. sym (close-flowless (now (c .before .before .before .before .args .plan)) (closed (c .before .before .before .before) p) (c .if2 .taken))
 
-first-absent-requires : tie.Need-first-absent-requires
-first-absent-requires c κs = search needs
+first-field-requires : tie.Need-first-field-requires
+first-field-requires c κs = search needs
 
 returns-3 : tie.Need-returns-3
-returns-3 c =
-    let a = c .before .before .before .before .before .before .before .args in
-    rw (c .before .first-absent .ensures)
-    (sym (close-absent (now (a .plan)) (draftOf (a .draft)) (c .before .before .before .before .if1 .left) (c .before .before .before .if2 .left)
-    (rw (c .before .first-absent .ensures) at (c .if3 .taken))))
+returns-3 c = λ p e.
+    let f = found (c .before) p e in
+    rw f (sym (close-absent (now (c .before .before .before .before .before .before .args .plan)) (closed (c .before .before .before .before .before .before) p) (headed (c .before .before .before) p) (c .before .before .if2 .left) (rw f at (c .if3 .taken))))
 
 returns-4 : tie.Need-returns-4
-returns-4 c =
-    let a = c .before .before .before .before .before .before .before .args in
-    sym (close-accepted (now (a .plan)) (draftOf (a .draft)) (c .before .before .before .before .if1 .left) (c .before .before .before .if2 .left)
-    (rw (c .before .first-absent .ensures) at (c .if3 .left)))
+returns-4 c = λ p e.
+    let f = found (c .before) p e in
+    sym (close-accepted (now (c .before .before .before .before .before .before .args .plan)) (closed (c .before .before .before .before .before .before) p) (headed (c .before .before .before) p) (c .before .before .if2 .left) (rw f at (c .if3 .left)))
 
 pub close-spec : {M : Type 1} → statement M
-close-spec = tie.close (tie.spec returns returns-2 first-absent-requires returns-3 returns-4)
+close-spec =
+    tie.close
+    (tie.spec element-copy-out-if1 returns returns-2 first-field-requires returns-3 returns-4)

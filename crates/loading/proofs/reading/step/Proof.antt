@@ -1,11 +1,20 @@
 -- `step` meets its contract.
 use mathlib.Core.Path.{sym, ap, _∙_}
+use denote.Ref.{now}
+use Rattle.plan.specs.Draft.{Draft}
+use Rattle.plan.specs.Reading.{loose}
 use Rattle.plan.specs.Answer.{fieldReadOf}
 use Rattle.plan.specs.laws.Steps.{step-refused}
 use Rattle.loading.specs.Loading.{draftOf}
 use borrow.Author.Needs.{needs}
 use Rattle.loading.proofs.reading.step.Statement.{statement}
 use Rattle.loading.proofs.reading.step.Tie as tie
+
+-- the draft that the function is lent
+abbrev held : tie.Start → Draft
+held c =
+    draftOf (c .args .totals) (now (c .args .rates)) (now (c .args .blockings)) (now (c .args .periods)) (now (c .args .counts))
+    (now (c .args .lengths)) (now (c .args .hops)) (now (c .args .routes)) (now (c .args .seen))
 
 read-field-requires : tie.Need-read-field-requires
 read-field-requires c κs = search needs
@@ -15,8 +24,8 @@ enum-known-field c = search needs
 
 take-field-requires : tie.Need-take-field-requires
 take-field-requires c κs =
-    let a = c .before .before .before .before .before in
-    (a .pre .0, a .pre .1, sym (c .before .before .before .read-field .ensures) ∙ ap fieldReadOf (c .before .field .given .1))
+    let a = c .before .before .before .before .before .before .before .before .before .before .before .before .before in
+    (a .pre .0, a .pre .1, sym (c .before .before .before .before .before .before .before .before .before .before .before .read-field .ensures) ∙ ap fieldReadOf (c .before .before .before .before .before .before .before .before .before .field .given .1))
 
 enum-known-fault : tie.Need-enum-known-fault
 enum-known-fault c = search needs
@@ -27,8 +36,7 @@ returns c = search needs
 returns-2 : tie.Need-returns-2
 returns-2 c =
     let a = c .before .before .before .before .before in
-    sym (step-refused _ _ (draftOf (a .args .draft)) _ _
-    (sym (c .before .before .before .read-field .ensures) ∙ ap fieldReadOf (c .before .fault .given .1)))
+    sym (step-refused loose _ _ (held a) _ _ (sym (c .before .before .before .read-field .ensures) ∙ ap fieldReadOf (c .before .fault .given .1)))
 
 pub step-spec : {M : Type 1} → statement M
 step-spec =

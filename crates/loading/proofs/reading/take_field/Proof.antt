@@ -1,80 +1,95 @@
 -- `take_field` meets its contract: the tests 6 and 7 of a field that was read, and the field stored.
 use mathlib.Core.Path.{_≡_, sym, _∙_}
 use mathlib.Core.Bool.{false}
+use native.Mathlib.Omega.{arith}
+use borrow.Author.Tests.{lt-ltb, le-ltb}
 use denote.Ref.{now}
-use Rattle.plan.specs.Bytes.{valueAt}
-use Rattle.plan.specs.Draft.{taken, fieldRepeats}
+use Rattle.plan.specs.Field.{routePorts, routeIn}
+use Rattle.plan.specs.Draft.{Draft, taken, fieldRepeats}
+use Rattle.plan.specs.Reading.{loose, routeAt}
 use Rattle.plan.specs.Answer.{fieldOf}
 use Rattle.plan.specs.laws.Whole.{part-whole}
 use Rattle.plan.specs.laws.Passes.{field-is-whole}
 use Rattle.plan.specs.laws.Found.{found-numbers, found-route}
+use Rattle.plan.specs.laws.Kinds.{key-below}
 use Rattle.plan.specs.laws.Steps.{step-taken, step-repeats, step-added}
-use Rattle.tables.specs.Tables.{planOf}
 use Rattle.loading.specs.Loading.{draftOf}
 use borrow.Author.Needs.{needs}
 use Rattle.loading.proofs.reading.take_field.Statement.{statement}
 use Rattle.loading.proofs.reading.take_field.Tie as tie
 
--- the slot was free
-free : (c : tie.Else1) →
-    taken (planOf (c .before .before .before .before .args .draft .planner)) (fieldOf (c .before .before .before .before .args .x)) ≡ false
-free c = sym (c .before .is-taken .ensures) ∙ c .if1 .left
+-- the draft that the function is lent
+abbrev held : tie.Start → Draft
+held c =
+    draftOf (c .args .totals) (now (c .args .rates)) (now (c .args .blockings)) (now (c .args .periods)) (now (c .args .counts))
+    (now (c .args .lengths)) (now (c .args .hops)) (now (c .args .routes)) (now (c .args .seen))
 
--- the part that the splitter gave is the value of the field that was read
-value-read : (c : tie.After-field-value) →
-    now (c .field-value .result) ≡ valueAt (now (c .before .before .before .before .before .args .plan)) (c .before .before .before .before .before .args .at)
-value-read c =
-    let a = c .before .before .before .before .before in
-    c .field-value .ensures ∙ part-whole _ _ (field-is-whole _ _ (fieldOf (a .args .x)) (a .args .next) (a .pre .2))
+-- the key was free
+free : (c : tie.Else1) → taken (held (c .before .before .before .before)) (fieldOf (c .before .before .before .before .args .x)) ≡ false
+free c = rw (← c .before .before .key-of .ensures) (le-ltb _ _ (c .if1 .left))
+
+-- the route's bytes that were split off are those of the field that was read
+route-read : (c : tie.After-route-bytes) → routePorts (now (c .route-bytes .result)) ≡ routeAt (now (c .before .before .before .before .before .before .args .plan)) (c .before .before .before .before .before .before .args .at)
+unfolding routeIn
+route-read c =
+    let a = c .before .before .before .before .before .before in
+    rw (c .route-bytes .ensures, c .before .field-value .ensures, part-whole _ _ (field-is-whole _ _ (fieldOf (a .args .x)) (a .args .next) (a .pre .2)))
 
 repeats-read : (c : tie.After-field-repeats) →
-    c .field-repeats .result
-    ≡ fieldRepeats (fieldOf (c .before .before .before .before .before .before .args .x))
-    (valueAt (now (c .before .before .before .before .before .before .args .plan)) (c .before .before .before .before .before .before .args .at))
-repeats-read c = c .field-repeats .ensures ∙ rw (value-read (c .before))
+    c .field-repeats .result ≡ fieldRepeats (fieldOf (c .before .before .before .before .before .before .before .args .x)) (routeAt (now (c .before .before .before .before .before .before .before .args .plan)) (c .before .before .before .before .before .before .before .args .at))
+repeats-read c = c .field-repeats .ensures ∙ rw (route-read (c .before))
 
-is-taken-requires : tie.Need-is-taken-requires
-is-taken-requires c κs = found-numbers _ _ _ _ (c .before .before .pre .2)
+key-of-requires : tie.Need-key-of-requires
+key-of-requires c κs = search needs
+
+element-copy-out-if1 : tie.Need-element-copy-out-if1
+element-copy-out-if1 c = omega (arith, c .key-of .ensures, key-below (fieldOf (c .before .before .args .x)) (found-numbers _ _ _ _ (c .before .before .pre .2)))
 
 returns : tie.Need-returns
 returns c =
     let a = c .before .before .before .before in
-    sym (step-taken _ _ (draftOf (a .args .draft)) (fieldOf (a .args .x)) (a .args .next) (a .pre .2) (sym (c .before .is-taken .ensures) ∙ c .if1 .taken))
+    sym (step-taken loose _ _ (held a) (fieldOf (a .args .x)) (a .args .next) (a .pre .2)
+    (rw (← c .before .before .key-of .ensures) (lt-ltb _ _ (c .if1 .taken))))
 
 field-value-requires : tie.Need-field-value-requires
 field-value-requires c κs = search needs
+
+route-bytes-requires : tie.Need-route-bytes-requires
+route-bytes-requires c κs = search needs
 
 field-repeats-requires : tie.Need-field-repeats-requires
 field-repeats-requires c κs = search needs
 
 returns-2 : tie.Need-returns-2
 returns-2 c =
-    let a = c .before .before .before .before .before .before .before in
-    sym (step-repeats _ _ (draftOf (a .args .draft)) (fieldOf (a .args .x)) (a .args .next) (a .pre .2)
-    (free (c .before .before .before))
+    let a = c .before .before .before .before .before .before .before .before in
+    sym (step-repeats loose _ _ (held a) (fieldOf (a .args .x)) (a .args .next) (a .pre .2)
+    (free (c .before .before .before .before))
     (sym (repeats-read (c .before)) ∙ c .if2 .taken))
 
-with-added-requires : tie.Need-with-added-requires
-with-added-requires c κs =
-    let a = c .before .before .before .before .before .before .before in
-    (a .pre .0, a .pre .1, found-numbers _ _ _ _ (a .pre .2), rw (value-read (c .before .before)) (found-route _ _ _ _ (a .pre .2)))
+store-field-requires : tie.Need-store-field-requires
+store-field-requires c κs =
+    let a = c .before .before .before .before .before .before .before .before .before .before .before .before .before .before .before .before in
+    (a .pre .0, a .pre .1, found-numbers _ _ _ _ (a .pre .2), rw (route-read (c .before .before .before .before .before .before .before .before .before .before)) (found-route _ _ _ _ (a .pre .2)))
 
 returns-3 : tie.Need-returns-3
 returns-3 c =
-    let a = c .before .before .before .before .before .before .before .before in
-    rw (c .with-added .ensures, value-read (c .before .before .before))
-    (sym (step-added _ _ (draftOf (a .args .draft)) (fieldOf (a .args .x)) (a .args .next) (a .pre .2)
-    (free (c .before .before .before .before))
-    (sym (repeats-read (c .before .before)) ∙ c .before .if2 .left)))
+    let a = c .before .before .before .before .before .before .before .before .before .before .before .before .before .before .before .before .before in
+    rw (c .store-field .ensures, route-read (c .before .before .before .before .before .before .before .before .before .before .before))
+    (sym (step-added loose _ _ (held a) (fieldOf (a .args .x)) (a .args .next) (a .pre .2)
+    (free (c .before .before .before .before .before .before .before .before .before .before .before .before .before))
+    (sym (repeats-read (c .before .before .before .before .before .before .before .before .before .before)) ∙ c .before .before .before .before .before .before .before .before .before .if2 .left)))
 
 pub take-field-spec : {M : Type 1} → statement M
 take-field-spec =
     tie.close
     (tie.spec
-    is-taken-requires
+    key-of-requires
+    element-copy-out-if1
     returns
     field-value-requires
+    route-bytes-requires
     field-repeats-requires
     returns-2
-    with-added-requires
+    store-field-requires
     returns-3)

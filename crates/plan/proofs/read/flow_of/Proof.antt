@@ -8,9 +8,10 @@ use borrow.Author.Tests.{eq-eqb, ne-eqb, not-true, not-false}
 use lib.Dec.{eqb}
 use lib.ListN.{length}
 use denote.Ref.{now}
-use Rattle.cqf.specs.Limits.{maxHops, flowOk, periodOk, countOk, lengthOk, hopsOk}
+use Rattle.cqf.specs.Bounded.{every}
+use Rattle.cqf.specs.Limits.{maxHops, portOk, flowOk, periodOk, countOk, lengthOk, hopsOk}
 use Rattle.plan.specs.Bytes.{number2, number4}
-use Rattle.plan.specs.Field.{flowSize, hopsIn}
+use Rattle.plan.specs.Field.{flowSize, hopsIn, routeIn}
 use Rattle.plan.specs.laws.Within.{within-high}
 use Rattle.plan.specs.laws.Tested.{flow-length, flow-range, flow-read}
 use Rattle.plan.proofs.read.flow_of.Statement.{statement}
@@ -83,21 +84,31 @@ returns-3 c =
     let f = sym (tested (c .before)) ∙ not-true _ (c .if3 .taken) in
     sym (flow-range _ _ _ (sized (c .before .before .before .before .before .before)) (rw f))
 
+route-bytes-requires : tie.Need-route-bytes-requires
+route-bytes-requires c κs = search needs
+
 route-in-range-requires : tie.Need-route-in-range-requires
 route-in-range-requires c κs = search needs
 
+-- the route that was tested is the one in the value
+route-tested : (c : tie.After-route-in-range) →
+    c .route-in-range .result
+    ≡ every portOk (routeIn (now (c .before .before .before .before .before .before .before .before .before .before .before .before .before .args .value)))
+unfolding routeIn
+route-tested c = c .route-in-range .ensures ∙ rw (c .before .route-bytes .ensures)
+
 returns-4 : tie.Need-returns-4
 returns-4 c =
-    let b = c .before .before in
+    let b = c .before .before .before in
     let f = sym (tested (b .before)) ∙ not-false _ (b .if3 .left) in
-    let g = sym (c .before .route-in-range .ensures) ∙ not-true _ (c .if4 .taken) in
+    let g = sym (route-tested (c .before)) ∙ not-true _ (c .if4 .taken) in
     sym (flow-range _ _ _ (sized (b .before .before .before .before .before .before)) (rw (f, g)))
 
 returns-5 : tie.Need-returns-5
 returns-5 c =
-    let b = c .before .before in
+    let b = c .before .before .before in
     let f = sym (tested (b .before)) ∙ not-false _ (b .if3 .left) in
-    let g = sym (c .before .route-in-range .ensures) ∙ not-false _ (c .if4 .left) in
+    let g = sym (route-tested (c .before)) ∙ not-false _ (c .if4 .left) in
     let e = b .before .before .before .before .before .before in
     rw (
       b .before .before .before .before .before .be16 .ensures,
@@ -125,6 +136,7 @@ flow-of-spec =
     cast-t17
     flow-in-range-requires
     returns-3
+    route-bytes-requires
     route-in-range-requires
     returns-4
     returns-5)

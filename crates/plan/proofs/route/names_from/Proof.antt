@@ -8,30 +8,30 @@ use lib.Dec.{eqb}
 use lib.ListN.{drop}
 use denote.Ref.{now}
 use Rattle.cqf.specs.Bounded.{elem}
-use Rattle.plan.specs.Field.{routeIn}
+use Rattle.plan.specs.Field.{routePorts}
 use Rattle.plan.specs.laws.Route.{names-step, names-past}
 use Rattle.plan.proofs.route.names_from.Statement.{statement}
 use Rattle.plan.proofs.route.names_from.Tie as tie
 
 abbrev Inv-loop : tie.InvT-loop
-Inv-loop value from port hops k₀ k = elem port (drop from (routeIn value)) ≡ elem port (drop k (routeIn value))
+Inv-loop route from port hops k₀ k = elem port (drop from (routePorts route)) ≡ elem port (drop k (routePorts route))
 
 abbrev μ-loop : tie.MeasureT-loop
-μ-loop value from port hops k₀ k = hops - k
+μ-loop route from port hops k₀ k = hops - k
 
 -- what is left to look at when a turn has read port k
 step : (c : tie.After-route-port Inv-loop μ-loop) →
     let a = c .before .before .before .before .before .args in
-    let r = routeIn (now (a .value)) in
+    let r = routePorts (now (a .route)) in
     elem (a .port) (drop (a .from) r)
     ≡ (eqb (a .port) (c .route-port .result) || elem (a .port) (drop (c .before .before .loop .k + 1) r))
 step c =
     let a = c .before .before .before .before .before .args in
     let at = c .before .before .loop in
-    rw (c .route-port .ensures) (at .inv ∙ names-step (now (a .value)) (a .port) (at .k) (omega arith))
+    rw (c .route-port .ensures) (at .inv ∙ names-step (now (a .route)) (a .port) (at .k) (omega arith))
 
-hops-in-requires : tie.Need-hops-in-requires Inv-loop μ-loop
-hops-in-requires c κs = tt
+route-len-requires : tie.Need-route-len-requires Inv-loop μ-loop
+route-len-requires c κs = tt
 
 loop-holds : tie.Need-loop-holds Inv-loop μ-loop
 loop-holds c = refl
@@ -54,7 +54,7 @@ loop-again c = step (c .before) ∙ rw (ne-eqb _ _ (c .if1 .left))
 returns-2 : tie.Need-returns-2 Inv-loop μ-loop
 returns-2 c =
     let a = c .before .before .before .before .args in
-    sym (c .before .loop .inv ∙ names-past (now (a .value)) (a .port) (c .before .loop .k) (omega arith))
+    sym (c .before .loop .inv ∙ names-past (now (a .route)) (a .port) (c .before .loop .k) (omega arith))
 
 pub names-from-spec : {M : Type 1} → statement M
 names-from-spec =
@@ -62,7 +62,7 @@ names-from-spec =
     (tie.spec
     Inv-loop
     μ-loop
-    hops-in-requires
+    route-len-requires
     loop-holds
     route-port-requires
     returns

@@ -8,28 +8,28 @@ use lib.ListN.{drop}
 use denote.Ref.{now}
 use Rattle.cqf.specs.Bounded.{every}
 use Rattle.cqf.specs.Limits.{portOk}
-use Rattle.plan.specs.Field.{routeIn}
+use Rattle.plan.specs.Field.{routePorts}
 use Rattle.plan.specs.laws.Route.{every-step, every-past}
 use Rattle.plan.proofs.route.route_in_range.Statement.{statement}
 use Rattle.plan.proofs.route.route_in_range.Tie as tie
 
 abbrev Inv-loop : tie.InvT-loop
-Inv-loop value hops i₀ i = every portOk (routeIn value) ≡ every portOk (drop i (routeIn value))
+Inv-loop route hops i₀ i = every portOk (routePorts route) ≡ every portOk (drop i (routePorts route))
 
 abbrev μ-loop : tie.MeasureT-loop
-μ-loop value hops i₀ i = hops - i
+μ-loop route hops i₀ i = hops - i
 
 -- what is left to test when a turn has tested port i
 step : (c : tie.After-port-ok Inv-loop μ-loop) →
-    let r = routeIn (now (c .before .before .before .before .before .before .args .value)) in
+    let r = routePorts (now (c .before .before .before .before .before .before .args .route)) in
     every portOk r ≡ (c .port-ok .result && every portOk (drop (c .before .before .before .loop .i + 1) r))
 step c =
-    let v = now (c .before .before .before .before .before .before .args .value) in
+    let v = now (c .before .before .before .before .before .before .args .route) in
     let at = c .before .before .before .loop in
     rw (c .port-ok .ensures, c .before .route-port .ensures) (at .inv ∙ every-step v portOk (at .i) (omega arith))
 
-hops-in-requires : tie.Need-hops-in-requires Inv-loop μ-loop
-hops-in-requires c κs = tt
+route-len-requires : tie.Need-route-len-requires Inv-loop μ-loop
+route-len-requires c κs = tt
 
 loop-holds : tie.Need-loop-holds Inv-loop μ-loop
 loop-holds c = refl
@@ -54,7 +54,7 @@ loop-again c = step (c .before) ∙ rw (not-false (c .before .port-ok .result) (
 
 returns-2 : tie.Need-returns-2 Inv-loop μ-loop
 returns-2 c =
-    let v = now (c .before .before .before .before .args .value) in
+    let v = now (c .before .before .before .before .args .route) in
     sym (c .before .loop .inv ∙ every-past v portOk (c .before .loop .i) (omega arith))
 
 pub route-in-range-spec : {M : Type 1} → statement M
@@ -63,7 +63,7 @@ route-in-range-spec =
     (tie.spec
     Inv-loop
     μ-loop
-    hops-in-requires
+    route-len-requires
     loop-holds
     route-port-requires
     port-ok-requires

@@ -1,4 +1,4 @@
--- `route_port` meets its contract: port i is the number at byte 10 + 2 i.
+-- `route_port` meets its contract: port i is the number at byte 2 i.
 use mathlib.Core.Path.{sym, _∙_}
 use native.Mathlib.Omega.{arith}
 use borrow.Author.Needs.{needs}
@@ -6,17 +6,14 @@ use Rattle.plan.specs.laws.Route.{route-at, route-past}
 use Rattle.plan.proofs.route.route_port.Statement.{statement}
 use Rattle.plan.proofs.route.route_port.Tie as tie
 
-hops-in-requires : tie.Need-hops-in-requires
-hops-in-requires c κs = search needs
+route-len-requires : tie.Need-route-len-requires
+route-len-requires c κs = search needs
 
 returns : tie.Need-returns
 returns c = sym (route-past _ _ (omega arith))
 
 mul-be16 : tie.Need-mul-be16
 mul-be16 c = search needs
-
-add-be16 : tie.Need-add-be16
-add-be16 c = search needs
 
 be16-requires : tie.Need-be16-requires
 be16-requires c κs = search needs
@@ -26,4 +23,4 @@ returns-2 c = c .be16 .ensures ∙ sym (route-at _ _ (omega arith))
 
 pub route-port-spec : {M : Type 1} → statement M
 route-port-spec =
-    tie.close (tie.spec hops-in-requires returns mul-be16 add-be16 be16-requires returns-2)
+    tie.close (tie.spec route-len-requires returns mul-be16 be16-requires returns-2)

@@ -1,8 +1,8 @@
--- `first_absent` meets its contract. The invariant: the search from this offset on gives what the search from the start gives.
-use mathlib.Core.List.{List}
-use mathlib.Core.Bool.{true}
+-- `first_field` meets its contract. The invariant: the search from this offset on gives what the search from the start gives.
 use Prim.Native.Nat.{ℕ, _+_, _-_, _≤_}
 use mathlib.Core.Path.{_≡_, refl, sym, ap, _∙_}
+use mathlib.Core.List.{List}
+use mathlib.Core.Bool.{Bool, true}
 use borrow.Author.Needs.{needs}
 use native.Mathlib.Omega.{arith}
 use lib.ListN.{length}
@@ -10,22 +10,27 @@ use denote.Ref.{now}
 use Rattle.plan.specs.Bytes.{headSize, sizeAt, wholeAt}
 use Rattle.plan.specs.Field.{head, headAt}
 use Rattle.plan.specs.Answer.{headOf}
-use Rattle.plan.specs.Reading.{absentFrom}
+use Rattle.plan.specs.Reading.{firstFrom, firstField}
 use Rattle.plan.specs.laws.Whole.{read-whole, read-tag, read-size, read-fits, read-cut}
-use Rattle.plan.specs.laws.Absent.{absent-cut, absent-named, absent-passed}
-use Rattle.loading.proofs.absent.first_absent.Statement.{statement}
-use Rattle.loading.proofs.absent.first_absent.Tie as tie
+use Rattle.plan.specs.laws.First.{first-cut, first-here, first-past}
+use Rattle.loading.specs.Loading.{soughtIn}
+use Rattle.loading.proofs.first.first_field.Statement.{statement}
+use Rattle.loading.proofs.first.first_field.Tie as tie
 
 abbrev Inv-loop : tie.InvT-loop
-Inv-loop plan rates at₀ at = (at ≤ length plan) × (absentFrom (length plan) plan 0 rates ≡ absentFrom (length plan) plan at rates)
+Inv-loop plan sought rates at₀ at =
+    (at ≤ length plan) × (firstField (soughtIn sought rates) plan ≡ firstFrom (soughtIn sought rates) (length plan) plan at)
 
 abbrev μ-loop : tie.MeasureT-loop
-μ-loop plan rates at₀ at = length plan - at
+μ-loop plan sought rates at₀ at = length plan - at
 
 -- the whole field that a turn finds
 module _ (c : tie.After-known-told Inv-loop μ-loop) where
   abbrev bytes : List ℕ
   bytes = now (c .before .before .before .before .before .before .args .plan)
+
+  abbrev seeks : List ℕ → ℕ → Bool
+  seeks = soughtIn (c .before .before .before .before .before .before .args .sought) (now (c .before .before .before .before .before .before .args .rates))
 
   abbrev offset : ℕ
   offset = c .before .before .before .before .loop .at
@@ -57,15 +62,13 @@ split-head-requires c κs = tt
 enum-known-tag : tie.Need-enum-known-tag Inv-loop μ-loop
 enum-known-tag c = search needs
 
-names-absent-requires : tie.Need-names-absent-requires Inv-loop μ-loop
-names-absent-requires c κs = (is-whole c, read-tag (bytes c) (offset c) (tag c) (size c) (head-read c))
+is-sought-requires : tie.Need-is-sought-requires Inv-loop μ-loop
+is-sought-requires c κs = (is-whole c, read-tag (bytes c) (offset c) (tag c) (size c) (head-read c))
 
 returns : tie.Need-returns Inv-loop μ-loop
 returns c =
-    let a = c .before .before .before .before .before .before .before .before .args in
     let w = c .before .before in
-    sym (c .before .before .before .before .before .before .loop .inv .1
-    ∙ absent-named (bytes w) (offset w) (a .rates) (is-whole w) (sym (c .before .names-absent .ensures) ∙ c .if1 .taken))
+    sym (c .before .before .before .before .before .before .loop .inv .1 ∙ first-here (seeks w) (bytes w) (offset w) (is-whole w) (sym (c .before .is-sought .ensures) ∙ c .if1 .taken))
 
 add-at : tie.Need-add-at Inv-loop μ-loop
 add-at c = omega (arith, ends (c .before .before))
@@ -78,12 +81,10 @@ loop-less c = omega (arith, ends (c .before .before))
 
 loop-again : tie.Need-loop-again Inv-loop μ-loop
 loop-again c =
-    let a = c .before .before .before .before .before .before .before .before .args in
     let w = c .before .before in (
       ends w,
       c .before .before .before .before .before .before .loop .inv .1
-          ∙ rw (is-size w)
-          (absent-passed (bytes w) (offset w) (a .rates) (is-whole w) (sym (c .before .names-absent .ensures) ∙ c .if1 .left)),
+          ∙ rw (is-size w) (first-past (seeks w) (bytes w) (offset w) (is-whole w) (sym (c .before .is-sought .ensures) ∙ c .if1 .left)),
     )
 
 enum-told : tie.Need-enum-told Inv-loop μ-loop
@@ -94,10 +95,10 @@ returns-2 c =
     let a = c .before .before .before .before .before .args in
     let h = sym (ap headOf (c .enum-told .given .1)) ∙ c .before .before .split-head .ensures in
     sym (c .before .before .before .loop .inv .1
-    ∙ absent-cut (now (a .plan)) (c .before .before .before .loop .at) (a .rates) (length (now (a .plan))) (read-cut _ _ h))
+    ∙ first-cut (soughtIn (a .sought) (now (a .rates))) (now (a .plan)) (c .before .before .before .loop .at) (length (now (a .plan))) (read-cut _ _ h))
 
-pub first-absent-spec : {M : Type 1} → statement M
-first-absent-spec =
+pub first-field-spec : {M : Type 1} → statement M
+first-field-spec =
     tie.close
     (tie.spec
     Inv-loop
@@ -105,7 +106,7 @@ first-absent-spec =
     loop-holds
     split-head-requires
     enum-known-tag
-    names-absent-requires
+    is-sought-requires
     returns
     add-at
     add-at-2

@@ -8,30 +8,30 @@ use lib.ListN.{drop}
 use denote.Ref.{now}
 use Rattle.cqf.specs.Bounded.{every}
 use Rattle.cqf.specs.Plan.{portIn}
-use Rattle.plan.specs.Field.{routeIn}
+use Rattle.plan.specs.Field.{routePorts}
 use Rattle.plan.specs.laws.Route.{every-step, every-past}
-use Rattle.loading.proofs.absent.route_absent.Statement.{statement}
-use Rattle.loading.proofs.absent.route_absent.Tie as tie
+use Rattle.loading.proofs.first.route_absent.Statement.{statement}
+use Rattle.loading.proofs.first.route_absent.Tie as tie
 
 abbrev Inv-loop : tie.InvT-loop
-Inv-loop value rates hops i₀ i = every (portIn rates) (routeIn value) ≡ every (portIn rates) (drop i (routeIn value))
+Inv-loop route rates hops i₀ i = every (portIn rates) (routePorts route) ≡ every (portIn rates) (drop i (routePorts route))
 
 abbrev μ-loop : tie.MeasureT-loop
-μ-loop value rates hops i₀ i = hops - i
+μ-loop route rates hops i₀ i = hops - i
 
 -- what is left to test when a turn has tested port i
 step : (c : tie.After-has-port Inv-loop μ-loop) →
-    every (portIn (c .before .before .before .before .before .before .args .rates)) (routeIn (now (c .before .before .before .before .before .before .args .value)))
-    ≡ (c .has-port .result
-    && every (portIn (c .before .before .before .before .before .before .args .rates))
-    (drop (c .before .before .before .loop .i + 1) (routeIn (now (c .before .before .before .before .before .before .args .value)))))
+    let a = c .before .before .before .before .before .before .args in
+    let r = routePorts (now (a .route)) in
+    every (portIn (now (a .rates))) r ≡ (c .has-port .result && every (portIn (now (a .rates))) (drop (c .before .before .before .loop .i + 1) r))
 step c =
     let a = c .before .before .before .before .before .before .args in
+    let at = c .before .before .before .loop in
     rw (c .has-port .ensures, c .before .route-port .ensures)
-    (c .before .before .before .loop .inv ∙ every-step (now (a .value)) (portIn (a .rates)) (c .before .before .before .loop .i) (omega arith))
+    (at .inv ∙ every-step (now (a .route)) (portIn (now (a .rates))) (at .i) (omega arith))
 
-hops-in-requires : tie.Need-hops-in-requires Inv-loop μ-loop
-hops-in-requires c κs = tt
+route-len-requires : tie.Need-route-len-requires Inv-loop μ-loop
+route-len-requires c κs = tt
 
 loop-holds : tie.Need-loop-holds Inv-loop μ-loop
 loop-holds c = refl
@@ -57,7 +57,7 @@ loop-again c = step (c .before) ∙ rw (not-false (c .before .has-port .result) 
 returns-2 : tie.Need-returns-2 Inv-loop μ-loop
 returns-2 c =
     let a = c .before .before .before .before .args in
-    sym (ap not (c .before .loop .inv ∙ every-past (now (a .value)) (portIn (a .rates)) (c .before .loop .i) (omega arith)))
+    sym (ap not (c .before .loop .inv ∙ every-past (now (a .route)) (portIn (now (a .rates))) (c .before .loop .i) (omega arith)))
 
 pub route-absent-spec : {M : Type 1} → statement M
 route-absent-spec =
@@ -65,7 +65,7 @@ route-absent-spec =
     (tie.spec
     Inv-loop
     μ-loop
-    hops-in-requires
+    route-len-requires
     loop-holds
     route-port-requires
     has-port-requires

@@ -1,0 +1,49 @@
+-- `key_of` meets its contract, by the kind of field.
+use borrow.Author.Needs.{needs}
+use Rattle.loading.proofs.store.key_of.Statement.{statement}
+use Rattle.loading.proofs.store.key_of.Tie as tie
+
+enum-told : tie.Need-enum-told
+enum-told c = search needs
+
+enum-known-field : tie.Need-enum-known-field
+enum-known-field c = search needs
+
+cast-result : tie.Need-cast-result
+cast-result c = search needs
+
+add-result : tie.Need-add-result
+add-result c = search needs
+
+enum-known-field-2 : tie.Need-enum-known-field-2
+enum-known-field-2 c = search needs
+
+cast-result-2 : tie.Need-cast-result-2
+cast-result-2 c = search needs
+
+add-result-2 : tie.Need-add-result-2
+add-result-2 c = search needs
+
+returns : tie.Need-returns
+returns c = search needs
+
+returns-2 : tie.Need-returns-2
+returns-2 c = rw (c .before .before .field .given .1)
+
+returns-3 : tie.Need-returns-3
+returns-3 c = rw (c .before .before .field2 .given .1)
+
+pub key-of-spec : {M : Type 1} → statement M
+key-of-spec =
+    tie.close
+    (tie.spec
+    enum-told
+    enum-known-field
+    cast-result
+    add-result
+    enum-known-field-2
+    cast-result-2
+    add-result-2
+    returns
+    returns-2
+    returns-3)

@@ -1,0 +1,89 @@
+// The first field in the bytes that is sought, as test 9 wants it.
+
+use numbers::limits::port_ok;
+use plan::Head;
+use plan::read::FLOW_TAG;
+use plan::route::route_bytes;
+use plan::route::route_len;
+use plan::route::route_port;
+use plan::split::HEAD_SIZE;
+use plan::split::field_value;
+use plan::split::split_head;
+ghost use mathlib.Core.Path.{_≡_};
+ghost use mathlib.Core.Bool.{true, not};
+ghost use Rattle.cqf.specs.Bounded.{every};
+ghost use Rattle.cqf.specs.Plan.{portIn};
+ghost use Rattle.plan.specs.Bytes.{tagAt, wholeAt};
+ghost use Rattle.plan.specs.Field.{routePorts};
+ghost use Rattle.plan.specs.Reading.{namesAbsent, firstField};
+ghost use Rattle.loading.specs.Loading.{soughtIn};
+
+// What is sought: a flow whose route names a port that is not in the plan.
+pub(crate) enum Sought {
+    AbsentPort,
+}
+
+// Whether a port of this number is in the plan.
+fn has_port(rates: &[u32; 64], number: u16) -> bool
+    ensures { λ r. ⌜ r ≡ portIn (now (rates .entry)) number ⌝ }
+{
+    if !port_ok(number) {
+        return false;
+    }
+    let slot = (number - 1) as usize;
+    0 < rates[slot]
+}
+
+// Whether a route names a port not in the plan.
+fn route_absent(route: &[u8], rates: &[u32; 64]) -> bool
+    ensures { λ r. ⌜ r ≡ not (every (portIn (now (rates .entry))) (routePorts (now (route .entry)))) ⌝ }
+{
+    let hops = route_len(route);
+    let mut i = 0;
+    while i < hops {
+        if !has_port(rates, route_port(route, i)) {
+            return true;
+        }
+        i += 1;
+    }
+    false
+}
+
+// The same for the whole field at this offset, which may be no flow.
+fn names_absent(plan: &[u8], at: usize, tag: u8, rates: &[u32; 64]) -> bool
+    requires { ⌜ (wholeAt (now plan) at ≡ true) × (tag ≡ tagAt (now plan) at) ⌝ }
+    ensures { λ r. ⌜ r ≡ namesAbsent (now (rates .entry)) (now (plan .entry)) at ⌝ }
+{
+    if tag != FLOW_TAG {
+        return false;
+    }
+    route_absent(route_bytes(field_value(plan, at)), rates)
+}
+
+// Whether the whole field at this offset is sought.
+fn is_sought(sought: Sought, plan: &[u8], at: usize, tag: u8, rates: &[u32; 64]) -> bool
+    requires { ⌜ (wholeAt (now plan) at ≡ true) × (tag ≡ tagAt (now plan) at) ⌝ }
+    ensures { λ r. ⌜ r ≡ soughtIn sought (now (rates .entry)) (now (plan .entry)) at ⌝ }
+{
+    match sought {
+        Sought::AbsentPort => names_absent(plan, at, tag, rates),
+    }
+}
+
+// The offset of the first field that is sought; the plan's length where none is.
+pub(crate) fn first_field(plan: &[u8], sought: Sought, rates: &[u32; 64]) -> usize
+    ensures { λ r. ⌜ r ≡ firstField (soughtIn sought (now (rates .entry))) (now (plan .entry)) ⌝ }
+{
+    let mut at = 0;
+    loop {
+        match split_head(plan, at) {
+            Head::Whole { tag, size } => {
+                if is_sought(sought, plan, at, tag, rates) {
+                    return at;
+                }
+                at = at + HEAD_SIZE + size;
+            }
+            Head::Cut => return plan.len(),
+        }
+    }
+}

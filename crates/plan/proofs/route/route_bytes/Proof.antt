@@ -1,0 +1,41 @@
+-- `route_bytes` meets its contract: what is left of the value behind its other numbers.
+use mathlib.Core.Path.{sym, _∙_}
+use native.Mathlib.Omega.{arith}
+use borrow.Author.Needs.{needs}
+use lib.ListN.{drop, drop-of-length-le, length-drop}
+use lib.Seq.{take-length}
+use denote.Ref.{now}
+use Rattle.plan.specs.Field.{flowSize}
+use Rattle.plan.proofs.route.route_bytes.Statement.{statement}
+use Rattle.plan.proofs.route.route_bytes.Tie as tie
+
+slice-aggregate-result : tie.Need-slice-aggregate-result
+slice-aggregate-result c = search needs
+
+returns : tie.Need-returns
+returns c = sym (drop-of-length-le (now (c .before .before .args .value)) {i = flowSize} (omega arith))
+
+sub-result : tie.Need-sub-result
+sub-result c = search needs
+
+part-result-start : tie.Need-part-result-start
+part-result-start c = search needs
+
+part-result-end : tie.Need-part-result-end
+part-result-end c = search needs
+
+returns-2 : tie.Need-returns-2
+returns-2 c =
+    let v = now (c .before .before .args .value) in
+    rw (← length-drop flowSize v) (take-length (drop flowSize v))
+
+pub route-bytes-spec : {M : Type 1} → statement M
+route-bytes-spec =
+    tie.close
+    (tie.spec
+    slice-aggregate-result
+    returns
+    sub-result
+    part-result-start
+    part-result-end
+    returns-2)

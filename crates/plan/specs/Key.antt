@@ -1,0 +1,24 @@
+-- A field's key: one number for each thing that a plan may say once. Test 6 asks for the key, and fields of different keys may
+-- stand in any order. The header has key 0, port n key n, flow n the n-th key after the ports; a later kind goes on from there.
+use Prim.Native.Nat.{ℕ, _+_}
+use Rattle.cqf.specs.Limits.{portSlots, flowSlots}
+use Rattle.plan.specs.Field.{Field, header, port, flow}
+
+abbrev pub headerKey : ℕ
+headerKey = 0
+
+-- the key of port 1, of flow 1, and the first that no field has
+abbrev pub portKeys : ℕ
+portKeys = headerKey + 1
+
+abbrev pub flowKeys : ℕ
+flowKeys = portKeys + portSlots
+
+abbrev pub keySlots : ℕ
+keySlots = flowKeys + flowSlots
+
+-- numbers are from 1 on
+abbrev pub keyOf : Field → ℕ
+keyOf (header guard top) = headerKey
+keyOf (port n rate blocking) = headerKey + n
+keyOf (flow n period count length hops) = portSlots + n

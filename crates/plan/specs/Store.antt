@@ -1,0 +1,60 @@
+-- How a field is stored: column by column, what it puts there. Its numbers are from 1 on, and r are the ports of its route.
+use Prim.Native.Nat.{ℕ, _-_, _*_}
+use mathlib.Core.List.{List}
+use mathlib.Core.Option.{Option, some, none}
+use Rattle.cqf.specs.Limits.{routeStride}
+use Rattle.cqf.specs.Plan.{Plan}
+use Rattle.plan.specs.Field.{Field, ofHeader, ofPort, ofFlow}
+use Rattle.plan.specs.Put.{Put, keep, number, run, put, given}
+
+-- a number of the header, of a port, of a flow: into the slot of its number
+abbrev pub headerNumber : ((guard top : ℕ) → ℕ) → Field → Option ℕ
+headerNumber which = ofHeader none (λ guard top. some (which guard top))
+
+abbrev pub portNumber : ((number rate blocking : ℕ) → ℕ) → Field → Put
+portNumber which = ofPort keep (λ n rate blocking. number (n - 1) (which n rate blocking))
+
+abbrev pub flowNumber : ((number period count length hops : ℕ) → ℕ) → Field → Put
+flowNumber which = ofFlow keep (λ n period count length hops. number (n - 1) (which n period count length hops))
+
+-- the columns
+abbrev pub putsGuard : Field → Option ℕ
+putsGuard = headerNumber (λ guard top. guard)
+
+abbrev pub putsTop : Field → Option ℕ
+putsTop = headerNumber (λ guard top. top)
+
+abbrev pub putsRate : Field → Put
+putsRate = portNumber (λ n rate blocking. rate)
+
+abbrev pub putsBlocking : Field → Put
+putsBlocking = portNumber (λ n rate blocking. blocking)
+
+abbrev pub putsPeriod : Field → Put
+putsPeriod = flowNumber (λ n period count length hops. period)
+
+abbrev pub putsCount : Field → Put
+putsCount = flowNumber (λ n period count length hops. count)
+
+abbrev pub putsLength : Field → Put
+putsLength = flowNumber (λ n period count length hops. length)
+
+abbrev pub putsHops : Field → Put
+putsHops = flowNumber (λ n period count length hops. hops)
+
+abbrev pub putsRoute : List ℕ → Field → Put
+putsRoute r = ofFlow keep (λ n period count length hops. run ((n - 1) * routeStride) r)
+
+unfoldable pub store : Plan → Field → List ℕ → Plan
+store p x r =
+    record {
+      guard = given (p .guard) (putsGuard x);
+      top = given (p .top) (putsTop x);
+      rates = put (p .rates) (putsRate x);
+      blockings = put (p .blockings) (putsBlocking x);
+      periods = put (p .periods) (putsPeriod x);
+      counts = put (p .counts) (putsCount x);
+      lengths = put (p .lengths) (putsLength x);
+      hops = put (p .hops) (putsHops x);
+      routes = put (p .routes) (putsRoute r x);
+    }

@@ -1,0 +1,48 @@
+-- What holds of what a field gives, by its key: shown of the kind that gives it, with its numbers in range, and of what any
+-- other kind gives.
+use Prim.Native.Nat.{ℕ, _+_, _<_}
+use mathlib.Core.List.{List}
+use native.Mathlib.Omega.{arith}
+use Rattle.cqf.specs.Limits.{portSlots, flowSlots}
+use Rattle.plan.specs.Field.{Field, header, port, flow, ofHeader, ofPort, ofFlow}
+use Rattle.plan.specs.Key.{headerKey, keySlots, keyOf}
+use Rattle.plan.specs.Ranges.{HeaderOk, PortOk, FlowOk, RouteOk, NumbersOk, RouteFits}
+use Rattle.plan.specs.laws.Within.{within-high}
+
+module _ {A : Type 0} (P : ℕ → A → Type 0) (other : A) (rest : (key : ℕ) → P key other) where
+  pub of-header
+      : (gives : (guard top : ℕ) → A)
+      → ((g t : ℕ) → HeaderOk g t → P headerKey (gives g t))
+      → (x : Field)
+      → NumbersOk x
+      → P (keyOf x) (ofHeader other gives x)
+  of-header gives own (header g t) k = own g t k
+  of-header gives own (port n r b) k = rest (headerKey + n)
+  of-header gives own (flow n p c l h) k = rest (portSlots + n)
+
+  pub of-port
+      : (gives : (number rate blocking : ℕ) → A)
+      → ((n r b : ℕ) → PortOk n r b → P (headerKey + n) (gives n r b))
+      → (x : Field)
+      → NumbersOk x
+      → P (keyOf x) (ofPort other gives x)
+  of-port gives own (header g t) k = rest headerKey
+  of-port gives own (port n r b) k = own n r b k
+  of-port gives own (flow n p c l h) k = rest (portSlots + n)
+
+  pub of-flow
+      : (route : List ℕ) (gives : (number period count length hops : ℕ) → A)
+      → ((n p c l h : ℕ) → FlowOk n p c l h → RouteOk h route → P (portSlots + n) (gives n p c l h))
+      → (x : Field)
+      → NumbersOk x
+      → RouteFits x route
+      → P (keyOf x) (ofFlow other gives x)
+  of-flow route gives own (header g t) k fits = rest headerKey
+  of-flow route gives own (port n r b) k fits = rest (headerKey + n)
+  of-flow route gives own (flow n p c l h) k fits = own n p c l h k fits
+
+-- a field in range has its flag
+pub key-below : (x : Field) → NumbersOk x → keyOf x < keySlots
+key-below (header g t) k = omega arith
+key-below (port n r b) k = omega (arith, within-high _ _ n (k .number))
+key-below (flow n p c l h) k = omega (arith, within-high _ _ n (k .number))
