@@ -1,6 +1,6 @@
 /* How far down the stack each call of the planner goes: the stack below the caller is painted, the call made, and the lowest
  * word that no longer has the paint looked up. The caller's own copies lie above that and are told apart: the planner given by
- * value, and the answer's place. Arguments: a file with a plan, and one with a plan that is refused. */
+ * value, and the answer's place. Arguments: files with a plan, with one that is refused, and with one that no duration fits. */
 #include "cycle_planner.h"
 #include <pthread.h>
 #include <stdio.h>
@@ -111,7 +111,7 @@ static void row(const char *name, void *(*measured)(void *), size_t given, size_
   if (pthread_create(&thread, NULL, measured, NULL) != 0 || pthread_join(thread, NULL) != 0) exit(1);
   if (used >= PAINTED) exit(1);
   size_t with = used + given + given_back;
-  printf("%-22s %8zu %9.2f %12zu %9.2f\n", name, used, (double)used / sizeof(cp_planner), with,
+  printf("%-23s %6zu %9.2f %12zu %9.2f\n", name, used, (double)used / sizeof(cp_planner), with,
          (double)with / sizeof(cp_planner));
 }
 
@@ -129,24 +129,35 @@ static uint32_t load_refusal(void) {
   return numbers.refusal;
 }
 
+static void questions(const char *check, const char *slack, const char *least, const char *margin_safe) {
+  const size_t given = sizeof held;
+  row(check, on_check, given, sizeof answer);
+  row(slack, on_slack, given, sizeof slacked);
+  row(least, on_least, given, sizeof answer);
+  row(margin_safe, on_margin_safe, given, sizeof answer);
+}
+
 int main(int count, char **paths) {
-  const size_t planner = sizeof(cp_planner);
-  if (count != 3) return 1;
-  read_plan(paths[1], &accepted);
-  read_plan(paths[2], &refused);
-  printf("%-22s %8s %9s %12s %9s\n", "call", "bytes", "planners", "with caller", "planners");
-  row("cp_empty", on_empty, 0, planner);
+  if (count != 4) return 1;
+  printf("%-23s %6s %9s %12s %9s\n", "call", "bytes", "planners", "with caller", "planners");
+  row("cp_empty", on_empty, 0, sizeof empty);
   held = empty;
-  row("cp_load, longest plan", on_load, planner, sizeof(cp_loaded));
+  read_plan(paths[3], &accepted);
+  row("cp_load, short plan", on_load, sizeof held, sizeof loaded);
+  cp_planner overloaded = loaded.planner;
+  read_plan(paths[1], &accepted);
+  row("cp_load, longest plan", on_load, sizeof held, sizeof loaded);
   if (load_refusal() != 0) return 1;
   held = loaded.planner;
-  row("cp_load, refused", on_refused_load, planner, sizeof(cp_loaded));
+  read_plan(paths[2], &refused);
+  row("cp_load, refused", on_refused_load, sizeof held, sizeof loaded);
   if (load_refusal() == 0) return 1;
-  row("cp_check", on_check, planner, sizeof(cp_answer));
-  row("cp_slack", on_slack, planner, sizeof(cp_slacked));
-  row("cp_least", on_least, planner, sizeof(cp_answer));
-  row("cp_margin_safe", on_margin_safe, planner, sizeof(cp_answer));
-  row("cp_field", on_field, 0, sizeof(cp_field_read));
-  row("cp_repeats", on_repeats, 0, 1);
+  questions("cp_check", "cp_slack", "cp_least", "cp_margin_safe");
+  if (answer.refusal != 0) return 1;
+  held = overloaded;
+  questions("cp_check, refused", "cp_slack, negative", "cp_least, refused", "cp_margin_safe, refused");
+  if (answer.refusal == 0) return 1;
+  row("cp_field", on_field, 0, sizeof field);
+  row("cp_repeats", on_repeats, 0, sizeof repeats);
   return 0;
 }

@@ -122,7 +122,8 @@ fn main() {
     let arguments: Vec<String> = std::env::args().skip(1).collect();
     let arguments: Vec<&str> = arguments.iter().map(String::as_str).collect();
     let (searches, loads) = (plans::searches(), plans::loads());
-    let plan = |name: &str| &loads.iter().find(|plan| plan.0 == name).expect("no such plan").1;
+    let searched = |name: &str| searches.iter().find(|case| case.name == name).expect("no such plan");
+    let loaded = |name: &str| loads.iter().find(|plan| plan.0 == name).map(|plan| &plan.1);
     match arguments[..] {
         ["searches"] => {
             for case in searches {
@@ -130,9 +131,12 @@ fn main() {
             }
         }
         ["loads"] => loads.iter().for_each(|plan| println!("{} {}", plan.0, plan.1.len())),
-        ["bytes", name] => std::io::stdout().write_all(plan(name)).expect("cannot write"),
-        [part @ ("load" | "read" | "read-by-port"), name] => load(plan(name), part),
-        [part, name] => search(searches.iter().find(|case| case.name == name).expect("no such plan"), part),
+        ["bytes", name] => {
+            let bytes = loaded(name).unwrap_or_else(|| &searched(name).bytes);
+            std::io::stdout().write_all(bytes).expect("cannot write");
+        }
+        [part @ ("load" | "read" | "read-by-port"), name] => load(loaded(name).expect("no such plan"), part),
+        [part, name] => search(searched(name), part),
         _ => panic!("searches, loads, bytes PLAN, or PART PLAN"),
     }
 }
