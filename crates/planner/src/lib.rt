@@ -4,10 +4,10 @@ mod demand;
 mod descend;
 mod failing;
 mod need;
+mod port_demand;
 mod question;
+mod search;
 
-pub use climb::least;
-pub use descend::margin_safe;
 pub use loading::LoadAnswer;
 pub use loading::LoadOutcome;
 pub use loading::load;
@@ -15,6 +15,8 @@ pub use plan::Fault;
 pub use plan::fault_number;
 pub use question::check;
 pub use question::slack;
+pub use search::least;
+pub use search::margin_safe;
 pub use tables::Planner;
 pub use tables::empty;
 
