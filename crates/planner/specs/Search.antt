@@ -7,8 +7,8 @@ use Rattle.cqf.specs.Limits.{portSlots}
 use Rattle.cqf.specs.Plan.{Plan}
 use Rattle.cqf.specs.Condition.{demand, least, marginSafe}
 use Rattle.loading.specs.Outcome.{Answer}
-use Rattle.planner.specs.Outcome.{searched, searchLeaves}
-use Rattle.planner.specs.declared.search.Goal.{Goal}
+use Rattle.planner.specs.Outcome.{foundAnswer, foundDemands, searched, searchLeaves}
+use Rattle.planner.specs.declared.seek.Goal.{Goal}
 
 -- the duration that it looks for, and the refusal where there is none up to top
 abbrev pub wanted : Goal → Plan → ℕ
@@ -24,7 +24,11 @@ pub record Found (sought : Plan → ℕ) (p : Plan) (found : ℕ) (out : List �
   pub is : found ≡ sought p
   pub demands : found ≤ p .top → out ≡ tabulate portSlots (λ q. demand p q found)
 
--- the answer, and the scratch as it is left
+-- the answer of a search of a valid plan, and the 64 numbers as it leaves them
+abbrev pub Answers : (number : ℕ) (sought : Plan → ℕ) (p : Plan) → Answer ℕ → List ℕ → Type 0
+Answers number sought p answer out = (answer ≡ foundAnswer number p (sought p)) × (out ≡ foundDemands p (sought p))
+
+-- the answer of a search, and the scratch as it leaves it
 abbrev pub Ends : (number : ℕ) (sought : Plan → ℕ) (p : Plan) (scratch : List ℕ) → Answer ℕ → List ℕ → Type 0
 Ends number sought p scratch answer exit =
     (answer ≡ searched number p (sought p) scratch) × (exit ≡ searchLeaves p (sought p) scratch)

@@ -1,8 +1,8 @@
-// The two searches: what they share, and what each looks for.
+// The two searches, and what they share.
 use super::SearchAnswer;
-use super::climb::climb;
-use super::descend::descend;
 use super::failing::failing_at;
+use super::seek::Goal;
+use super::seek::seek;
 use tables::PORTS;
 use tables::Planner;
 use tables::valid_tables;
@@ -15,16 +15,10 @@ ghost use Rattle.tables.specs.Columns.{planBy};
 ghost use Rattle.tables.specs.Tables.{planOf};
 ghost use Rattle.planner.specs.Answer.{searchOf, leastOf, marginSafeOf};
 ghost use Rattle.planner.specs.Outcome.{leastAnswer, leastLeaves, marginSafeAnswer, marginSafeLeaves};
-ghost use Rattle.planner.specs.Search.{Found, Ends, wanted, noneNumber};
+ghost use Rattle.planner.specs.Search.{Answers, Ends, wanted, noneNumber};
 
-// What a search looks for.
-pub(crate) enum Goal {
-    Least,
-    MarginSafe,
-}
-
-// The duration that it looks for, or one above top where there is none.
-fn seek<'a>(
+// The answer over 64 numbers, which are left with the demands at the duration found, or at top where there is none.
+fn answer<'a>(
     goal: Goal,
     guard: u32,
     top: u32,
@@ -36,35 +30,42 @@ fn seek<'a>(
     hops: &'a [u8; 256],
     routes: &'a [u8; 4096],
     out: &mut [u64],
-) -> u64
+) -> SearchAnswer
     requires { ⌜ (validPlan (planBy guard top (now rates) (now blockings) (now periods) (now counts) (now lengths) (now hops) (now routes)) ≡ true) × (length (now out) ≡ portSlots) ⌝ }
-    ensures { λ r. ⌜ Found (wanted goal) (planBy guard top (now (rates .entry)) (now (blockings .entry)) (now (periods .entry)) (now (counts .entry)) (now (lengths .entry)) (now (hops .entry)) (now (routes .entry))) r (now (out .exit)) ⌝ }
+    ensures { λ r. ⌜ Answers (noneNumber goal) (wanted goal) (planBy guard top (now (rates .entry)) (now (blockings .entry)) (now (periods .entry)) (now (counts .entry)) (now (lengths .entry)) (now (hops .entry)) (now (routes .entry))) (searchOf (noneNumber goal) r) (now (out .exit)) ⌝ }
 {
-    match goal {
-        Goal::Least => climb(
-            guard,
-            top,
-            rates,
-            blockings,
-            periods,
-            counts,
-            lengths,
-            hops,
-            routes,
-            out,
-        ),
-        Goal::MarginSafe => descend(
-            guard,
-            top,
-            rates,
-            blockings,
-            periods,
-            counts,
-            lengths,
-            hops,
-            routes,
-            out,
-        ),
+    let found = seek(
+        goal,
+        guard,
+        top,
+        rates,
+        blockings,
+        periods,
+        counts,
+        lengths,
+        hops,
+        routes,
+        out,
+    );
+    let limit = top as u64;
+    if found <= limit {
+        return SearchAnswer::Duration(found);
+    }
+    let ports = failing_at(
+        guard,
+        rates,
+        blockings,
+        periods,
+        counts,
+        lengths,
+        hops,
+        routes,
+        limit,
+        out,
+    );
+    SearchAnswer::Failing {
+        port: ports.port,
+        count: ports.count,
     }
 }
 
@@ -101,7 +102,7 @@ fn search<'a>(
     if size < PORTS {
         return SearchAnswer::ShortScratch;
     }
-    let found = seek(
+    answer(
         goal,
         guard,
         top,
@@ -113,27 +114,7 @@ fn search<'a>(
         hops,
         routes,
         &mut scratch[..PORTS],
-    );
-    let limit = top as u64;
-    if found <= limit {
-        return SearchAnswer::Duration(found);
-    }
-    let ports = failing_at(
-        guard,
-        rates,
-        blockings,
-        periods,
-        counts,
-        lengths,
-        hops,
-        routes,
-        limit,
-        &mut scratch[..PORTS],
-    );
-    SearchAnswer::Failing {
-        port: ports.port,
-        count: ports.count,
-    }
+    )
 }
 
 // The least admissible duration; 22 where there is none.

@@ -1,9 +1,8 @@
--- `planner::search::search` meets its contract: the cases of the outcome. The first 64 numbers of the scratch are lent on once more
--- where there is none.
+-- `planner::search::search` meets its contract: the refusals before a search, and the first 64 numbers of the scratch lent on.
 use mathlib.Core.Path.{_≡_, sym, _∙_}
 use mathlib.Core.Bool.{true}
 use mathlib.Core.List.{List}
-use Prim.Native.Nat.{ℕ, _≤_, _<_}
+use Prim.Native.Nat.{ℕ, _≤_}
 use lib.ListN.{length, length-take}
 use native.Mathlib.Omega.{arith}
 use borrow.Author.Needs.{needs}
@@ -12,7 +11,7 @@ use Rattle.cqf.specs.Limits.{portSlots}
 use Rattle.cqf.specs.Plan.{Plan, validPlan}
 use Rattle.tables.specs.Columns.{planBy}
 use Rattle.planner.specs.Search.{wanted, noneNumber}
-use Rattle.planner.specs.laws.Searched.{ends-no-plan, ends-short, ends-within, ends-above}
+use Rattle.planner.specs.laws.Searched.{ends-no-plan, ends-short, ends-found}
 use Rattle.planner.proofs.search.search.Statement.{statement}
 use Rattle.planner.proofs.search.search.Tie as tie
 
@@ -54,56 +53,25 @@ returns-2 c =
     let s = start (c .before .before) in
     ends-short (noneNumber (s .args .goal)) (wanted (s .args .goal)) (plan s) (given s) (valid (c .before)) (omega (arith, c .if2 .taken))
 
-slice-relend-prefix-seek : tie.Need-slice-relend-prefix-seek
-slice-relend-prefix-seek c = omega (arith, c .if2 .left)
+slice-relend-prefix-answer : tie.Need-slice-relend-prefix-answer
+slice-relend-prefix-answer c = omega (arith, c .if2 .left)
 
-slice-aggregate-seek : tie.Need-slice-aggregate-seek
-slice-aggregate-seek c = simp length-take (omega (arith, slice-relend-prefix-seek (c .before)))
+slice-aggregate-answer : tie.Need-slice-aggregate-answer
+slice-aggregate-answer c = simp length-take (omega (arith, slice-relend-prefix-answer (c .before)))
 
 -- the search is lent 64 numbers
-seek-requires : tie.Need-seek-requires
-seek-requires c κs = (valid (c .before .before), omega (arith, slice-aggregate-seek c))
+answer-requires : tie.Need-answer-requires
+answer-requires c κs = (valid (c .before .before), omega (arith, slice-aggregate-answer c))
 
 same-length : tie.Need-same-length
 same-length c = search needs
 
--- past the search
-abbrev past : tie.After-seek → tie.Else2
-past c = c .before .before
-
 returns-3 : tie.Need-returns-3
 returns-3 c =
-    let sought = c .before .before .before in
-    let s = begin (past sought) in
-    ends-within (noneNumber (s .args .goal)) (wanted (s .args .goal)) (plan s) (given s) (valid (past sought .before)) (long (past sought)) (sought .seek .ensures)
-    (omega (arith, c .if3 .taken))
-
-slice-relend-prefix-failing-at : tie.Need-slice-relend-prefix-failing-at
-slice-relend-prefix-failing-at c = search needs
-
-slice-aggregate-failing-at : tie.Need-slice-aggregate-failing-at
-slice-aggregate-failing-at c = simp length-take (omega (arith, slice-relend-prefix-failing-at (c .before)))
-
--- the duration found is above top
-abbrev none : tie.Else3 → tie.After-seek
-none c = c .before .before .before
-
-failing-at-requires : tie.Need-failing-at-requires
-failing-at-requires c κs = (valid (past (none (c .before)) .before), sym (slice-aggregate-failing-at c))
-
-same-length-2 : tie.Need-same-length-2
-same-length-2 c = search needs
-
-returns-4 : tie.Need-returns-4
-returns-4 c =
-    let failed = c .before .before in
-    let sought = none (failed .before .before) in
-    let s = begin (past sought) in
-    let kept : length (sought .seek .last .1 .1 .1 .1 .1 .1 .1 .1 .1 .1 .0) ≡ portSlots =
-    omega (arith, sought .seek .kept .1 .1 .1 .1 .1 .1 .1 .1 .1 .1 .0, slice-aggregate-seek (sought .before)) in
-    let above : plan s .top < sought .seek .result = omega (arith, failed .before .before .if3 .left) in
-    ends-above (noneNumber (s .args .goal)) (wanted (s .args .goal)) (plan s) (given s) (valid (past sought .before)) (long (past sought)) (sought .seek .ensures) kept above
-    (failed .failing-at .ensures)
+    let answered = c .before .before in
+    let e = answered .before .before in
+    let s = begin e in
+    ends-found (noneNumber (s .args .goal)) (wanted (s .args .goal)) (plan s) (given s) (valid (e .before)) (long e) (answered .answer .ensures)
 
 pub search-spec : {M : Type 1} → statement M
 search-spec =
@@ -112,13 +80,8 @@ search-spec =
     valid-tables-requires
     returns
     returns-2
-    slice-relend-prefix-seek
-    slice-aggregate-seek
-    seek-requires
+    slice-relend-prefix-answer
+    slice-aggregate-answer
+    answer-requires
     same-length
-    returns-3
-    slice-relend-prefix-failing-at
-    slice-aggregate-failing-at
-    failing-at-requires
-    same-length-2
-    returns-4)
+    returns-3)

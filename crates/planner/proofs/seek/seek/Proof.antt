@@ -1,7 +1,7 @@
--- `planner::search::seek` meets its contract: each goal has its search.
+-- `planner::seek::seek` meets its contract: each goal has its search.
 use borrow.Author.Needs.{needs}
-use Rattle.planner.proofs.search.seek.Statement.{statement}
-use Rattle.planner.proofs.search.seek.Tie as tie
+use Rattle.planner.proofs.seek.seek.Statement.{statement}
+use Rattle.planner.proofs.seek.seek.Tie as tie
 
 enum-told : tie.Need-enum-told
 enum-told c = search needs

@@ -1,4 +1,4 @@
--- `planner::question::slack` meets its contract.
+-- `planner::port_slack::slack` meets its contract.
 use mathlib.Core.Path.{_≡_, sym, ap, ap₂, _∙_}
 use mathlib.Core.Bool.{true}
 use Prim.Native.Nat.{ℕ, _-_, _*_, _≤_, _<_}
@@ -21,8 +21,8 @@ use Rattle.cqf.specs.Condition.{workloadOf, mostDemand}
 use Rattle.planner.specs.laws.Sums.{slot-in-range, demand-most, demand-columns}
 use Rattle.planner.specs.laws.Fails.{crossed-demand, slack-is}
 use Rattle.planner.specs.laws.Answers.{slack-none, slack-out, slack-no-port, slack-uncrossed, slack-crossed}
-use Rattle.planner.proofs.question.slack.Statement.{statement}
-use Rattle.planner.proofs.question.slack.Tie as tie
+use Rattle.planner.proofs.port_slack.slack.Statement.{statement}
+use Rattle.planner.proofs.port_slack.slack.Tie as tie
 
 -- the plan that the planner holds
 abbrev held : tie.Start → Plan
@@ -117,15 +117,6 @@ port-demand-requires c κs =
     let at = second e in
     (record { slot = slot-in-range (held (asked e)) (valid (first at)) }, (fits at, small e))
 
-returns-4 : tie.Need-returns-4
-returns-4 c =
-    let demands = c .before in
-    let at = second (past demands) in
-    let none = crossed-demand (held (begin at)) (valid (first at)) (begin at .args .duration) (within-low _ _ _ (ranged at)) (slot (past demands)) in
-    sym
-    (slack-uncrossed (held (begin at)) _ _ (valid (first at)) (ranged at)
-    (none ∙ ap (ltb 0) (sym (bits-are demands) ∙ c .if4 .taken)))
-
 window-requires : tie.Need-window-requires
 window-requires c κs = tt
 
@@ -145,6 +136,15 @@ port-slack-requires : tie.Need-port-slack-requires
 port-slack-requires c κs =
     let demands = c .before .before .before .before in
     (omega (arith, c .before .before .window .ensures, fits (second (past demands))), bits-most demands)
+
+returns-4 : tie.Need-returns-4
+returns-4 c =
+    let demands = c .before in
+    let at = second (past demands) in
+    let none = crossed-demand (held (begin at)) (valid (first at)) (begin at .args .duration) (within-low _ _ _ (ranged at)) (slot (past demands)) in
+    sym
+    (slack-uncrossed (held (begin at)) _ _ (valid (first at)) (ranged at)
+    (none ∙ ap (ltb 0) (sym (bits-are demands) ∙ c .if4 .taken)))
 
 returns-5 : tie.Need-returns-5
 returns-5 c =
@@ -175,11 +175,11 @@ slack-spec =
     returns-3
     sub-q
     port-demand-requires
-    returns-4
     window-requires
     mul-port-slack
     element-copy-out-port-slack
     mul-port-slack-2
     element-copy-out-port-slack-2
     port-slack-requires
+    returns-4
     returns-5)
