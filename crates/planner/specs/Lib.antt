@@ -8,3 +8,4 @@ pub mod laws
 pub mod NoPlan
 pub mod Theorem
 pub mod Failing
+pub mod Search

@@ -29,10 +29,10 @@ answers-none : (p : Plan) → validPlan p ≡ false → (x : Question) → reply
 answers-none p e (Calls.check T) = ap ofCheck (check-none p T e)
 answers-none p e (Calls.slack n T) = ap ofSlack (slack-none p n T e)
 answers-none p e (Calls.least scratch) =
-    let h = least-ends p scratch (ends-no-plan 22 p (least p) scratch e) in
+    let h = least-ends p scratch (ends-no-plan 22 least p scratch e) in
     ap₂ ofSearch (sym (h .0)) (sym (h .1))
 answers-none p e (Calls.marginSafe scratch) =
-    let h = margin-safe-ends p scratch (ends-no-plan 23 p (marginSafe p) scratch e) in
+    let h = margin-safe-ends p scratch (ends-no-plan 23 marginSafe p scratch e) in
     ap₂ ofSearch (sym (h .0)) (sym (h .1))
 
 -- a valid plan is not refused 20 at 1 ns

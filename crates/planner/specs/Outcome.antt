@@ -34,20 +34,26 @@ unfolding crossed slack validPlan
 slackAnswer p n T =
     asked p T (cond (portOk n && crossed p (n - 1)) (result (slack p (n - 1) T)) (refusal 24 (0 ∷ [])))
 
--- a search for a duration from 1 to top: 20, then 11, then the refusal of this number where there is none
+-- a search of a valid plan for a duration from 1 to top: what it answers, by the refusal of this number where there is none, and
+-- each port's demand at the duration found, or at top
+abbrev pub foundAnswer : ℕ → Plan → ℕ → Answer ℕ
+foundAnswer number p found = cond (leb found (p .top)) (result found) (failingAt number p (p .top))
+
+abbrev pub foundDemands : Plan → ℕ → List ℕ
+foundDemands p found = tabulate portSlots (λ q. demand p q (cond (leb found (p .top)) found (p .top)))
+
+-- 20, then 11, then what the search says
 abbrev pub searched : ℕ → Plan → ℕ → List ℕ → Answer ℕ
 searched number p found scratch =
     cond (validPlan p)
-    (cond (leb portSlots (length scratch))
-    (cond (leb found (p .top)) (result found) (failingAt number p (p .top)))
-    (refusal 11 (0 ∷ [])))
+    (cond (leb portSlots (length scratch)) (foundAnswer number p found) (refusal 11 (0 ∷ [])))
     (refusal 20 (0 ∷ []))
 
--- what it leaves in the scratch: each port's demand at the duration found, or at top; the rest as it was
+-- what it leaves in the scratch: the demands in its first numbers, and the rest as it was
 abbrev pub searchLeaves : Plan → ℕ → List ℕ → List ℕ
 searchLeaves p found scratch =
     cond (validPlan p && leb portSlots (length scratch))
-    (tabulate portSlots (λ q. demand p q (cond (leb found (p .top)) found (p .top))) ++ drop portSlots scratch)
+    (foundDemands p found ++ drop portSlots scratch)
     scratch
 
 unfoldable pub leastAnswer : Plan → List ℕ → Answer ℕ

@@ -3,6 +3,7 @@ pub mod Calls
 pub mod Sums
 pub mod Sets
 pub mod Fails
+pub mod Topped
 pub mod Signed
 pub mod Answers
 pub mod PortNeed

@@ -1,88 +1,55 @@
-// The search for the least duration, upwards, by what the first failing port needs.
-use super::SearchAnswer;
+// The search for the least duration, upwards, by the most that a port needs.
 use super::demand::demands;
-use super::failing::failing_at;
 use super::failing::port_fails;
-use super::need::need;
+use super::need::largest_need;
 use numbers::port::window;
 use tables::PORTS;
-use tables::Planner;
-use tables::valid_plan;
 ghost use mathlib.Core.Path.{_≡_};
 ghost use mathlib.Core.Bool.{true};
-ghost use Prim.Native.Nat.{_≤_};
 ghost use lib.ListN.{length};
-ghost use Rattle.cqf.specs.Bounded.{tabulate};
 ghost use Rattle.cqf.specs.Limits.{portSlots};
 ghost use Rattle.cqf.specs.Plan.{validPlan};
-ghost use Rattle.cqf.specs.Condition;
-ghost use Rattle.tables.specs.Tables.{planOf};
-ghost use Rattle.planner.specs.Answer.{leastOf};
-ghost use Rattle.planner.specs.Outcome.{leastAnswer, leastLeaves};
+ghost use Rattle.cqf.specs.Condition.{least};
+ghost use Rattle.tables.specs.Columns.{planBy};
+ghost use Rattle.planner.specs.Search.{Found};
 
-// The least admissible duration, or one above top where there is none. No duration below t is admissible, and a port that fails
-// at t fails up to what it needs there. Where there is one, out is left with the demands at it.
-pub(crate) fn seek(planner: Planner, out: &mut [u64]) -> u64
-    requires { ⌜ (validPlan (planOf planner) ≡ true) × (length (now out) ≡ portSlots) ⌝ }
-    ensures { λ r. ⌜ r ≡ Condition.least (planOf planner) ⌝ }
-    ensures { λ r. ⌜ (r ≤ planner .top → now (out .exit) ≡ tabulate portSlots (λ q. Condition.demand (planOf planner) q r)) ⌝ }
+// The least admissible duration, or one above top where there is none. No duration below t is admissible, and where a port fails
+// at t, the one that needs most fails up to what it needs there. Where there is one, out is left with the demands at it.
+pub(crate) fn climb<'a>(
+    guard: u32,
+    top: u32,
+    rates: &'a [u32; 64],
+    blockings: &'a [u16; 64],
+    periods: &'a [u32; 256],
+    counts: &'a [u16; 256],
+    lengths: &'a [u16; 256],
+    hops: &'a [u8; 256],
+    routes: &'a [u8; 4096],
+    out: &mut [u64],
+) -> u64
+    requires { ⌜ (validPlan (planBy guard top (now rates) (now blockings) (now periods) (now counts) (now lengths) (now hops) (now routes)) ≡ true) × (length (now out) ≡ portSlots) ⌝ }
+    ensures { λ r. ⌜ Found least (planBy guard top (now (rates .entry)) (now (blockings .entry)) (now (periods .entry)) (now (counts .entry)) (now (lengths .entry)) (now (hops .entry)) (now (routes .entry))) r (now (out .exit)) ⌝ }
 {
-    let guard = planner.guard;
-    let top = planner.top as u64;
+    let limit = top as u64;
     let mut t: u64 = 1;
     let found = loop {
-        demands(
-            &planner.periods,
-            &planner.counts,
-            &planner.lengths,
-            &planner.hops,
-            &planner.routes,
-            t,
-            &mut out[..],
-        );
-        let usable = window(guard, t);
-        let mut next: u64 = 0;
+        demands(periods, counts, lengths, hops, routes, t, out);
+        let available = window(guard, t);
         let mut q: usize = 0;
         'ports: while q < PORTS {
-            let rate = planner.rates[q];
-            let blocking = planner.blockings[q];
-            let bits = out[q];
-            if port_fails(rate, blocking, usable, bits) {
-                next = need(guard, rate, blocking, bits);
+            if port_fails(rates[q], blockings[q], available, out[q]) {
                 break 'ports;
             }
             q += 1;
         }
-        if next == 0 {
+        if PORTS <= q {
             break t;
         }
-        if top < next {
-            break top + 1;
+        let next = largest_need(guard, rates, blockings, &out[..]);
+        if limit < next {
+            break limit + 1;
         }
         t = next;
     };
     found
-}
-
-// The least admissible duration; 22 where there is none.
-pub fn least(planner: Planner, scratch: &mut [u64]) -> SearchAnswer
-    ensures { λ r. ⌜ (leastOf r ≡ leastAnswer (planOf planner) (now (scratch .entry))) × (now (scratch .exit) ≡ leastLeaves (planOf planner) (now (scratch .entry))) ⌝ }
-{
-    if !valid_plan(planner) {
-        return SearchAnswer::NoPlan;
-    }
-    let size = scratch.len();
-    if size < PORTS {
-        return SearchAnswer::ShortScratch;
-    }
-    let found = seek(planner, &mut scratch[..PORTS]);
-    let top = planner.top as u64;
-    if found <= top {
-        return SearchAnswer::Duration(found);
-    }
-    let ports = failing_at(planner, top, &mut scratch[..PORTS]);
-    SearchAnswer::Failing {
-        port: ports.port,
-        count: ports.count,
-    }
 }

@@ -1,7 +1,6 @@
 // Each port's demand at a duration, in bits: one pass over the flows and the ports of their routes.
 use numbers::frame::wire_bits;
 use tables::FLOWS;
-use tables::Planner;
 use tables::STRIDE;
 ghost use mathlib.Core.Path.{_≡_};
 ghost use mathlib.Core.Bool.{true};
@@ -9,11 +8,9 @@ ghost use mathlib.Core.List.{[]};
 ghost use Prim.Native.Nat.{ℕ, _+_, _*_, _^_, _≤_, _<_};
 ghost use lib.ListN.{length, getD};
 ghost use Rattle.cqf.specs.Bounded.{distinct, every, sublist, tabulate};
-ghost use Rattle.cqf.specs.Limits.{portSlots, maxTop, portOk, minPeriod, maxPeriod, maxCount, maxLength};
-ghost use Rattle.cqf.specs.Plan.{validPlan};
+ghost use Rattle.cqf.specs.Limits.{portSlots, flowSlots, routeStride, maxTop, portOk, minPeriod, maxPeriod, maxCount, maxLength};
 ghost use Rattle.cqf.specs.Condition.{bitsOf, ceilDiv, demand};
-ghost use Rattle.tables.specs.Tables.{planOf};
-ghost use Rattle.tables.specs.Columns.{columns, FlowColumns, FlowsInRange, Marked};
+ghost use Rattle.tables.specs.Columns.{columns, FlowsInRange, Marked};
 
 // The periods that begin within a duration: the quotient rounded up.
 fn periods_begun(duration: u32, period: u32) -> u32
@@ -24,7 +21,7 @@ fn periods_begun(duration: u32, period: u32) -> u32
 }
 
 // The wire bits of the frames that a flow brings.
-fn flow_bits(period: u32, count: u16, bytes: u16, duration: u32) -> u64
+pub(crate) fn flow_bits(period: u32, count: u16, bytes: u16, duration: u32) -> u64
     requires { ⌜ (minPeriod ≤ period) × (period ≤ maxPeriod) × (count ≤ maxCount) × (bytes ≤ maxLength) × (duration ≤ maxTop) ⌝ }
     ensures { λ r. ⌜ r ≡ count * ceilDiv duration period * bitsOf bytes ⌝ }
 {
@@ -33,8 +30,8 @@ fn flow_bits(period: u32, count: u16, bytes: u16, duration: u32) -> u64
 }
 
 // The bits are added at each port of a route.
-fn add_route<'a>(routes: &'a [u8], base: usize, hops: usize, bits: u64, out: &mut [u64])
-    requires { ⌜ (base + hops ≤ length (now routes)) × (length (now out) ≡ portSlots) ⌝ }
+fn add_route<'a>(routes: &'a [u8; 4096], base: usize, hops: usize, bits: u64, out: &mut [u64])
+    requires { ⌜ (base + hops ≤ flowSlots * routeStride) × (length (now out) ≡ portSlots) ⌝ }
     requires { ⌜ (every portOk (sublist (now routes) base hops) ≡ true) × (distinct (sublist (now routes) base hops) ≡ true) ⌝ }
     requires { ⌜ ((q : ℕ) → q < portSlots → getD (now out) q 0 + bits < 2 ^ 64) ⌝ }
     ensures { λ r. ⌜ Marked (now (out .entry)) (now (out .exit)) (sublist (now (routes .entry)) base hops) bits ⌝ }
@@ -60,15 +57,14 @@ fn clear(out: &mut [u64])
 
 // Port n's demand goes to position n - 1; what stood there before does not matter.
 pub(crate) fn demands<'a>(
-    periods: &'a [u32],
-    counts: &'a [u16],
-    lengths: &'a [u16],
-    hops: &'a [u8],
-    routes: &'a [u8],
+    periods: &'a [u32; 256],
+    counts: &'a [u16; 256],
+    lengths: &'a [u16; 256],
+    hops: &'a [u8; 256],
+    routes: &'a [u8; 4096],
     duration: u64,
     out: &mut [u64],
 )
-    requires { ⌜ FlowColumns (now periods) (now counts) (now lengths) (now hops) (now routes) ⌝ }
     requires { ⌜ FlowsInRange (now periods) (now counts) (now lengths) (now hops) (now routes) ⌝ }
     requires { ⌜ (duration ≤ maxTop) × (length (now out) ≡ portSlots) ⌝ }
     ensures { λ r. ⌜ now (out .exit) ≡ tabulate portSlots (λ q. demand (columns [] [] (now (periods .entry)) (now (counts .entry)) (now (lengths .entry)) (now (hops .entry)) (now (routes .entry))) q duration) ⌝ }
@@ -84,20 +80,4 @@ pub(crate) fn demands<'a>(
         }
         f += 1;
     }
-}
-
-// The same for a held plan, outside the rounds of a search.
-pub(crate) fn demands_at(planner: Planner, duration: u64, out: &mut [u64])
-    requires { ⌜ (validPlan (planOf planner) ≡ true) × (duration ≤ planner .top) × (length (now out) ≡ portSlots) ⌝ }
-    ensures { λ r. ⌜ now (out .exit) ≡ tabulate portSlots (λ q. demand (planOf planner) q duration) ⌝ }
-{
-    demands(
-        &planner.periods,
-        &planner.counts,
-        &planner.lengths,
-        &planner.hops,
-        &planner.routes,
-        duration,
-        &mut out[..],
-    );
 }

@@ -1,21 +1,19 @@
 // Which ports fail at a duration, from each port's demand.
-use super::demand::demands_at;
+use super::demand::demands;
 use numbers::frame::blocking_bits;
 use numbers::port::FailingPorts;
 use numbers::port::failing_ports;
 use numbers::port::window;
 use tables::PORTS;
-use tables::Planner;
 ghost use mathlib.Core.Path.{_≡_};
 ghost use mathlib.Core.Bool.{true};
 ghost use Prim.Native.Nat.{ℕ, _≤_, _<_};
 ghost use lib.ListN.{length, getD};
-ghost use Rattle.cqf.specs.Bounded.{tabulate};
 ghost use Rattle.cqf.specs.Limits.{portSlots, maxTop};
 ghost use Rattle.cqf.specs.Plan.{validPlan};
-ghost use Rattle.cqf.specs.Condition.{workloadOf, failsBy, demand, mostDemand, failing, lowestFailing};
-ghost use Rattle.tables.specs.Tables.{planOf};
-ghost use Rattle.planner.specs.Failing.{setTo, failsIn};
+ghost use Rattle.cqf.specs.Condition.{workloadOf, failsBy, mostDemand};
+ghost use Rattle.tables.specs.Columns.{planBy};
+ghost use Rattle.planner.specs.Failing.{setTo, failsIn, FailingAt};
 
 // One Mbit/s carries one bit in 1,000 ns.
 const NS_PER_BIT: u64 = 1_000;
@@ -41,13 +39,12 @@ pub(crate) fn port_fails(rate: u32, blocking: u16, window: u64, bits: u64) -> bo
 
 // The failing ports: bit q for the port in slot q.
 pub(crate) fn failing_set<'a>(
-    rates: &'a [u32],
-    blockings: &'a [u16],
+    rates: &'a [u32; 64],
+    blockings: &'a [u16; 64],
     window: u64,
     demands: &'a [u64],
 ) -> u64
-    requires { ⌜ (length (now rates) ≡ portSlots) × (length (now blockings) ≡ portSlots) × (length (now demands) ≡ portSlots) ⌝ }
-    requires { ⌜ (window ≤ maxTop) × ((q : ℕ) → q < portSlots → getD (now demands) q 0 ≤ mostDemand) ⌝ }
+    requires { ⌜ (length (now demands) ≡ portSlots) × (window ≤ maxTop) × ((q : ℕ) → q < portSlots → getD (now demands) q 0 ≤ mostDemand) ⌝ }
     ensures { λ r. ⌜ r ≡ setTo portSlots (failsIn (now (rates .entry)) (now (blockings .entry)) window (now (demands .entry))) ⌝ }
 {
     let mut set: u64 = 0;
@@ -61,14 +58,25 @@ pub(crate) fn failing_set<'a>(
     set
 }
 
-// The ports that fail at a duration: the lowest, and how many. Each port's demand is left in out.
-pub(crate) fn failing_at(planner: Planner, duration: u64, out: &mut [u64]) -> FailingPorts
-    requires { ⌜ (validPlan (planOf planner) ≡ true) × (1 ≤ duration) × (duration ≤ planner .top) × (length (now out) ≡ portSlots) ⌝ }
-    ensures { λ r. ⌜ (r .port ≡ lowestFailing (planOf planner) duration) × (r .count ≡ failing (planOf planner) duration) ⌝ }
-    ensures { λ r. ⌜ now (out .exit) ≡ tabulate portSlots (λ q. demand (planOf planner) q duration) ⌝ }
+// The ports that fail at a duration: the lowest, and how many. Each port's demand is left in out. The tables with this duration
+// for their top hold a valid plan.
+pub(crate) fn failing_at<'a>(
+    guard: u32,
+    rates: &'a [u32; 64],
+    blockings: &'a [u16; 64],
+    periods: &'a [u32; 256],
+    counts: &'a [u16; 256],
+    lengths: &'a [u16; 256],
+    hops: &'a [u8; 256],
+    routes: &'a [u8; 4096],
+    duration: u64,
+    out: &mut [u64],
+) -> FailingPorts
+    requires { ⌜ (validPlan (planBy guard duration (now rates) (now blockings) (now periods) (now counts) (now lengths) (now hops) (now routes)) ≡ true) × (length (now out) ≡ portSlots) ⌝ }
+    ensures { λ r. ⌜ FailingAt (planBy guard duration (now (rates .entry)) (now (blockings .entry)) (now (periods .entry)) (now (counts .entry)) (now (lengths .entry)) (now (hops .entry)) (now (routes .entry))) duration (r .port) (r .count) (now (out .exit)) ⌝ }
 {
-    demands_at(planner, duration, &mut out[..]);
-    let usable = window(planner.guard, duration);
-    let set = failing_set(&planner.rates, &planner.blockings, usable, &out[..]);
+    demands(periods, counts, lengths, hops, routes, duration, out);
+    let available = window(guard, duration);
+    let set = failing_set(rates, blockings, available, &out[..]);
     failing_ports(set)
 }

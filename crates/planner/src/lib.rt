@@ -5,10 +5,12 @@ mod descend;
 mod failing;
 mod need;
 mod number;
+mod port_demand;
+mod port_slack;
 mod question;
+mod search;
+mod seek;
 
-pub use climb::least;
-pub use descend::margin_safe;
 pub use loading::LoadAnswer;
 pub use loading::LoadOutcome;
 pub use loading::load;
@@ -19,8 +21,10 @@ pub use number::margin_safe_number;
 pub use number::slack_number;
 pub use plan::Fault;
 pub use plan::fault_number;
+pub use port_slack::slack;
 pub use question::check;
-pub use question::slack;
+pub use search::least;
+pub use search::margin_safe;
 pub use tables::Planner;
 pub use tables::empty;
 

@@ -1,7 +1,11 @@
-// The duration that a port needs for its demand.
+// The duration that a port needs for its demand, and the most that a port needs.
 use super::failing::workload;
+use tables::PORTS;
 ghost use mathlib.Core.Path.{_≡_};
-ghost use Prim.Native.Nat.{_≤_, _<_};
+ghost use Prim.Native.Nat.{ℕ, max, _≤_, _<_};
+ghost use lib.ListN.{length, getD};
+ghost use Rattle.cqf.specs.Bounded.{maxTo};
+ghost use Rattle.cqf.specs.Limits.{portSlots};
 ghost use Rattle.cqf.specs.Condition.{needBy, mostDemand};
 
 // The least duration in which a port can send these bits outside the guard bands; 0 where there are none. A port with a demand
@@ -16,4 +20,31 @@ pub(crate) fn need(guard: u32, rate: u32, blocking: u16, bits: u64) -> u64
     let speed = rate as u64;
     let work = workload(blocking, bits);
     2 * (guard as u64) + (work + (speed - 1)) / speed
+}
+
+// The larger of two numbers.
+pub(crate) fn larger(a: u64, b: u64) -> u64
+    ensures { λ r. ⌜ r ≡ max a b ⌝ }
+{
+    if a < b { b } else { a }
+}
+
+// The most that a port needs for its demand; 0 where no port has one.
+pub(crate) fn largest_need<'a>(
+    guard: u32,
+    rates: &'a [u32; 64],
+    blockings: &'a [u16; 64],
+    demands: &'a [u64],
+) -> u64
+    requires { ⌜ length (now demands) ≡ portSlots ⌝ }
+    requires { ⌜ ((q : ℕ) → q < portSlots → (getD (now demands) q 0 ≤ mostDemand) × (0 < getD (now demands) q 0 → 0 < getD (now rates) q 0)) ⌝ }
+    ensures { λ r. ⌜ r ≡ maxTo portSlots (λ q. needBy guard (getD (now (rates .entry)) q 0) (getD (now (blockings .entry)) q 0) (getD (now (demands .entry)) q 0)) ⌝ }
+{
+    let mut most: u64 = 0;
+    let mut q: usize = 0;
+    while q < PORTS {
+        most = larger(most, need(guard, rates[q], blockings[q], demands[q]));
+        q += 1;
+    }
+    most
 }

@@ -1,50 +1,49 @@
-// The two questions at one duration: is it admissible, and what is a port's slack.
+// The plain question: is a duration admissible?
 use super::CheckAnswer;
-use super::SlackAnswer;
-use super::demand::demands_at;
 use super::failing::failing_at;
-use super::failing::workload;
-use numbers::limits::MAX_PORT;
 use numbers::limits::between;
-use numbers::port::window;
 use tables::Planner;
-use tables::valid_plan;
+use tables::valid_tables;
 ghost use mathlib.Core.Path.{_≡_};
-ghost use mathlib.Core.Bool.{true};
-ghost use Prim.Native.Nat.{_*_, _≤_};
-ghost use lib.IntN.{subℕ};
-ghost use Rattle.cqf.specs.Bounded.{tabulate};
-ghost use Rattle.cqf.specs.Limits.{portSlots, maxTop};
-ghost use Rattle.cqf.specs.Plan.{validPlan};
-ghost use Rattle.cqf.specs.Condition.{capacityOf, workloadOf, demand, mostDemand};
 ghost use Rattle.tables.specs.Tables.{planOf};
-ghost use Rattle.planner.specs.Answer.{checkOf, slackOf};
+ghost use Rattle.planner.specs.Answer.{checkOf};
 ghost use Rattle.planner.specs.Meaning.{CheckMeans};
-ghost use Rattle.planner.specs.Outcome.{checkAnswer, slackAnswer};
-
-// Each port's demand.
-fn port_demands(planner: Planner, duration: u64) -> [u64; 64]
-    requires { ⌜ (validPlan (planOf planner) ≡ true) × (duration ≤ planner .top) ⌝ }
-    ensures { λ r. ⌜ r ≡ tabulate portSlots (λ q. demand (planOf planner) q duration) ⌝ }
-{
-    let mut out = [0u64; 64];
-    demands_at(planner, duration, &mut out);
-    out
-}
+ghost use Rattle.planner.specs.Outcome.{checkAnswer};
 
 // Is this duration admissible? What the answer means is demand 3: after every sequence of calls that leads to this planner.
 pub fn check(planner: Planner, duration: u64) -> CheckAnswer
     ensures answers { λ r. ⌜ checkOf r ≡ checkAnswer (planOf planner) duration ⌝ }
     ensures means { λ r. ⌜ CheckMeans (planOf planner) duration (checkOf r) ⌝ }
 {
-    if !valid_plan(planner) {
+    if !valid_tables(
+        planner.guard,
+        planner.top,
+        &planner.rates,
+        &planner.blockings,
+        &planner.periods,
+        &planner.counts,
+        &planner.lengths,
+        &planner.hops,
+        &planner.routes,
+    ) {
         return CheckAnswer::NoPlan;
     }
     if !between(1, planner.top as u64, duration) {
         return CheckAnswer::BadDuration;
     }
     let mut out = [0u64; 64];
-    let ports = failing_at(planner, duration, &mut out);
+    let ports = failing_at(
+        planner.guard,
+        &planner.rates,
+        &planner.blockings,
+        &planner.periods,
+        &planner.counts,
+        &planner.lengths,
+        &planner.hops,
+        &planner.routes,
+        duration,
+        &mut out,
+    );
     if ports.count == 0 {
         return CheckAnswer::Admissible;
     }
@@ -52,37 +51,4 @@ pub fn check(planner: Planner, duration: u64) -> CheckAnswer
         port: ports.port,
         count: ports.count,
     }
-}
-
-// The slack of a port, from two products: a signed number, exact at zero.
-fn port_slack(rate: u32, blocking: u16, window: u64, bits: u64) -> i64
-    requires { ⌜ (window ≤ maxTop) × (bits ≤ mostDemand) ⌝ }
-    ensures { λ r. ⌜ r ≡ subℕ (capacityOf rate window) (workloadOf blocking bits) ⌝ }
-{
-    let capacity = (rate as u64) * window;
-    let needed = workload(blocking, bits);
-    (capacity as i64) - (needed as i64)
-}
-
-// What is the slack of this port?
-pub fn slack(planner: Planner, port: u64, duration: u64) -> SlackAnswer
-    ensures { λ r. ⌜ slackOf r ≡ slackAnswer (planOf planner) port duration ⌝ }
-{
-    if !valid_plan(planner) {
-        return SlackAnswer::NoPlan;
-    }
-    if !between(1, planner.top as u64, duration) {
-        return SlackAnswer::BadDuration;
-    }
-    if !between(1, MAX_PORT, port) {
-        return SlackAnswer::NotCrossed;
-    }
-    let q = (port - 1) as usize;
-    let out = port_demands(planner, duration);
-    let bits = out[q];
-    if bits == 0 {
-        return SlackAnswer::NotCrossed;
-    }
-    let open = window(planner.guard, duration);
-    SlackAnswer::Slack(port_slack(planner.rates[q], planner.blockings[q], open, bits))
 }

@@ -3,17 +3,17 @@ use mathlib.Core.Path.{_≡_}
 use mathlib.Core.List.{List}
 use mathlib.Core.Bool.{true, cond}
 use Prim.Native.Nat.{ℕ, suc, _+_, _*_, _≤_, _<_}
-use lib.ListN.{length, getD}
+use lib.ListN.{getD}
 use Rattle.cqf.specs.Bounded.{elem, distinct, every, sublist}
 use Rattle.cqf.specs.Limits.{portSlots, flowSlots, maxHops, routeStride, portOk, minPeriod, maxPeriod, maxCount, maxLength}
 use Rattle.cqf.specs.Plan.{Plan}
 
--- the columns in the order of the tables; one that the function is not lent is empty, and guard and top are 0
-abbrev pub columns : (rates blockings periods counts lengths hops routes : List ℕ) → Plan
-columns rates blockings periods counts lengths hops routes =
+-- the plan of these tables
+abbrev pub planBy : (guard top : ℕ) (rates blockings periods counts lengths hops routes : List ℕ) → Plan
+planBy guard top rates blockings periods counts lengths hops routes =
     record {
-      guard = 0;
-      top = 0;
+      guard = guard;
+      top = top;
       rates = rates;
       blockings = blockings;
       periods = periods;
@@ -23,13 +23,9 @@ columns rates blockings periods counts lengths hops routes =
       routes = routes;
     }
 
--- the flows' columns have a number for each slot
-pub record FlowColumns (periods counts lengths hops routes : List ℕ) : Type 0 where
-  pub periods-long : length periods ≡ flowSlots
-  pub counts-long : length counts ≡ flowSlots
-  pub lengths-long : length lengths ≡ flowSlots
-  pub hops-long : length hops ≡ flowSlots
-  pub routes-long : length routes ≡ flowSlots * routeStride
+-- the same where guard and top are not given; a column that the function is not lent is empty
+abbrev pub columns : (rates blockings periods counts lengths hops routes : List ℕ) → Plan
+columns = planBy 0 0
 
 -- a flow's slot that is empty or in range, over distinct ports; whether the ports are in the plan does not matter here
 pub record FlowInRange (period count bytes hops : ℕ) (route : List ℕ) : Type 0 where

@@ -13,6 +13,7 @@ pub const STRIDE: usize = 16;
 mod valid; // valid.rt: whether the tables hold a plan that the rules accept
 
 pub use valid::valid_plan;
+pub use valid::valid_tables;
 
 // The held plan: port n in slot n - 1, flow n in slot n - 1, a flow's route at its slot times the stride. An absent port has rate 0,
 // an absent flow period 0; top is 0 where no plan is held.

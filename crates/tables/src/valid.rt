@@ -14,14 +14,15 @@ use numbers::limits::top_ok;
 ghost use mathlib.Core.Path.{_≡_};
 ghost use mathlib.Core.Bool.{_&&_, _||_};
 ghost use mathlib.Core.List.{[]};
-ghost use Prim.Native.Nat.{_+_, _≤_, _<_};
-ghost use lib.ListN.{length};
+ghost use Prim.Native.Nat.{_+_, _*_, _≤_, _<_};
 ghost use lib.Dec.{eqb};
 ghost use Rattle.cqf.specs.Bounded.{anyTo, allTo, distinct, every, sublist};
-ghost use Rattle.cqf.specs.Limits.{portSlots, flowSlots, rateOk, blockingOk, periodOk, countOk, lengthOk, hopsOk};
+ghost use Rattle.cqf.specs.Limits.{portSlots, flowSlots, routeStride, rateOk, blockingOk, periodOk, countOk, lengthOk, hopsOk};
 ghost use Rattle.cqf.specs.Plan.{portIn, present, validPort, validFlow, validPlan};
 ghost use Rattle.tables.specs.Tables.{planOf};
-ghost use Rattle.tables.specs.Columns.{columns, FlowColumns};
+ghost use Rattle.tables.specs.Columns.{planBy, columns};
+
+const LAST_PORT: u8 = numbers::limits::MAX_PORT as u8;
 
 // Whether a port's slot is empty, or in range.
 fn valid_port(rate: u32, blocking: u16) -> bool
@@ -36,8 +37,7 @@ fn valid_port(rate: u32, blocking: u16) -> bool
     blocking_ok(blocking)
 }
 
-fn valid_ports<'a>(rates: &'a [u32], blockings: &'a [u16]) -> bool
-    requires { ⌜ (length (now rates) ≡ portSlots) × (length (now blockings) ≡ portSlots) ⌝ }
+fn valid_ports<'a>(rates: &'a [u32; 64], blockings: &'a [u16; 64]) -> bool
     ensures { λ r. ⌜ r ≡ allTo portSlots (validPort (columns (now (rates .entry)) (now (blockings .entry)) [] [] [] [] [])) ⌝ }
 {
     let mut q: usize = 0;
@@ -51,27 +51,28 @@ fn valid_ports<'a>(rates: &'a [u32], blockings: &'a [u16]) -> bool
 }
 
 // Whether each port of a route is in the plan and stands in the route once.
-fn valid_route<'a>(rates: &'a [u32], routes: &'a [u8], base: usize, hops: usize) -> bool
-    requires { ⌜ (length (now rates) ≡ portSlots) × (base + hops ≤ length (now routes)) ⌝ }
+fn valid_route<'a>(rates: &'a [u32; 64], routes: &'a [u8; 4096], base: usize, hops: usize) -> bool
+    requires { ⌜ base + hops ≤ flowSlots * routeStride ⌝ }
     ensures { λ r. ⌜ r ≡ every (portIn (now (rates .entry))) (sublist (now (routes .entry)) base hops) && distinct (sublist (now (routes .entry)) base hops) ⌝ }
 {
     let mut seen = [0u8; 64];
     let mut i: usize = 0;
     while i < hops {
-        let n = routes[base + i] as usize;
+        let n = routes[base + i];
         if n < 1 {
             return false;
         }
-        if PORTS < n {
+        if LAST_PORT < n {
             return false;
         }
-        if rates[n - 1] == 0 {
+        let q = n as usize - 1;
+        if rates[q] == 0 {
             return false;
         }
-        if seen[n - 1] != 0 {
+        if seen[q] != 0 {
             return false;
         }
-        seen[n - 1] = 1;
+        seen[q] = 1;
         i += 1;
     }
     true
@@ -95,15 +96,15 @@ fn flow_in_range(period: u32, count: u16, bytes: u16, hops: u8) -> bool
 
 // Whether a flow's slot is empty, or holds a flow in range over distinct ports of the plan.
 fn valid_flow<'a>(
-    rates: &'a [u32],
-    periods: &'a [u32],
-    counts: &'a [u16],
-    lengths: &'a [u16],
-    hops: &'a [u8],
-    routes: &'a [u8],
+    rates: &'a [u32; 64],
+    periods: &'a [u32; 256],
+    counts: &'a [u16; 256],
+    lengths: &'a [u16; 256],
+    hops: &'a [u8; 256],
+    routes: &'a [u8; 4096],
     f: usize,
 ) -> bool
-    requires { ⌜ (length (now rates) ≡ portSlots) × FlowColumns (now periods) (now counts) (now lengths) (now hops) (now routes) × (f < flowSlots) ⌝ }
+    requires { ⌜ f < flowSlots ⌝ }
     ensures { λ r. ⌜ r ≡ validFlow (columns (now (rates .entry)) [] (now (periods .entry)) (now (counts .entry)) (now (lengths .entry)) (now (hops .entry)) (now (routes .entry))) f ⌝ }
 {
     let period = periods[f];
@@ -126,14 +127,13 @@ fn valid_flow<'a>(
 }
 
 fn valid_flows<'a>(
-    rates: &'a [u32],
-    periods: &'a [u32],
-    counts: &'a [u16],
-    lengths: &'a [u16],
-    hops: &'a [u8],
-    routes: &'a [u8],
+    rates: &'a [u32; 64],
+    periods: &'a [u32; 256],
+    counts: &'a [u16; 256],
+    lengths: &'a [u16; 256],
+    hops: &'a [u8; 256],
+    routes: &'a [u8; 4096],
 ) -> bool
-    requires { ⌜ (length (now rates) ≡ portSlots) × FlowColumns (now periods) (now counts) (now lengths) (now hops) (now routes) ⌝ }
     ensures { λ r. ⌜ r ≡ allTo flowSlots (validFlow (columns (now (rates .entry)) [] (now (periods .entry)) (now (counts .entry)) (now (lengths .entry)) (now (hops .entry)) (now (routes .entry)))) ⌝ }
 {
     let mut f: usize = 0;
@@ -146,8 +146,7 @@ fn valid_flows<'a>(
     true
 }
 
-fn any_present(periods: &[u32]) -> bool
-    requires { ⌜ length (now periods) ≡ flowSlots ⌝ }
+fn any_present(periods: &[u32; 256]) -> bool
     ensures { λ r. ⌜ r ≡ anyTo flowSlots (present (columns [] [] (now (periods .entry)) [] [] [] [])) ⌝ }
 {
     let mut f: usize = 0;
@@ -160,29 +159,47 @@ fn any_present(periods: &[u32]) -> bool
     false
 }
 
-pub fn valid_plan(planner: Planner) -> bool
-    ensures { λ r. ⌜ r ≡ validPlan (planOf planner) ⌝ }
+// The same for tables that are lent column by column.
+pub fn valid_tables<'a>(
+    guard: u32,
+    top: u32,
+    rates: &'a [u32; 64],
+    blockings: &'a [u16; 64],
+    periods: &'a [u32; 256],
+    counts: &'a [u16; 256],
+    lengths: &'a [u16; 256],
+    hops: &'a [u8; 256],
+    routes: &'a [u8; 4096],
+) -> bool
+    ensures { λ r. ⌜ r ≡ validPlan (planBy guard top (now (rates .entry)) (now (blockings .entry)) (now (periods .entry)) (now (counts .entry)) (now (lengths .entry)) (now (hops .entry)) (now (routes .entry))) ⌝ }
 {
-    let top = planner.top;
     if !top_ok(top) {
         return false;
     }
-    let guard = planner.guard;
     if !guard_ok(guard) {
         return false;
     }
-    if !valid_ports(&planner.rates, &planner.blockings) {
+    if !valid_ports(rates, blockings) {
         return false;
     }
-    if !valid_flows(
+    if !valid_flows(rates, periods, counts, lengths, hops, routes) {
+        return false;
+    }
+    any_present(periods)
+}
+
+pub fn valid_plan(planner: Planner) -> bool
+    ensures { λ r. ⌜ r ≡ validPlan (planOf planner) ⌝ }
+{
+    valid_tables(
+        planner.guard,
+        planner.top,
         &planner.rates,
+        &planner.blockings,
         &planner.periods,
         &planner.counts,
         &planner.lengths,
         &planner.hops,
         &planner.routes,
-    ) {
-        return false;
-    }
-    any_present(&planner.periods)
+    )
 }

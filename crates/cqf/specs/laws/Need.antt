@@ -6,11 +6,12 @@ use Prim.Native.Nat.{ℕ, _+_, _-_, _*_, _≤_, _<_}
 use native.Mathlib.Nat.{mul-comm, mul-le-mul-right, le-trans}
 use native.Mathlib.Decide.{decLt}
 use native.Mathlib.Omega.{arith}
+use lib.Dec.{ltb}
 use borrow.Author.Tests.{eq-eqb, ltb-true, lt-ltb}
 use Rattle.cqf.specs.Limits.{portSlots}
 use Rattle.cqf.specs.Plan.{Plan, rateOf}
-use Rattle.cqf.specs.Condition.{ceilDiv, demand, window, capacity, workload, crossed, fails, failing, admissible}
-use Rattle.cqf.specs.laws.Bounded.{countTo-none}
+use Rattle.cqf.specs.Condition.{ceilDiv, demand, window, capacity, workload, need, crossed, fails, failing, admissible}
+use Rattle.cqf.specs.laws.Bounded.{cond-some, countTo-none}
 use Rattle.cqf.specs.laws.Ceil.{ceil-covers, ceil-least, ceil-positive}
 use Rattle.cqf.specs.laws.Condition.{workload-mono, none-fails}
 use Rattle.cqf.specs.laws.Monotone.{demand-mono}
@@ -20,9 +21,14 @@ unfoldable pub needFor : Plan → ℕ → ℕ → ℕ
 unfolding workload ceilDiv
 needFor p q bits = 2 * p .guard + ceilDiv (workload p q bits) (rateOf p q)
 
--- the same for the bits of its demand at T
-abbrev pub need : Plan → ℕ → ℕ → ℕ
-need p q T = needFor p q (demand p q T)
+-- what a port with a demand needs; one without needs nothing
+pub need-some : (p : Plan) (q T : ℕ) → 0 < demand p q T → need p q T ≡ needFor p q (demand p q T)
+unfolding need needFor workload
+need-some p q T l = rw (lt-ltb 0 (demand p q T) l)
+
+pub need-busy : (p : Plan) (q T : ℕ) → 0 < need p q T → 0 < demand p q T
+unfolding need
+need-busy p q T l = ltb-true 0 (demand p q T) (cond-some (ltb 0 (demand p q T)) _ l)
 
 -- bits to send are work to do
 pub workload-positive : (p : Plan) (q : ℕ) {bits : ℕ} → 0 < bits → 0 < workload p q bits
@@ -74,7 +80,7 @@ not-admissible p T q l e =
     eq-false-of-not-eq-true (λ a. false≢true (sym (none-fails p T a q l) ∙ e))
 
 -- up: where a port fails at T, it fails at each duration from T up to what it needs
-pub jump-up : (p : Plan) (T t q : ℕ) → 0 < rateOf p q → fails p T q ≡ true → T ≤ t → t < need p q T → fails p t q ≡ true
+pub jump-up : (p : Plan) (T t q : ℕ) → 0 < rateOf p q → fails p T q ≡ true → T ≤ t → t < needFor p q (demand p q T) → fails p t q ≡ true
 jump-up p T t q h e l less = fails-over p t q (fails-crossed p T q e) (over (decLt _ _))
   where
     over : Dec (capacity p q t < workload p q (demand p q t)) → capacity p q t < workload p q (demand p q t)
@@ -87,7 +93,7 @@ jump-up p T t q h e l less = fails-over p t q (fails-crossed p T q e) (over (dec
 -- down: where no crossed port needs more than t for its demand at T, no port fails at t nor at any duration from t to T
 pub jump-down
     : (p : Plan) (T t : ℕ)
-    → ((q : ℕ) → q < portSlots → crossed p q ≡ true → (0 < rateOf p q) × (need p q T ≤ t))
+    → ((q : ℕ) → q < portSlots → crossed p q ≡ true → (0 < rateOf p q) × (needFor p q (demand p q T) ≤ t))
     → t ≤ T
     → admissible p t ≡ true
 jump-down p T t h l =

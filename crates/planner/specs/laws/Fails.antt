@@ -54,10 +54,10 @@ module _ (p : Plan) (valid : validPlan p ≡ true) (T : ℕ) (long : 0 < T) wher
 
   -- the set of the ports that fail by the window and the table of demands
   pub failing-set
-      : {usable set : ℕ} {out : List ℕ}
-      → usable ≡ T - 2 * p .guard
+      : {window set : ℕ} {out : List ℕ}
+      → window ≡ T - 2 * p .guard
       → out ≡ tabulate portSlots (λ q. demand p q T)
-      → set ≡ setTo portSlots (failsIn (p .rates) (p .blockings) usable out)
+      → set ≡ setTo portSlots (failsIn (p .rates) (p .blockings) window out)
       → set ≡ setTo portSlots (fails p T)
   failing-set w d e =
       e

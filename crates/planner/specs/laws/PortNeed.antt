@@ -1,16 +1,13 @@
--- What a port needs, from its numbers and from the plan.
+-- What a port needs, from its numbers.
 use mathlib.Core.Path.{_≡_}
 use mathlib.Core.Bool.{Bool, true, false, cond}
 use Prim.Native.Nat.{ℕ, _+_, _-_, _*_, _/_, _^_, _≤_, _<_}
 use native.Mathlib.Nat.{div-le-self}
 use native.Mathlib.Numerals.{sub-one}
 use native.Mathlib.Omega.{arith}
-use lib.Dec.{eqb, ltb}
-use borrow.Author.Tests.{lt-ltb, ltb-true}
-use Rattle.cqf.specs.Plan.{Plan, rateOf, blockingOf}
+use lib.Dec.{eqb}
+use borrow.Author.Tests.{lt-ltb}
 use Rattle.cqf.specs.Condition.{bitsOf, ceilDiv, blockingBitsOf, workloadOf, needBy, mostDemand}
-use Rattle.cqf.specs.laws.Bounded.{cond-some}
-use Rattle.cqf.specs.laws.Need.{needFor}
 
 -- the bits of a blocking frame, and the work of a demand, are far below 2 ^ 64
 pub blocking-most : (blocking : ℕ) → blocking < 2 ^ 16 → cond (eqb blocking 0) 0 (bitsOf blocking) < 2 ^ 20
@@ -38,12 +35,3 @@ unfolding ceilDiv
 need-rounded guard rate blocking bits n some served e =
     let is : n ≡ workloadOf blocking bits + (rate - 1) = omega arith in
     rw (is, lt-ltb 0 bits some, sub-one)
-
--- what a port with a demand needs
-pub need-by : (p : Plan) (q bits : ℕ) → 0 < bits → needBy (p .guard) (rateOf p q) (blockingOf p q) bits ≡ needFor p q bits
-unfolding needFor
-need-by p q bits l = rw (lt-ltb 0 bits l)
-
--- one without needs nothing
-pub need-by-some : (guard rate blocking bits : ℕ) → 0 < needBy guard rate blocking bits → 0 < bits
-need-by-some guard rate blocking bits l = ltb-true 0 bits (cond-some (ltb 0 bits) _ l)

@@ -5,10 +5,11 @@ use mathlib.Core.List.{List, []}
 use Prim.Native.Nat.{ℕ, _≤_, _<_}
 use native.Mathlib.Omega.{arith}
 use lib.ListN.{length, getD}
-use Rattle.cqf.specs.Bounded.{tabulate}
+use Rattle.cqf.specs.Bounded.{maxTo, tabulate}
 use Rattle.cqf.specs.Limits.{portSlots, maxTop}
-use Rattle.cqf.specs.Plan.{Plan, rateOf, validPlan}
-use Rattle.cqf.specs.Condition.{demand, mostDemand}
+use Rattle.cqf.specs.Plan.{Plan, rateOf, blockingOf, validPlan}
+use Rattle.cqf.specs.Condition.{needBy, demand, need, largestNeed, mostDemand}
+use Rattle.cqf.specs.laws.Bounds.{maxTo-same}
 use Rattle.cqf.specs.laws.Tabulate.{tabulate-length, tabulate-at}
 use Rattle.cqf.specs.laws.Ranges.{top-most}
 use Rattle.cqf.specs.laws.Search.{busy-rate}
@@ -47,3 +48,12 @@ module _ {p : Plan} {out : List ℕ} {t : ℕ} (s : Filled p out t) where
     -- a port with a demand has a rate
     pub filled-served : 0 < getD out q 0 → 0 < rateOf p q
     filled-served l = busy-rate p (s .valid) t q (rw filled-bits at l)
+
+  -- the most that a port needs by the columns
+  pub filled-largest
+      : {r : ℕ}
+      → r ≡ maxTo portSlots (λ q. needBy (p .guard) (rateOf p q) (blockingOf p q) (getD out q 0))
+      → r ≡ largestNeed p t
+  unfolding largestNeed need
+  filled-largest e =
+      e ∙ maxTo-same portSlots _ _ (λ q l. ap (needBy (p .guard) (rateOf p q) (blockingOf p q)) (filled-bits q l))

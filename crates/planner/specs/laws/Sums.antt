@@ -1,20 +1,24 @@
 -- Laws of the demands as they are summed up, flow by flow, from columns that are in-range for it.
 use mathlib.Core.Path.{_≡_, refl, sym, ap, _∙_}
 use mathlib.Core.Logic.{_⊎_, inl, inr}
-use mathlib.Core.Bool.{Bool, true, false, cond, and-eq-true-iff}
+use mathlib.Core.Bool.{Bool, true, false, cond, false≢true, and-eq-true-iff}
 use mathlib.Core.List.{List, [], _∷_}
 use Prim.Native.Nat.{ℕ, _+_, _*_, _≤_, _<_, zero-le}
 use native.Mathlib.Nat.{add-zero, mul-le-mul-right, le-trans}
+use native.Mathlib.Numerals.{add-one}
 use native.Mathlib.Decide.{ℕ-discrete}
 use native.Mathlib.Omega.{arith}
 use lib.ListN.{length, getD}
 use lib.Seq.{ext-getD}
-use Rattle.cqf.specs.Bounded.{sumTo, every, distinct, sublist, tabulate}
-use Rattle.cqf.specs.Limits.{portSlots, flowSlots, maxTop, portOk}
+use borrow.Author.Tests.{ne-eqb}
+use Rattle.cqf.specs.Bounded.{sumTo, elem, every, distinct, sublist, tabulate}
+use Rattle.cqf.specs.Limits.{portSlots, flowSlots, maxTop, minPeriod, portOk}
 use Rattle.cqf.specs.Plan.{Plan, periodOf, countOf, lengthOf, hopsOf, routeOf, crosses, portIn, validPlan}
 use Rattle.cqf.specs.Condition.{bitsOf, wireBits, ceilDiv, begun, stretch, frames, demand, mostBits, mostDemand}
 use Rattle.cqf.specs.laws.Bounds.{sumTo-most}
 use Rattle.cqf.specs.laws.Valid.{Empty, Held, slot-cases}
+use Rattle.cqf.specs.laws.Lists.{elem-at, sublist-length, sublist-at}
+use Rattle.cqf.specs.laws.Route.{sublist-more, elem-more}
 use Rattle.cqf.specs.laws.Tabulate.{tabulate-length, tabulate-at}
 use Rattle.cqf.specs.laws.Demand.{share, demand-sum, flow-bits-most, share-none, sum-next}
 use Rattle.tables.specs.Columns.{columns, FlowInRange, Marked}
@@ -98,6 +102,15 @@ module _ (p : Plan) (T : ℕ) where
       let h′ : q < portSlots = omega arith in
       sums q h′ ∙ sym (demand-sum p q T) ∙ sym (tabulate-at portSlots (λ q. demand p q T) q h′))
 
+-- one port's demand by the flows before f, with flow f, which crosses it or does not
+module _ (p : Plan) (q T f : ℕ) {sum : ℕ} (before : sum ≡ sumTo f (share p q T)) where
+  pub sum-crossing : {bits : ℕ} → crosses p f q ≡ true → bits ≡ bitsAt p T f → sum + bits ≡ sumTo (f + 1) (share p q T)
+  unfolding frames begun stretch wireBits
+  sum-crossing e is = rw (before, is) (sym (sum-next p q T f ∙ rw e))
+
+  pub sum-apart : crosses p f q ≡ false → sum ≡ sumTo (f + 1) (share p q T)
+  sum-apart e = before ∙ sym (sum-next p q T f ∙ (rw e (add-zero _)))
+
 module _ (p : Plan) (in-range : AllInRange p) (T : ℕ) (fits : T ≤ maxTop) where
   -- one flow brings at most its most bits
   pub flow-most : (f : ℕ) → f < flowSlots → (periodOf p f ≡ 0 → ⊥) → bitsAt p T f ≤ mostBits
@@ -124,6 +137,26 @@ module _ (p : Plan) (in-range : AllInRange p) (T : ℕ) (fits : T ≤ maxTop) wh
 
   pub demand-most : (q : ℕ) → demand p q T ≤ mostDemand
   demand-most q = omega (arith, demand-sum p q T, sum-most q flowSlots (omega arith))
+
+-- a flow that crosses a port has a period
+pub crossing-period : (p : Plan) → AllInRange p → (q f : ℕ) → f < flowSlots → crosses p f q ≡ true → minPeriod ≤ periodOf p f
+unfolding sublist elem
+crossing-period p in-range q f l e =
+    in-range f l .period-least (λ none. false≢true (rw (in-range f l .absent none) at e))
+
+-- whether a number stands in a sublist, one place further and at a place
+pub elem-next
+    : (l : List ℕ) (at i n : ℕ)
+    → elem n (sublist l at i) ≡ false
+    → (getD l (at + i) 0 ≡ n → ⊥)
+    → elem n (sublist l at (i + 1)) ≡ false
+elem-next l at i n e ne =
+    rw (add-one i, sublist-more l at i, elem-more n (sublist l at i) (getD l (at + i) 0), e, ne-eqb n (getD l (at + i) 0) (λ d. ne (sym d)))
+
+pub elem-here : (l : List ℕ) (at h i n : ℕ) → i < h → getD l (at + i) 0 ≡ n → elem n (sublist l at h) ≡ true
+elem-here l at h i n less e =
+    ap (λ (m : ℕ). elem m (sublist l at h)) (sym (sublist-at l at h i less ∙ e))
+    ∙ elem-at (sublist l at h) i (rw sublist-length less)
 
 -- the demand depends on the flows' columns alone
 pub demand-columns

@@ -42,8 +42,8 @@ loop-holds c = (omega arith, refl, mark-none (c .args .out .now) (c .args .bits)
 add-q : tie.Need-add-q Inv-loop μ-loop
 add-q c = search needs
 
-shared-slice-read-q : tie.Need-shared-slice-read-q Inv-loop μ-loop
-shared-slice-read-q c = search needs
+element-copy-out-q : tie.Need-element-copy-out-q Inv-loop μ-loop
+element-copy-out-q c = search needs
 
 cast-q : tie.Need-cast-q Inv-loop μ-loop
 cast-q c = omega (arith, next (c .before))
@@ -112,7 +112,7 @@ add-route-spec =
     μ-loop
     loop-holds
     add-q
-    shared-slice-read-q
+    element-copy-out-q
     cast-q
     sub-q
     mul-out

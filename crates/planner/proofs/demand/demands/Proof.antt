@@ -23,9 +23,12 @@ Inv-loop periods counts lengths hops routes duration out₀ at f₀ out f =
 abbrev μ-loop : tie.MeasureT-loop
 μ-loop periods counts lengths hops routes duration out₀ at f₀ out f = flowSlots - f
 
--- where the function starts
-abbrev begin : tie.In-loop Inv-loop μ-loop → tie.Start Inv-loop μ-loop
-begin c = c .before .before .before .before .before .before .before .before .before .before .before .before
+-- where the function starts, from where the numbers are cleared and from the loop
+abbrev start : tie.After-clear Inv-loop μ-loop → tie.Start Inv-loop μ-loop
+start c = c .before .before .before
+
+abbrev begin : tie.At-loop Inv-loop μ-loop → tie.Start Inv-loop μ-loop
+begin c = start (c .before .before .before)
 
 -- the plan of the columns
 abbrev plan : tie.Start Inv-loop μ-loop → Plan
@@ -33,49 +36,50 @@ plan s =
     columns [] [] (s .args .periods .now) (s .args .counts .now) (s .args .lengths .now) (s .args .hops .now) (s .args .routes .now)
 
 -- the slot of the flow at hand
-slot : (c : tie.In-loop Inv-loop μ-loop) → (let f = c .before .loop .f in let p = plan (begin c) in FlowInRange (periodOf p f) (countOf p f) (lengthOf p f) (hopsOf p f) (routeOf p f))
-slot c = begin c .pre .1 .0 .slot (c .before .loop .f) (c .loop-test .taken)
+slot : (c : tie.In-loop Inv-loop μ-loop) → (let f = c .before .loop .f in let p = plan (begin (c .before)) in FlowInRange (periodOf p f) (countOf p f) (lengthOf p f) (hopsOf p f) (routeOf p f))
+slot c = begin (c .before) .pre .0 .slot (c .before .loop .f) (c .loop-test .taken)
 
 clear-requires : tie.Need-clear-requires Inv-loop μ-loop
-clear-requires c κs = c .before .before .before .before .before .before .before .pre .1 .1 .1
+clear-requires c κs = c .before .before .pre .1 .1
 
 cast-at : tie.Need-cast-at Inv-loop μ-loop
 cast-at c = search needs
 
 loop-holds : tie.Need-loop-holds Inv-loop μ-loop
 loop-holds c =
-    let start = c .before .before .before .before .before .before .before .before .before .before in
-    (omega arith, c .before .before .clear .kept .0 ∙ start .pre .1 .1 .1, sums-none (plan start) (start .args .duration) (c .before .before .clear .last .0) (c .before .before .clear .ensures))
+    let clear = c .before .before in
+    let s = start clear in
+    (omega arith, clear .clear .kept .0 ∙ s .pre .1 .1, sums-none (plan s) (s .args .duration) (clear .clear .last .0) (clear .clear .ensures))
 
 mul-period : tie.Need-mul-period Inv-loop μ-loop
 mul-period c = search needs
 
-shared-slice-read-period : tie.Need-shared-slice-read-period Inv-loop μ-loop
-shared-slice-read-period c = search needs
+element-copy-out-period : tie.Need-element-copy-out-period Inv-loop μ-loop
+element-copy-out-period c = search needs
 
 mul-flow-bits : tie.Need-mul-flow-bits Inv-loop μ-loop
 mul-flow-bits c = search needs
 
-shared-slice-read-flow-bits : tie.Need-shared-slice-read-flow-bits Inv-loop μ-loop
-shared-slice-read-flow-bits c = search needs
+element-copy-out-flow-bits : tie.Need-element-copy-out-flow-bits Inv-loop μ-loop
+element-copy-out-flow-bits c = search needs
 
 mul-flow-bits-2 : tie.Need-mul-flow-bits-2 Inv-loop μ-loop
 mul-flow-bits-2 c = search needs
 
-shared-slice-read-flow-bits-2 : tie.Need-shared-slice-read-flow-bits-2 Inv-loop μ-loop
-shared-slice-read-flow-bits-2 c = search needs
+element-copy-out-flow-bits-2 : tie.Need-element-copy-out-flow-bits-2 Inv-loop μ-loop
+element-copy-out-flow-bits-2 c = search needs
 
 flow-bits-requires : tie.Need-flow-bits-requires Inv-loop μ-loop
 flow-bits-requires c κs =
     let at = c .before .before .before .before in
     let r = slot at in
-    (r .period-least (c .before .before .if1 .taken), r .period-most, r .count-most, r .bytes-most, begin at .pre .1 .1 .0)
+    (r .period-least (c .before .before .if1 .taken), r .period-most, r .count-most, r .bytes-most, begin (at .before) .pre .1 .0)
 
 mul-add-route : tie.Need-mul-add-route Inv-loop μ-loop
 mul-add-route c = search needs
 
-shared-slice-read-add-route : tie.Need-shared-slice-read-add-route Inv-loop μ-loop
-shared-slice-read-add-route c = search needs
+element-copy-out-add-route : tie.Need-element-copy-out-add-route Inv-loop μ-loop
+element-copy-out-add-route c = search needs
 
 cast-add-route : tie.Need-cast-add-route Inv-loop μ-loop
 cast-add-route c = omega (arith, slot (c .before .before .before .before .before .before) .hops-most)
@@ -83,17 +87,17 @@ cast-add-route c = omega (arith, slot (c .before .before .before .before .before
 add-route-requires : tie.Need-add-route-requires Inv-loop μ-loop
 add-route-requires c κs =
     let at = c .before .before .before .before .before .before .before in
-    let start = begin at in
-    let p = plan start in
+    let s = begin (at .before) in
+    let p = plan s in
     let f = at .before .loop .f in
-    let T = start .args .duration in
+    let T = s .args .duration in
     let r = slot at in
     let bits = c .before .before .flow-bits in
-    let few : bits .result ≤ mostBits = rw (bits .ensures) (flow-most p (start .pre .1 .0 .slot) T (start .pre .1 .1 .0) f (at .loop-test .taken) (c .before .before .before .before .before .if1 .taken)) in (
-      (omega (arith, start .pre .0, r .hops-most), at .before .loop .inv .1),
+    let few : bits .result ≤ mostBits = rw (bits .ensures) (flow-most p (s .pre .0 .slot) T (s .pre .1 .0) f (at .loop-test .taken) (c .before .before .before .before .before .if1 .taken)) in (
+      (omega (arith, r .hops-most), at .before .loop .inv .1),
       (
         (r .ports, r .once),
-        λ q h. omega (arith, at .before .loop .inv .2 q h, sum-most p (start .pre .1 .0 .slot) T (start .pre .1 .1 .0) q f (at .before .loop .inv .0)),
+        λ q h. omega (arith, at .before .loop .inv .2 q h, sum-most p (s .pre .0 .slot) T (s .pre .1 .0) q f (at .before .loop .inv .0)),
       ),
     )
 
@@ -106,8 +110,8 @@ loop-less c = search needs
 loop-again : tie.Need-loop-again Inv-loop μ-loop
 loop-again c =
     let at = c .before .before in
-    let p = plan (begin at) in
-    let T = begin at .args .duration in
+    let p = plan (begin (at .before)) in
+    let T = begin (at .before) .args .duration in
     let f = at .before .loop .f in
     let out = at .before .loop .out in
     let sums = at .before .loop .inv .2 in
@@ -126,9 +130,9 @@ same-length c = search needs
 
 returns : tie.Need-returns Inv-loop μ-loop
 returns c =
-    let start = c .before .before .before .before .before .before .before .before .before .before .before .before in
+    let s = begin (c .before) in
     let all : c .before .loop .f ≡ flowSlots = omega arith in
-    sums-all (plan start) (start .args .duration) (c .before .loop .out) (c .before .loop .inv .1) (rw all at (c .before .loop .inv .2))
+    sums-all (plan s) (s .args .duration) (c .before .loop .out) (c .before .loop .inv .1) (rw all at (c .before .loop .inv .2))
 
 pub demands-spec : {M : Type 1} → statement M
 demands-spec =
@@ -140,14 +144,14 @@ demands-spec =
     cast-at
     loop-holds
     mul-period
-    shared-slice-read-period
+    element-copy-out-period
     mul-flow-bits
-    shared-slice-read-flow-bits
+    element-copy-out-flow-bits
     mul-flow-bits-2
-    shared-slice-read-flow-bits-2
+    element-copy-out-flow-bits-2
     flow-bits-requires
     mul-add-route
-    shared-slice-read-add-route
+    element-copy-out-add-route
     cast-add-route
     add-route-requires
     add-f

@@ -12,13 +12,14 @@ use Rattle.tables.specs.Columns.{columns}
 use Rattle.tables.proofs.valid.valid_flow.Statement.{statement}
 use Rattle.tables.proofs.valid.valid_flow.Tie as tie
 
+-- where the function starts, from past the test of the ranges
+abbrev start : tie.Else4 → tie.Start
+start c = c .before .before .before .before .before .before .before
+
 -- a flow in range has at most 16 ports
-few
-    : (c : tie.Else4)
-    → (let a = c .before .before .before .before .before .before .before .before .before .before .before .before .before .args in
-    getD (a .hops .now) (a .f) 0 ≤ maxHops)
+few : (c : tie.Else4) → getD (start c .args .hops .now) (start c .args .f) 0 ≤ maxHops
 few c =
-    let a = c .before .before .before .before .before .before .before .before .before .before .before .before .before .args in
+    let a = start c .args in
     ranged-hops
     (columns (a .rates .now) [] (a .periods .now) (a .counts .now) (a .lengths .now) (a .hops .now) (a .routes .now))
     (a .f)
@@ -27,23 +28,23 @@ few c =
 mul-period : tie.Need-mul-period
 mul-period c = search needs
 
-shared-slice-read-period : tie.Need-shared-slice-read-period
-shared-slice-read-period c = search needs
+element-copy-out-period : tie.Need-element-copy-out-period
+element-copy-out-period c = search needs
 
 mul-count : tie.Need-mul-count
 mul-count c = search needs
 
-shared-slice-read-count : tie.Need-shared-slice-read-count
-shared-slice-read-count c = search needs
+element-copy-out-count : tie.Need-element-copy-out-count
+element-copy-out-count c = search needs
 
 mul-bytes : tie.Need-mul-bytes
 mul-bytes c = search needs
 
-shared-slice-read-bytes : tie.Need-shared-slice-read-bytes
-shared-slice-read-bytes c = search needs
+element-copy-out-bytes : tie.Need-element-copy-out-bytes
+element-copy-out-bytes c = search needs
 
-shared-slice-read-ports : tie.Need-shared-slice-read-ports
-shared-slice-read-ports c = search needs
+element-copy-out-ports : tie.Need-element-copy-out-ports
+element-copy-out-ports c = search needs
 
 returns : tie.Need-returns
 returns c =
@@ -78,12 +79,12 @@ valid-flow-spec =
     tie.close
     (tie.spec
     mul-period
-    shared-slice-read-period
+    element-copy-out-period
     mul-count
-    shared-slice-read-count
+    element-copy-out-count
     mul-bytes
-    shared-slice-read-bytes
-    shared-slice-read-ports
+    element-copy-out-bytes
+    element-copy-out-ports
     returns
     returns-2
     returns-3

@@ -27,14 +27,14 @@ loop-holds c = search needs
 mul-valid-port : tie.Need-mul-valid-port Inv-loop μ-loop
 mul-valid-port c = search needs
 
-shared-slice-read-valid-port : tie.Need-shared-slice-read-valid-port Inv-loop μ-loop
-shared-slice-read-valid-port c = search needs
+element-copy-out-valid-port : tie.Need-element-copy-out-valid-port Inv-loop μ-loop
+element-copy-out-valid-port c = search needs
 
 mul-valid-port-2 : tie.Need-mul-valid-port-2 Inv-loop μ-loop
 mul-valid-port-2 c = search needs
 
-shared-slice-read-valid-port-2 : tie.Need-shared-slice-read-valid-port-2 Inv-loop μ-loop
-shared-slice-read-valid-port-2 c = search needs
+element-copy-out-valid-port-2 : tie.Need-element-copy-out-valid-port-2 Inv-loop μ-loop
+element-copy-out-valid-port-2 c = search needs
 
 valid-port-requires : tie.Need-valid-port-requires Inv-loop μ-loop
 valid-port-requires c κs = search needs
@@ -72,9 +72,9 @@ valid-ports-spec =
     μ-loop
     loop-holds
     mul-valid-port
-    shared-slice-read-valid-port
+    element-copy-out-valid-port
     mul-valid-port-2
-    shared-slice-read-valid-port-2
+    element-copy-out-valid-port-2
     valid-port-requires
     returns
     add-q

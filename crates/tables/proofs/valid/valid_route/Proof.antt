@@ -54,13 +54,8 @@ loop-holds c = (omega arith, refl, refl, λ q h. getD-replicate 64 q 0 0 h)
 add-n : tie.Need-add-n Inv-loop μ-loop
 add-n c = search needs
 
-shared-slice-read-n : tie.Need-shared-slice-read-n Inv-loop μ-loop
-shared-slice-read-n c = search needs
-
-cast-n : tie.Need-cast-n Inv-loop μ-loop
-cast-n c =
-    let at = c .before .before in
-    omega (arith, c .shared-slice-known .given (at .before .args .base + at .loop .i))
+element-copy-out-n : tie.Need-element-copy-out-n Inv-loop μ-loop
+element-copy-out-n c = search needs
 
 returns : tie.Need-returns Inv-loop μ-loop
 returns c =
@@ -76,11 +71,17 @@ returns-2 c =
     outside (a .rates .now) (a .routes .now) (a .base) (a .hops) (at .loop .i) (omega arith)
     (portIn-high (a .rates .now) _ (c .if2 .taken))
 
+cast-q : tie.Need-cast-q Inv-loop μ-loop
+cast-q c = omega arith
+
+sub-q : tie.Need-sub-q Inv-loop μ-loop
+sub-q c = omega arith
+
 mul-if3 : tie.Need-mul-if3 Inv-loop μ-loop
 mul-if3 c = search needs
 
-shared-slice-read-if3 : tie.Need-shared-slice-read-if3 Inv-loop μ-loop
-shared-slice-read-if3 c = search needs
+element-copy-out-if3 : tie.Need-element-copy-out-if3 Inv-loop μ-loop
+element-copy-out-if3 c = search needs
 
 returns-3 : tie.Need-returns-3 Inv-loop μ-loop
 returns-3 c =
@@ -137,12 +138,13 @@ valid-route-spec =
     μ-loop
     loop-holds
     add-n
-    shared-slice-read-n
-    cast-n
+    element-copy-out-n
     returns
     returns-2
+    cast-q
+    sub-q
     mul-if3
-    shared-slice-read-if3
+    element-copy-out-if3
     returns-3
     array-read-if4
     returns-4

@@ -1,4 +1,4 @@
--- `planner::question::port_slack` meets its contract.
+-- `planner::port_slack::port_slack` meets its contract.
 use mathlib.Core.Path.{ap, _∙_}
 use mathlib.Core.Bool.{Bool, true, false, cond}
 use Prim.Native.Nat.{ℕ, _+_, _*_, _^_, _≤_, _<_}
@@ -10,8 +10,8 @@ use borrow.Author.Needs.{needs}
 use Rattle.cqf.specs.Limits.{maxTop}
 use Rattle.cqf.specs.Condition.{bitsOf, nsPerBit}
 use Rattle.planner.specs.laws.Signed.{sub-fits, sub-is}
-use Rattle.planner.proofs.question.port_slack.Statement.{statement}
-use Rattle.planner.proofs.question.port_slack.Tie as tie
+use Rattle.planner.proofs.port_slack.port_slack.Statement.{statement}
+use Rattle.planner.proofs.port_slack.port_slack.Tie as tie
 
 -- both products are below 2 ^ 63
 capacity-most : (c : tie.Start) → c .args .rate * c .args .window ≤ 2 ^ 32 * maxTop

@@ -1,0 +1,155 @@
+-- `planner::port_demand::port_demand` meets its contract. The loop's invariant: `bits` is the demand by the flows passed.
+use mathlib.Core.Path.{_≡_, sym, _∙_}
+use mathlib.Core.Bool.{true}
+use mathlib.Core.Logic.{⊎-elim}
+use mathlib.Core.List.{[]}
+use Prim.Native.Nat.{_+_, _-_, _≤_}
+use native.Mathlib.Omega.{arith}
+use borrow.Author.Needs.{needs}
+use Rattle.cqf.specs.Bounded.{sumTo}
+use Rattle.cqf.specs.Limits.{flowSlots}
+use Rattle.cqf.specs.Plan.{Plan, periodOf, countOf, lengthOf, hopsOf, routeOf, crosses}
+use Rattle.cqf.specs.laws.Demand.{share, demand-sum}
+use Rattle.tables.specs.Columns.{columns, FlowInRange}
+use Rattle.planner.specs.laws.Sums.{sum-crossing, sum-apart, sum-most, crossing-period}
+use Rattle.planner.proofs.port_demand.port_demand.Statement.{statement}
+use Rattle.planner.proofs.port_demand.port_demand.Tie as tie
+
+abbrev Inv-loop : tie.InvT-loop
+Inv-loop periods counts lengths hops routes duration q at bits₀ f₀ bits f =
+    (f ≤ flowSlots) × (bits ≡ sumTo f (share (columns [] [] periods counts lengths hops routes) q duration))
+
+abbrev μ-loop : tie.MeasureT-loop
+μ-loop periods counts lengths hops routes duration q at bits₀ f₀ bits f = flowSlots - f
+
+-- the plan of the columns
+abbrev plan : tie.Start Inv-loop μ-loop → Plan
+plan s =
+    columns [] [] (s .args .periods .now) (s .args .counts .now) (s .args .lengths .now) (s .args .hops .now) (s .args .routes .now)
+
+-- the slot of the flow at hand
+module _ (c : tie.In-loop Inv-loop μ-loop) where
+  abbrev start : tie.Start Inv-loop μ-loop
+  start = c .before .before
+
+  slot
+      : (let f = c .before .loop .f in
+      let p = plan start in
+      FlowInRange (periodOf p f) (countOf p f) (lengthOf p f) (hopsOf p f) (routeOf p f))
+  slot = start .pre .0 .slot (c .before .loop .f) (c .loop-test .taken)
+
+-- the flow crosses the port
+abbrev inside : tie.Then1 Inv-loop μ-loop → tie.In-loop Inv-loop μ-loop
+inside c = c .before .before .before
+
+crossing : (c : tie.Then1 Inv-loop μ-loop) → crosses (plan (start (inside c))) (inside c .before .loop .f) (start (inside c) .args .q) ≡ true
+crossing c = sym (c .before .route-holds .ensures) ∙ c .if1 .taken
+
+cast-at : tie.Need-cast-at Inv-loop μ-loop
+cast-at c = search needs
+
+loop-holds : tie.Need-loop-holds Inv-loop μ-loop
+unfolding sumTo
+loop-holds c = search needs
+
+mul-route-holds : tie.Need-mul-route-holds Inv-loop μ-loop
+mul-route-holds c = search needs
+
+element-copy-out-route-holds : tie.Need-element-copy-out-route-holds Inv-loop μ-loop
+element-copy-out-route-holds c = search needs
+
+cast-route-holds : tie.Need-cast-route-holds Inv-loop μ-loop
+cast-route-holds c = omega (arith, slot (c .before) .hops-most)
+
+route-holds-requires : tie.Need-route-holds-requires Inv-loop μ-loop
+route-holds-requires c κs = (omega (arith, slot (c .before) .hops-most), start (c .before) .pre .1 .1)
+
+mul-flow-bits : tie.Need-mul-flow-bits Inv-loop μ-loop
+mul-flow-bits c = search needs
+
+element-copy-out-flow-bits : tie.Need-element-copy-out-flow-bits Inv-loop μ-loop
+element-copy-out-flow-bits c = search needs
+
+mul-flow-bits-2 : tie.Need-mul-flow-bits-2 Inv-loop μ-loop
+mul-flow-bits-2 c = search needs
+
+element-copy-out-flow-bits-2 : tie.Need-element-copy-out-flow-bits-2 Inv-loop μ-loop
+element-copy-out-flow-bits-2 c = search needs
+
+mul-flow-bits-3 : tie.Need-mul-flow-bits-3 Inv-loop μ-loop
+mul-flow-bits-3 c = search needs
+
+element-copy-out-flow-bits-3 : tie.Need-element-copy-out-flow-bits-3 Inv-loop μ-loop
+element-copy-out-flow-bits-3 c = search needs
+
+flow-bits-requires : tie.Need-flow-bits-requires Inv-loop μ-loop
+flow-bits-requires c κs =
+    let branch = c .before .before .before in
+    let at = inside branch in
+    let s = start at in
+    let r = slot at in
+    let least = crossing-period (plan s) (s .pre .0 .slot) (s .args .q) (at .before .loop .f) (at .loop-test .taken) (crossing branch) in
+    (least, r .period-most, r .count-most, r .bytes-most, s .pre .1 .0)
+
+add-bits : tie.Need-add-bits Inv-loop μ-loop
+add-bits c =
+    let branch = c .before .before .before .before in
+    let at = inside branch in
+    let s = start at in
+    let p = plan s in
+    let f = at .before .loop .f in
+    let next : f + 1 ≤ flowSlots = omega (arith, at .loop-test .taken) in
+    omega
+    (arith, sum-crossing p (s .args .q) (s .args .duration) f (at .before .loop .inv .1) (crossing branch) (c .flow-bits .ensures), sum-most p (s .pre .0 .slot) (s .args .duration) (s .pre .1 .0) (s .args .q) (f + 1) next)
+
+add-f : tie.Need-add-f Inv-loop μ-loop
+add-f c = search needs
+
+loop-less : tie.Need-loop-less Inv-loop μ-loop
+loop-less c = search needs
+
+loop-again : tie.Need-loop-again Inv-loop μ-loop
+loop-again c =
+    let at = c .before .before .before in
+    let s = start at in
+    let p = plan s in
+    let q = s .args .q in
+    let T = s .args .duration in
+    let f = at .before .loop .f in
+    let sum = at .before .loop .inv .1 in
+    let holds = c .before .route-holds .ensures in
+    ⊎-elim
+    (λ w. (omega arith, w .5 ∙ sum-crossing p q T f sum (sym holds ∙ w .0 .taken) (w .4 .ensures)))
+    (λ w. (omega arith, w .1 ∙ sum-apart p q T f sum (sym holds ∙ w .0 .left)))
+    (c .if1 .came)
+
+returns : tie.Need-returns Inv-loop μ-loop
+returns c =
+    let s = c .before .before in
+    let all : c .before .loop .f ≡ flowSlots = omega arith in
+    rw all at (c .before .loop .inv .1) ∙ sym (demand-sum (plan s) (s .args .q) (s .args .duration))
+
+pub port-demand-spec : {M : Type 1} → statement M
+port-demand-spec =
+    tie.close
+    (tie.spec
+    Inv-loop
+    μ-loop
+    cast-at
+    loop-holds
+    mul-route-holds
+    element-copy-out-route-holds
+    cast-route-holds
+    route-holds-requires
+    mul-flow-bits
+    element-copy-out-flow-bits
+    mul-flow-bits-2
+    element-copy-out-flow-bits-2
+    mul-flow-bits-3
+    element-copy-out-flow-bits-3
+    flow-bits-requires
+    add-bits
+    add-f
+    loop-less
+    loop-again
+    returns)

@@ -1,0 +1,53 @@
+// The demand of one port at a duration, in bits.
+use super::demand::flow_bits;
+use tables::FLOWS;
+use tables::STRIDE;
+ghost use mathlib.Core.Path.{_≡_};
+ghost use mathlib.Core.List.{[]};
+ghost use Prim.Native.Nat.{suc, _+_, _*_, _≤_, _<_};
+ghost use Rattle.cqf.specs.Bounded.{elem, sublist};
+ghost use Rattle.cqf.specs.Limits.{portSlots, flowSlots, routeStride, maxTop};
+ghost use Rattle.cqf.specs.Condition.{demand};
+ghost use Rattle.tables.specs.Columns.{columns, FlowsInRange};
+
+// Whether a route holds the port in slot q.
+fn route_holds<'a>(routes: &'a [u8; 4096], base: usize, hops: usize, q: usize) -> bool
+    requires { ⌜ (base + hops ≤ flowSlots * routeStride) × (q < portSlots) ⌝ }
+    ensures { λ r. ⌜ r ≡ elem (suc q) (sublist (now (routes .entry)) base hops) ⌝ }
+{
+    let port = (q + 1) as u8;
+    let mut i: usize = 0;
+    while i < hops {
+        if routes[base + i] == port {
+            return true;
+        }
+        i += 1;
+    }
+    false
+}
+
+// The demand of the port in slot q.
+pub(crate) fn port_demand<'a>(
+    periods: &'a [u32; 256],
+    counts: &'a [u16; 256],
+    lengths: &'a [u16; 256],
+    hops: &'a [u8; 256],
+    routes: &'a [u8; 4096],
+    duration: u64,
+    q: usize,
+) -> u64
+    requires { ⌜ FlowsInRange (now periods) (now counts) (now lengths) (now hops) (now routes) ⌝ }
+    requires { ⌜ (duration ≤ maxTop) × (q < portSlots) ⌝ }
+    ensures { λ r. ⌜ r ≡ demand (columns [] [] (now (periods .entry)) (now (counts .entry)) (now (lengths .entry)) (now (hops .entry)) (now (routes .entry))) q duration ⌝ }
+{
+    let at = duration as u32;
+    let mut bits: u64 = 0;
+    let mut f: usize = 0;
+    while f < FLOWS {
+        if route_holds(routes, f * STRIDE, hops[f] as usize, q) {
+            bits += flow_bits(periods[f], counts[f], lengths[f], at);
+        }
+        f += 1;
+    }
+    bits
+}

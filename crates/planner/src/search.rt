@@ -1,0 +1,156 @@
+// The two searches, and what they share.
+use super::SearchAnswer;
+use super::failing::failing_at;
+use super::seek::Goal;
+use super::seek::seek;
+use tables::PORTS;
+use tables::Planner;
+use tables::valid_tables;
+ghost use mathlib.Core.Path.{_≡_};
+ghost use mathlib.Core.Bool.{true};
+ghost use lib.ListN.{length};
+ghost use Rattle.cqf.specs.Limits.{portSlots};
+ghost use Rattle.cqf.specs.Plan.{validPlan};
+ghost use Rattle.tables.specs.Columns.{planBy};
+ghost use Rattle.tables.specs.Tables.{planOf};
+ghost use Rattle.planner.specs.Answer.{searchOf, leastOf, marginSafeOf};
+ghost use Rattle.planner.specs.Outcome.{leastAnswer, leastLeaves, marginSafeAnswer, marginSafeLeaves};
+ghost use Rattle.planner.specs.Search.{Answers, Ends, wanted, noneNumber};
+
+// The answer over 64 numbers, which are left with the demands at the duration found, or at top where there is none.
+fn answer<'a>(
+    goal: Goal,
+    guard: u32,
+    top: u32,
+    rates: &'a [u32; 64],
+    blockings: &'a [u16; 64],
+    periods: &'a [u32; 256],
+    counts: &'a [u16; 256],
+    lengths: &'a [u16; 256],
+    hops: &'a [u8; 256],
+    routes: &'a [u8; 4096],
+    out: &mut [u64],
+) -> SearchAnswer
+    requires { ⌜ (validPlan (planBy guard top (now rates) (now blockings) (now periods) (now counts) (now lengths) (now hops) (now routes)) ≡ true) × (length (now out) ≡ portSlots) ⌝ }
+    ensures { λ r. ⌜ Answers (noneNumber goal) (wanted goal) (planBy guard top (now (rates .entry)) (now (blockings .entry)) (now (periods .entry)) (now (counts .entry)) (now (lengths .entry)) (now (hops .entry)) (now (routes .entry))) (searchOf (noneNumber goal) r) (now (out .exit)) ⌝ }
+{
+    let found = seek(
+        goal,
+        guard,
+        top,
+        rates,
+        blockings,
+        periods,
+        counts,
+        lengths,
+        hops,
+        routes,
+        out,
+    );
+    let limit = top as u64;
+    if found <= limit {
+        return SearchAnswer::Duration(found);
+    }
+    let ports = failing_at(
+        guard,
+        rates,
+        blockings,
+        periods,
+        counts,
+        lengths,
+        hops,
+        routes,
+        limit,
+        out,
+    );
+    SearchAnswer::Failing {
+        port: ports.port,
+        count: ports.count,
+    }
+}
+
+// A search over the first 64 numbers of a scratch.
+fn search<'a>(
+    goal: Goal,
+    guard: u32,
+    top: u32,
+    rates: &'a [u32; 64],
+    blockings: &'a [u16; 64],
+    periods: &'a [u32; 256],
+    counts: &'a [u16; 256],
+    lengths: &'a [u16; 256],
+    hops: &'a [u8; 256],
+    routes: &'a [u8; 4096],
+    scratch: &mut [u64],
+) -> SearchAnswer
+    ensures { λ r. ⌜ Ends (noneNumber goal) (wanted goal) (planBy guard top (now (rates .entry)) (now (blockings .entry)) (now (periods .entry)) (now (counts .entry)) (now (lengths .entry)) (now (hops .entry)) (now (routes .entry))) (now (scratch .entry)) (searchOf (noneNumber goal) r) (now (scratch .exit)) ⌝ }
+{
+    if !valid_tables(
+        guard,
+        top,
+        rates,
+        blockings,
+        periods,
+        counts,
+        lengths,
+        hops,
+        routes,
+    ) {
+        return SearchAnswer::NoPlan;
+    }
+    let size = scratch.len();
+    if size < PORTS {
+        return SearchAnswer::ShortScratch;
+    }
+    answer(
+        goal,
+        guard,
+        top,
+        rates,
+        blockings,
+        periods,
+        counts,
+        lengths,
+        hops,
+        routes,
+        &mut scratch[..PORTS],
+    )
+}
+
+// The least admissible duration; 22 where there is none.
+pub fn least(planner: Planner, scratch: &mut [u64]) -> SearchAnswer
+    ensures { λ r. ⌜ (leastOf r ≡ leastAnswer (planOf planner) (now (scratch .entry))) × (now (scratch .exit) ≡ leastLeaves (planOf planner) (now (scratch .entry))) ⌝ }
+{
+    search(
+        Goal::Least,
+        planner.guard,
+        planner.top,
+        &planner.rates,
+        &planner.blockings,
+        &planner.periods,
+        &planner.counts,
+        &planner.lengths,
+        &planner.hops,
+        &planner.routes,
+        scratch,
+    )
+}
+
+// The margin-safe duration; 23 where there is none.
+pub fn margin_safe(planner: Planner, scratch: &mut [u64]) -> SearchAnswer
+    ensures { λ r. ⌜ (marginSafeOf r ≡ marginSafeAnswer (planOf planner) (now (scratch .entry))) × (now (scratch .exit) ≡ marginSafeLeaves (planOf planner) (now (scratch .entry))) ⌝ }
+{
+    search(
+        Goal::MarginSafe,
+        planner.guard,
+        planner.top,
+        &planner.rates,
+        &planner.blockings,
+        &planner.periods,
+        &planner.counts,
+        &planner.lengths,
+        &planner.hops,
+        &planner.routes,
+        scratch,
+    )
+}

@@ -1,0 +1,61 @@
+// What a search looks for, and how it is found.
+use super::climb::climb;
+use super::descend::descend;
+ghost use mathlib.Core.Path.{_≡_};
+ghost use mathlib.Core.Bool.{true};
+ghost use lib.ListN.{length};
+ghost use Rattle.cqf.specs.Limits.{portSlots};
+ghost use Rattle.cqf.specs.Plan.{validPlan};
+ghost use Rattle.tables.specs.Columns.{planBy};
+ghost use Rattle.planner.specs.Search.{Found, wanted};
+
+// What a search looks for.
+pub(crate) enum Goal {
+    Least,
+    MarginSafe,
+}
+
+// The duration that it looks for, or one above top where there is none.
+pub(crate) fn seek<'a>(
+    goal: Goal,
+    guard: u32,
+    top: u32,
+    rates: &'a [u32; 64],
+    blockings: &'a [u16; 64],
+    periods: &'a [u32; 256],
+    counts: &'a [u16; 256],
+    lengths: &'a [u16; 256],
+    hops: &'a [u8; 256],
+    routes: &'a [u8; 4096],
+    out: &mut [u64],
+) -> u64
+    requires { ⌜ (validPlan (planBy guard top (now rates) (now blockings) (now periods) (now counts) (now lengths) (now hops) (now routes)) ≡ true) × (length (now out) ≡ portSlots) ⌝ }
+    ensures { λ r. ⌜ Found (wanted goal) (planBy guard top (now (rates .entry)) (now (blockings .entry)) (now (periods .entry)) (now (counts .entry)) (now (lengths .entry)) (now (hops .entry)) (now (routes .entry))) r (now (out .exit)) ⌝ }
+{
+    match goal {
+        Goal::Least => climb(
+            guard,
+            top,
+            rates,
+            blockings,
+            periods,
+            counts,
+            lengths,
+            hops,
+            routes,
+            out,
+        ),
+        Goal::MarginSafe => descend(
+            guard,
+            top,
+            rates,
+            blockings,
+            periods,
+            counts,
+            lengths,
+            hops,
+            routes,
+            out,
+        ),
+    }
+}
