@@ -7,14 +7,10 @@ use Rattle.cqf.specs.Plan.{Plan}
 use Rattle.plan.specs.Answer.{faultNumber}
 use Rattle.plan.specs.Draft.{Draft}
 use Rattle.plan.specs.Reading.{PlanRead, accepted, rejected, Step, stop, more, namesAbsent, closing}
-use Rattle.loading.specs.Outcome.{readingAnswer, readingLeaves}
-use Rattle.loading.specs.Answer.{loadOf}
 use Rattle.loading.specs.declared.LoadAnswer.{LoadAnswer}
-use Rattle.loading.specs.declared.LoadOutcome.{LoadOutcome}
 use Rattle.loading.specs.declared.first.Sought.{Sought}
 use Rattle.loading.specs.declared.store.Totals.{Totals}
 use Rattle.loading.specs.declared.reading.Progress.{Progress}
-use Rattle.tables.specs.Tables.{planOf}
 
 -- the draft in the columns so far
 abbrev pub draftOf : Totals → (rates blockings periods counts lengths hops routes seen : List ℕ) → Draft
@@ -57,8 +53,3 @@ Closes bytes rates seen ports flows answer =
     (p : Plan)
     → p .rates ≡ rates
     → answerOf p answer ≡ closing bytes (record { tables = p; seen = seen; ports = ports; flows = flows })
-
--- what a reading answers, and leaves of the plan that was held
-pub record Leaves (held : Plan) (read : PlanRead) (outcome : LoadOutcome) : Type 0 where
-  pub leaves : planOf (outcome .planner) ≡ readingLeaves held read
-  pub answers : loadOf (outcome .answer) ≡ readingAnswer read

@@ -2,6 +2,7 @@
 
 use crate::LoadAnswer;
 use crate::LoadOutcome;
+use crate::MAX_BYTES;
 use crate::first::Sought;
 use crate::first::first_field;
 use crate::store::HEADER_KEY;
@@ -19,13 +20,14 @@ use plan::split::field_value;
 use tables::Planner;
 ghost use Prim.Native.Nat.{_≤_};
 ghost use mathlib.Core.Path.{_≡_};
-ghost use lib.ListN.{length};
+ghost use Rattle.cqf.specs.Bounded.{within};
 ghost use Rattle.plan.specs.Field.{field, fieldAt, routePorts};
-ghost use Rattle.plan.specs.Draft.{blank, fieldRepeats};
-ghost use Rattle.plan.specs.Reading.{loose, stepAt, readFrom, maxBytes};
+ghost use Rattle.plan.specs.Draft.{fieldRepeats};
+ghost use Rattle.plan.specs.Reading.{loose, stepAt, maxBytes};
 ghost use Rattle.plan.specs.Answer.{fieldOf};
 ghost use Rattle.tables.specs.Tables.{planOf};
-ghost use Rattle.loading.specs.Loading.{draftOf, progressOf, Closes, Leaves};
+ghost use Rattle.loading.specs.Answer.{Loads};
+ghost use Rattle.loading.specs.Loading.{draftOf, progressOf, Closes};
 
 // Whether the reading goes on after a field.
 pub(crate) enum Progress {
@@ -156,12 +158,30 @@ fn close(plan: &[u8], ports: u16, flows: u16, rates: &[u32; 64], seen: &[u8; KEY
     LoadAnswer::Held { ports, flows }
 }
 
-// All fields of the plan, read into fresh columns. Where the plan is accepted the planner is built of them; a refusal gives
-// back the planner that came in.
-pub(crate) fn read_plan(planner: Planner, plan: &[u8]) -> LoadOutcome
-    requires { ⌜ length (now plan) ≤ maxBytes ⌝ }
-    ensures { λ r. ⌜ Leaves (planOf planner) (readFrom loose (length (now (plan .entry))) (now (plan .entry)) 0 blank) r ⌝ }
+// Test 1.
+fn size_ok(size: usize) -> bool
+    ensures { λ r. ⌜ r ≡ within 1 maxBytes size ⌝ }
 {
+    if size < 1 {
+        return false;
+    }
+    size <= MAX_BYTES
+}
+
+// The plan in these bytes is held in place of the one before, where the rules find no refusal; otherwise the planner is given
+// back as it came. The columns are fresh, and go into the planner once, where the plan is accepted.
+pub fn load(planner: Planner, plan: &[u8]) -> LoadOutcome
+    ensures { λ r. ⌜ Loads (planOf planner) (now (plan .entry)) r ⌝ }
+{
+    if !size_ok(plan.len()) {
+        return LoadOutcome {
+            planner,
+            answer: LoadAnswer::Refused {
+                fault: Fault::Size,
+                offset: 0,
+            },
+        };
+    }
     let mut rates = [0u32; 64];
     let mut blockings = [0u16; 64];
     let mut periods = [0u32; 256];
@@ -205,20 +225,22 @@ pub(crate) fn read_plan(planner: Planner, plan: &[u8]) -> LoadOutcome
     }
     let answer = close(plan, totals.ports, totals.flows, &rates, &seen);
     match answer {
-        LoadAnswer::Held { ports: _, flows: _ } => LoadOutcome {
-            planner: Planner {
-                guard: totals.guard,
-                top: totals.top,
-                rates,
-                blockings,
-                periods,
-                counts,
-                lengths,
-                hops,
-                routes,
-            },
-            answer,
-        },
+        LoadAnswer::Held { ports: _, flows: _ } => {
+            let mut held = planner;
+            held.guard = totals.guard;
+            held.top = totals.top;
+            held.rates = rates;
+            held.blockings = blockings;
+            held.periods = periods;
+            held.counts = counts;
+            held.lengths = lengths;
+            held.hops = hops;
+            held.routes = routes;
+            LoadOutcome {
+                planner: held,
+                answer,
+            }
+        }
         LoadAnswer::Refused {
             fault: _,
             offset: _,

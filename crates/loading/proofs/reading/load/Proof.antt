@@ -1,20 +1,26 @@
--- `read_plan` meets its contract. The invariant: the reading from this offset on gives what the reading from the start gives.
+-- `load` meets its contract: test 1, then the fields. The invariant: the reading from this offset on gives what the reading from the start gives.
 use Prim.Native.Nat.{ℕ, _-_, _≤_}
 use mathlib.Core.Path.{_≡_, refl, sym, ap, _∙_}
+use mathlib.Core.Bool.{true}
 use mathlib.Core.List.{List}
 use borrow.Author.Needs.{needs}
+use borrow.Author.Tests.{not-true, not-false}
 use native.Mathlib.Omega.{arith}
 use lib.ListN.{length}
 use denote.Ref.{now}
+use Rattle.cqf.specs.Bounded.{within}
 use Rattle.cqf.specs.Plan.{noPlan}
 use Rattle.plan.specs.Draft.{Draft, blank}
-use Rattle.plan.specs.Reading.{loose, Step, more, stepAt, readFrom}
+use Rattle.plan.specs.Reading.{loose, Step, more, stepAt, readFrom, readPlan, maxBytes}
+use Rattle.plan.specs.laws.PlanLength.{read-sized, read-unsized}
+use Rattle.plan.specs.laws.Within.{within-high}
 use Rattle.plan.specs.laws.Steps.{Onward, onward, read-end, read-stop, read-more}
-use Rattle.loading.specs.Outcome.{readingAnswer, readingLeaves}
+use Rattle.tables.specs.Tables.{planOf}
+use Rattle.loading.specs.laws.Load.{refused-leaves, refused-answer, accepted-leaves, accepted-answer}
 use Rattle.loading.specs.Loading.{draftOf, progressOf, answerOf}
 use Rattle.loading.specs.declared.reading.Progress.{Progress}
-use Rattle.loading.proofs.reading.read_plan.Statement.{statement}
-use Rattle.loading.proofs.reading.read_plan.Tie as tie
+use Rattle.loading.proofs.reading.load.Statement.{statement}
+use Rattle.loading.proofs.reading.load.Tie as tie
 
 -- the fields before this offset are read, into this draft
 record Reached (s : List ℕ) (d : Draft) (at : ℕ) : Type 0 where
@@ -34,7 +40,7 @@ abbrev μ-loop : tie.MeasureT-loop
 -- where a turn begins: the plan's bytes, the offset and the draft so far
 module _ (c : tie.At-loop Inv-loop μ-loop) where
   abbrev bytes : List ℕ
-  bytes = now (c .before .before .args .plan)
+  bytes = now (c .before .before .before .before .args .plan)
 
   abbrev here : ℕ
   here = c .loop .at
@@ -44,33 +50,58 @@ module _ (c : tie.At-loop Inv-loop μ-loop) where
       draftOf (c .loop .totals) (c .loop .rates) (c .loop .blockings) (c .loop .periods) (c .loop .counts) (c .loop .lengths)
       (c .loop .hops) (c .loop .routes) (c .loop .seen)
 
--- what a field read makes of the columns
+  -- test 1 was passed
+  sized : within 1 maxBytes (length bytes) ≡ true
+  sized = sym (c .before .before .size-ok .ensures) ∙ not-false (c .before .before .size-ok .result) (c .before .if1 .left)
+
+  -- the reading of the plan is the reading from here on
+  rest-read : readPlan bytes ≡ readFrom loose (length bytes) bytes here held
+  unfolding readPlan
+  rest-read = read-sized loose bytes sized ∙ c .loop .inv .rest
+
+-- the step of a field that was read with this outcome, into the columns as the turn left them
 abbrev stepped-as : tie.After-step Inv-loop μ-loop → Progress → Step
-stepped-as c r = let l = c .step .last .1 .1 .1 in progressOf r (l .0) (l .1 .0) (l .1 .1 .0) (l .1 .1 .1 .0) (l .1 .1 .1 .1 .0) (l .1 .1 .1 .1 .1 .0) (l .1 .1 .1 .1 .1 .1 .0) (l .1 .1 .1 .1 .1 .1 .1 .0)
+stepped-as c r =
+    let l = c .step .last .1 .1 .1 in
+    progressOf r (l .0) (l .1 .0) (l .1 .1 .0) (l .1 .1 .1 .0) (l .1 .1 .1 .1 .0) (l .1 .1 .1 .1 .1 .0) (l .1 .1 .1 .1 .1 .1 .0)
+    (l .1 .1 .1 .1 .1 .1 .1 .0)
 
 -- a turn that goes on, as the definition steps
 module _ (c : tie.After-known-told Inv-loop μ-loop) where
+  abbrev turn : tie.At-loop Inv-loop μ-loop
+  turn = c .before .before .before .before .before .before .before .before .before .before .before .before .before
+
   abbrev next : ℕ
   next = c .before .next .given .0 .0
 
   abbrev read : Draft
-  read = let l = c .before .before .before .step .last .1 .1 .1 in draftOf (c .before .next .given .0 .1 .0) (l .0) (l .1 .0) (l .1 .1 .0) (l .1 .1 .1 .0) (l .1 .1 .1 .1 .0) (l .1 .1 .1 .1 .1 .0) (l .1 .1 .1 .1 .1 .1 .0) (l .1 .1 .1 .1 .1 .1 .1 .0)
+  read =
+      let l = c .before .before .before .step .last .1 .1 .1 in
+      draftOf (c .before .next .given .0 .1 .0) (l .0) (l .1 .0) (l .1 .1 .0) (l .1 .1 .1 .0) (l .1 .1 .1 .1 .0) (l .1 .1 .1 .1 .1 .0)
+      (l .1 .1 .1 .1 .1 .1 .0) (l .1 .1 .1 .1 .1 .1 .1 .0)
 
-  stepped : stepAt loose (bytes (c .before .before .before .before .before .before .before .before .before .before .before .before .before)) (here (c .before .before .before .before .before .before .before .before .before .before .before .before .before)) (held (c .before .before .before .before .before .before .before .before .before .before .before .before .before)) ≡ more next read
+  stepped : stepAt loose (bytes turn) (here turn) (held turn) ≡ more next read
   stepped = sym (c .before .before .before .step .ensures) ∙ ap (stepped-as (c .before .before .before)) (c .before .next .given .1)
 
-  goes-on : Onward (bytes (c .before .before .before .before .before .before .before .before .before .before .before .before .before)) (here (c .before .before .before .before .before .before .before .before .before .before .before .before .before)) (held (c .before .before .before .before .before .before .before .before .before .before .before .before .before)) next read
-  goes-on = onward loose (bytes (c .before .before .before .before .before .before .before .before .before .before .before .before .before)) (here (c .before .before .before .before .before .before .before .before .before .before .before .before .before)) (held (c .before .before .before .before .before .before .before .before .before .before .before .before .before)) next read stepped
+  goes-on : Onward (bytes turn) (here turn) (held turn) next read
+  goes-on = onward loose (bytes turn) (here turn) (held turn) next read stepped
 
 -- all fields are read
-at-end : (c : tie.After-close Inv-loop μ-loop) →
-    readFrom loose (length (now (c .before .before .before .before .before .before .args .plan))) (now (c .before .before .before .before .before .before .args .plan)) 0 blank
-    ≡ answerOf (held (c .before .before .before .before) .tables) (c .close .result)
+at-end : (c : tie.After-close Inv-loop μ-loop) → readPlan (bytes (c .before .before .before .before)) ≡ answerOf (held (c .before .before .before .before) .tables) (c .close .result)
 at-end c =
     let l = c .before .before .before .before in
-    l .loop .inv .rest
+    rest-read l
     ∙ read-end loose (bytes l) (here l) (held l) _ (c .before .before .before .loop-test .left)
     ∙ sym (c .close .ensures (held l .tables) refl)
+
+size-ok-requires : tie.Need-size-ok-requires Inv-loop μ-loop
+size-ok-requires c κs = tt
+
+returns : tie.Need-returns Inv-loop μ-loop
+unfolding readPlan
+returns c =
+    let e = read-unsized loose (now (c .before .before .before .args .plan)) (sym (c .before .size-ok .ensures) ∙ not-true (c .before .size-ok .result) (c .if1 .taken)) in
+    record { leaves = sym (refused-leaves _ _ 1 0 e); answers = sym (refused-answer _ 1 0 e) }
 
 loop-holds : tie.Need-loop-holds Inv-loop μ-loop
 unfolding blank noPlan
@@ -78,8 +109,10 @@ loop-holds c = record { inside = omega arith; ports = omega arith; flows = omega
 
 step-requires : tie.Need-step-requires Inv-loop μ-loop
 step-requires c κs =
-    let i = c .before .before .before .before .before .before .before .before .before .loop .inv in
-    (omega (arith, i .inside, i .ports, c .before .before .before .before .before .before .before .before .before .before .before .pre), omega (arith, i .inside, i .flows, c .before .before .before .before .before .before .before .before .before .before .before .pre))
+    let l = c .before .before .before .before .before .before .before .before .before in
+    let i = l .loop .inv in
+    let most = within-high 1 maxBytes (length (bytes l)) (sized l) in
+    (omega (arith, i .inside, i .ports, most), omega (arith, i .inside, i .flows, most))
 
 enum-known-next : tie.Need-enum-known-next Inv-loop μ-loop
 enum-known-next c = search needs
@@ -89,7 +122,7 @@ loop-less c = omega (arith, goes-on c .forward, goes-on c .inside)
 
 loop-again : tie.Need-loop-again Inv-loop μ-loop
 loop-again c =
-    let l = c .before .before .before .before .before .before .before .before .before .before .before .before .before in
+    let l = turn c in
     let i = l .loop .inv in
     record {
       inside = goes-on c .inside;
@@ -101,14 +134,14 @@ loop-again c =
 enum-known-fault : tie.Need-enum-known-fault Inv-loop μ-loop
 enum-known-fault c = search needs
 
-returns : tie.Need-returns Inv-loop μ-loop
-returns c =
+returns-2 : tie.Need-returns-2 Inv-loop μ-loop
+returns-2 c =
     let l = c .before .before .before .before .before .before .before .before .before .before .before .before .before in
     let e =
-    l .loop .inv .rest
+    rest-read l
     ∙ read-stop loose (bytes l) (here l) (held l) (c .before .before .before .before .before .before .before .before .before .before .before .before .loop-test .taken) _ _
     (sym (c .before .before .before .step .ensures) ∙ ap (stepped-as (c .before .before .before)) (c .before .fault .given .1)) in
-    record { leaves = sym (ap (readingLeaves _) e); answers = sym (ap readingAnswer e) }
+    record { leaves = sym (refused-leaves _ (bytes l) _ _ e); answers = sym (refused-answer (bytes l) _ _ e) }
 
 close-requires : tie.Need-close-requires Inv-loop μ-loop
 close-requires c κs = tt
@@ -119,31 +152,41 @@ enum-told c = search needs
 enum-told-2 : tie.Need-enum-told-2 Inv-loop μ-loop
 enum-told-2 c = search needs
 
-returns-2 : tie.Need-returns-2 Inv-loop μ-loop
-returns-2 c =
-    let e = at-end (c .before .before) ∙ ap (answerOf _) (c .enum-told .given .1) in
-    record { leaves = sym (ap (readingLeaves _) e); answers = rw (c .enum-told .given .1) (sym (ap readingAnswer e)) }
-
 returns-3 : tie.Need-returns-3 Inv-loop μ-loop
 returns-3 c =
-    let e = at-end (c .before .before) ∙ ap (answerOf _) (c .enum-told2 .given .1) in
-    record { leaves = sym (ap (readingLeaves _) e); answers = rw (c .enum-told2 .given .1) (sym (ap readingAnswer e)) }
+    let s = bytes (c .before .before .before .before .before .before) in
+    let e = at-end (c .before .before) ∙ ap (answerOf _) (c .enum-told .given .1) in
+    record {
+      leaves = sym (accepted-leaves (planOf (c .before .before .before .before .before .before .before .before .before .before .args .planner)) s _ _ _ e);
+      answers = rw (c .enum-told .given .1) (sym (accepted-answer s _ _ _ e));
+    }
 
-pub read-plan-spec : {M : Type 1} → statement M
-read-plan-spec =
+returns-4 : tie.Need-returns-4 Inv-loop μ-loop
+returns-4 c =
+    let s = bytes (c .before .before .before .before .before .before) in
+    let e = at-end (c .before .before) ∙ ap (answerOf _) (c .enum-told2 .given .1) in
+    record {
+      leaves = sym (refused-leaves (planOf (c .before .before .before .before .before .before .before .before .before .before .args .planner)) s _ _ e);
+      answers = rw (c .enum-told2 .given .1) (sym (refused-answer s _ _ e));
+    }
+
+pub load-spec : {M : Type 1} → statement M
+load-spec =
     tie.close
     (tie.spec
     Inv-loop
     μ-loop
+    size-ok-requires
+    returns
     loop-holds
     step-requires
     enum-known-next
     loop-less
     loop-again
     enum-known-fault
-    returns
+    returns-2
     close-requires
     enum-told
     enum-told-2
-    returns-2
-    returns-3)
+    returns-3
+    returns-4)
