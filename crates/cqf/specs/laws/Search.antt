@@ -77,8 +77,8 @@ module _ (p : Plan) (valid : validPlan p ≡ true) where
 
   module _ (t : ℕ) (s : Climbed p t) (less : t < largestNeed p t) where
     -- nothing below the largest need is admissible, since the port that has it fails up to there
-    passed : (u : ℕ) → 1 ≤ u → u < largestNeed p t → admissible p u ≡ false
-    passed u h l = go (decLt u t)
+    climb-passed : (u : ℕ) → 1 ≤ u → u < largestNeed p t → admissible p u ≡ false
+    climb-passed u h l = go (decLt u t)
       where
         go : Dec (u < t) → admissible p u ≡ false
         go (yes below) = s .none u h below
@@ -91,10 +91,10 @@ module _ (p : Plan) (valid : validPlan p ≡ true) where
             (omega (arith, m .3, need-some p (m .0) t busy)))
 
     pub climb-next : largestNeed p t ≤ p .top → Climbed p (largestNeed p t)
-    climb-next l = record { first = omega arith; within = l; none = passed }
+    climb-next l = record { first = omega arith; within = l; none = climb-passed }
 
     pub climb-over : p .top < largestNeed p t → least p ≡ suc (p .top)
-    climb-over l = least-of p ∙ smallest-none (admissible p) (p .top) (λ u h m. passed u h (omega arith))
+    climb-over l = least-of p ∙ smallest-none (admissible p) (p .top) (λ u h m. climb-passed u h (omega arith))
 
   pub descent-start : Descended p (suc (p .top))
   descent-start = record { first = omega arith; within = le-refl _; safe = λ u h l. absurd (omega arith) }

@@ -15,11 +15,11 @@ sub-sign a b = go (ltb a b) refl
     go true e = rw e
     go false e = rw e
 
-fails-crossed : (p : Plan) (T q : ℕ) → crossed p q ≡ true → fails p T q ≡ ltb (capacity p q T) (workload p q (demand p q T))
+crossed-fails : (p : Plan) (T q : ℕ) → crossed p q ≡ true → fails p T q ≡ ltb (capacity p q T) (workload p q (demand p q T))
 unfolding fails
-fails-crossed p T q e = ap (λ (x : Bool). x && ltb (capacity p q T) (workload p q (demand p q T))) e
+crossed-fails p T q e = ap (λ (x : Bool). x && ltb (capacity p q T) (workload p q (demand p q T))) e
 
 pub slack-sign : (p : Plan) (T q : ℕ) → crossed p q ≡ true → nonNeg (slack p q T) ≡ not (fails p T q)
 unfolding slack
 slack-sign p T q e =
-    sub-sign (capacity p q T) (workload p q (demand p q T)) ∙ ap not (sym (fails-crossed p T q e))
+    sub-sign (capacity p q T) (workload p q (demand p q T)) ∙ ap not (sym (crossed-fails p T q e))

@@ -22,13 +22,13 @@ pub record Filled (p : Plan) (out : List ℕ) (t : ℕ) : Type 0 where
   pub within : t ≤ p .top
   pub demands : out ≡ tabulate portSlots (λ q. demand p q t)
 
-pub filled
+pub filled-by
     : (p : Plan) {out : List ℕ} {t : ℕ}
     → validPlan p ≡ true
     → t ≤ p .top
     → out ≡ tabulate portSlots (λ q. demand (columns [] [] (p .periods) (p .counts) (p .lengths) (p .hops) (p .routes)) q t)
     → Filled p out t
-filled p {t = t} valid l e =
+filled-by p {t = t} valid l e =
     record { valid = valid; within = l; demands = e ∙ ap (tabulate portSlots) (fun-ext (λ q. demand-columns p q t)) }
 
 module _ {p : Plan} {out : List ℕ} {t : ℕ} (s : Filled p out t) where

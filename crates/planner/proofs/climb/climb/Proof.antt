@@ -13,7 +13,7 @@ use Rattle.cqf.specs.laws.Ranges.{top-most}
 use Rattle.cqf.specs.laws.Search.{Climbed, climb-start, climb-next, climb-over}
 use Rattle.tables.specs.Columns.{planBy}
 use Rattle.planner.specs.laws.Sums.{slot-in-range}
-use Rattle.planner.specs.laws.Scratch.{filled, filled-length, filled-short, filled-most, filled-served, filled-largest}
+use Rattle.planner.specs.laws.Scratch.{filled-by, filled-length, filled-short, filled-most, filled-served, filled-largest}
 use Rattle.planner.specs.laws.Climb.{Passed, Left, passed-start, passed-all, port-tested, passed-until, passed-next, left-least, left-more}
 use Rattle.planner.proofs.climb.climb.Statement.{statement}
 use Rattle.planner.proofs.climb.climb.Tie as tie
@@ -90,7 +90,7 @@ ports-holds c =
     let d = filling c in
     let l = d .before .before in
     let s = start l in
-    (passed-start (filled (plan s) (s .pre .0) (l .loop .inv .1 .within) (d .demands .ensures)) (l .loop .inv .1), c .window .ensures)
+    (passed-start (filled-by (plan s) (s .pre .0) (l .loop .inv .1 .within) (d .demands .ensures)) (l .loop .inv .1), c .window .ensures)
 
 mul-port-fails : tie.Need-mul-port-fails Inv-ports μ-ports Inv-loop μ-loop
 mul-port-fails c = omega arith

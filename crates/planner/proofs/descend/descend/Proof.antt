@@ -11,7 +11,7 @@ use Rattle.cqf.specs.laws.Ranges.{top-most}
 use Rattle.cqf.specs.laws.Search.{Descended, descent-start}
 use Rattle.tables.specs.Columns.{planBy}
 use Rattle.planner.specs.laws.Sums.{slot-in-range}
-use Rattle.planner.specs.laws.Scratch.{Filled, filled, filled-length, filled-short, filled-most, filled-served, filled-largest}
+use Rattle.planner.specs.laws.Scratch.{Filled, filled-by, filled-length, filled-short, filled-most, filled-served, filled-largest}
 use Rattle.planner.specs.laws.Descent.{descent-ends, descent-down}
 use Rattle.planner.proofs.descend.descend.Statement.{statement}
 use Rattle.planner.proofs.descend.descend.Tie as tie
@@ -42,7 +42,7 @@ filling c = c .before .before .before
 full : (c : tie.After-demands Inv-loop μ-loop) → Filled (plan (start (round c))) (c .demands .last .1 .1 .1 .1 .1 .1 .0) (round c .loop .below)
 full c =
     let s = start (round c) in
-    filled (plan s) (s .pre .0) (omega (arith, round c .loop .inv .1 .within)) (c .demands .ensures)
+    filled-by (plan s) (s .pre .0) (omega (arith, round c .loop .inv .1 .within)) (c .demands .ensures)
 
 -- the most that a port needs, or 1; and the end of the search where it is above below
 module _ (c : tie.After-larger Inv-loop μ-loop) where
@@ -119,7 +119,7 @@ returns-2 : tie.Need-returns-2 Inv-loop μ-loop
 returns-2 c =
     let d = c .before .before in
     let s = begin (past d .before) in
-    record { is = ends (past d); demands = λ l. filled (plan s) (s .pre .0) l (d .demands2 .ensures) .demands }
+    record { is = ends (past d); demands = λ l. filled-by (plan s) (s .pre .0) l (d .demands2 .ensures) .demands }
 
 pub descend-spec : {M : Type 1} → statement M
 descend-spec =

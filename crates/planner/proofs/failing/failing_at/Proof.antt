@@ -7,7 +7,7 @@ use Rattle.cqf.specs.laws.Ranges.{top-positive, top-most}
 use Rattle.tables.specs.Columns.{planBy}
 use Rattle.planner.specs.laws.Sums.{slot-in-range}
 use Rattle.planner.specs.laws.Fails.{failing-set, set-lowest-failing, set-failing}
-use Rattle.planner.specs.laws.Scratch.{Filled, filled, filled-length, filled-short, filled-most}
+use Rattle.planner.specs.laws.Scratch.{Filled, filled-by, filled-length, filled-short, filled-most}
 use Rattle.planner.proofs.failing.failing_at.Statement.{statement}
 use Rattle.planner.proofs.failing.failing_at.Tie as tie
 
@@ -26,7 +26,7 @@ filling c = c .before .before .before
 
 -- the demands at the duration
 at-duration : (c : tie.After-demands) → Filled (plan (start c)) (c .demands .last .1 .1 .1 .1 .1 .1 .0) (start c .args .duration)
-at-duration c = filled (plan (start c)) (start c .pre .0) (le-refl _) (c .demands .ensures)
+at-duration c = filled-by (plan (start c)) (start c .pre .0) (le-refl _) (c .demands .ensures)
 
 demands-requires : tie.Need-demands-requires
 demands-requires c κs =
