@@ -10,7 +10,7 @@ use Rattle.plan.specs.Reading.{PlanRead, accepted, rejected, Step, stop, more, 
 use Rattle.loading.specs.declared.LoadAnswer.{LoadAnswer}
 use Rattle.loading.specs.declared.first.Sought.{Sought}
 use Rattle.loading.specs.declared.store.Totals.{Totals}
-use Rattle.loading.specs.declared.reading.Progress.{Progress}
+use Rattle.loading.specs.declared.field.Progress.{Progress}
 
 -- the draft in the columns so far
 abbrev pub draftOf : Totals → (rates blockings periods counts lengths hops routes seen : List ℕ) → Draft

@@ -3,6 +3,7 @@ use plan::Fault;
 use tables::Planner;
 
 mod reading; // reading.rt: a whole plan read into columns of its own
+mod field; // field.rt: one field, tested and stored
 mod first; // first.rt: the first field that is sought, as test 9 wants it
 mod store; // store.rt: a field stored into the columns
 

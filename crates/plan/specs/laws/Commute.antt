@@ -1,14 +1,13 @@
 -- Two fields of different keys are stored in either order: column by column, what each puts there stands where its key says.
-use mathlib.Core.Path.{_≡_, refl, sym, _∙_}
+use mathlib.Core.Path.{_≡_, refl, sym}
 use mathlib.Core.Logic.{_≢_}
 use mathlib.Core.List.{List}
 use mathlib.Core.Bool.{true, false, true≢false}
 use mathlib.Core.Option.{none}
 use Prim.Native.Nat.{ℕ, _+_, _-_, _*_, _≤_}
 use native.Mathlib.Omega.{arith}
-use lib.ListN.{length, getD}
+use lib.ListN.{length}
 use lib.Seq.{set-comm, getD-set-same, getD-set-other}
-use borrow.Author.Tests.{lt-ltb}
 use Rattle.cqf.specs.Limits.{portSlots, flowSlots, routeStride, portOk, flowOk}
 use Rattle.cqf.specs.Plan.{Plan}
 use Rattle.plan.specs.Field.{Field}

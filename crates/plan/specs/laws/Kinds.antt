@@ -3,7 +3,7 @@
 use Prim.Native.Nat.{ℕ, _+_, _<_}
 use mathlib.Core.List.{List}
 use native.Mathlib.Omega.{arith}
-use Rattle.cqf.specs.Limits.{portSlots, flowSlots}
+use Rattle.cqf.specs.Limits.{portSlots}
 use Rattle.plan.specs.Field.{Field, header, port, flow, ofHeader, ofPort, ofFlow}
 use Rattle.plan.specs.Key.{headerKey, keySlots, keyOf}
 use Rattle.plan.specs.Ranges.{HeaderOk, PortOk, FlowOk, RouteOk, NumbersOk, RouteFits}

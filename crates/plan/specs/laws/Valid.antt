@@ -6,7 +6,7 @@ use mathlib.Core.Bool.{true, false, true≢false}
 use Prim.Native.Nat.{ℕ, _<_}
 use lib.Dec.{eqb}
 use borrow.Author.Tests.{eq-eqb, not-false}
-use Rattle.cqf.specs.Bounded.{every, distinct, anyTo}
+use Rattle.cqf.specs.Bounded.{every, anyTo}
 use Rattle.cqf.specs.Limits.{portSlots, flowSlots}
 use Rattle.cqf.specs.Plan.{Plan, present, portIn, validPort, validFlow, validPlan}
 use Rattle.cqf.specs.laws.Bounded.{allTo-every, anyTo-some}

@@ -18,7 +18,7 @@ use Rattle.plan.specs.laws.Steps.{Onward, onward, read-end, read-stop, read-mor
 use Rattle.tables.specs.Tables.{planOf}
 use Rattle.loading.specs.laws.Load.{refused-leaves, refused-answer, accepted-leaves, accepted-answer}
 use Rattle.loading.specs.Loading.{draftOf, progressOf, answerOf}
-use Rattle.loading.specs.declared.reading.Progress.{Progress}
+use Rattle.loading.specs.declared.field.Progress.{Progress}
 use Rattle.loading.proofs.reading.load.Statement.{statement}
 use Rattle.loading.proofs.reading.load.Tie as tie
 

@@ -1,5 +1,5 @@
 -- `route_bytes` meets its contract: what is left of the value behind its other numbers.
-use mathlib.Core.Path.{sym, _∙_}
+use mathlib.Core.Path.{sym}
 use native.Mathlib.Omega.{arith}
 use borrow.Author.Needs.{needs}
 use lib.ListN.{drop, drop-of-length-le, length-drop}

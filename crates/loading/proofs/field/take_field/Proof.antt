@@ -15,8 +15,8 @@ use Rattle.plan.specs.laws.Kinds.{key-below}
 use Rattle.plan.specs.laws.Steps.{step-taken, step-repeats, step-added}
 use Rattle.loading.specs.Loading.{draftOf}
 use borrow.Author.Needs.{needs}
-use Rattle.loading.proofs.reading.take_field.Statement.{statement}
-use Rattle.loading.proofs.reading.take_field.Tie as tie
+use Rattle.loading.proofs.field.take_field.Statement.{statement}
+use Rattle.loading.proofs.field.take_field.Tie as tie
 
 -- the draft that the function is lent
 abbrev held : tie.Start → Draft

@@ -7,8 +7,8 @@ use Rattle.plan.specs.Answer.{fieldReadOf}
 use Rattle.plan.specs.laws.Steps.{step-refused}
 use Rattle.loading.specs.Loading.{draftOf}
 use borrow.Author.Needs.{needs}
-use Rattle.loading.proofs.reading.step.Statement.{statement}
-use Rattle.loading.proofs.reading.step.Tie as tie
+use Rattle.loading.proofs.field.step.Statement.{statement}
+use Rattle.loading.proofs.field.step.Tie as tie
 
 -- the draft that the function is lent
 abbrev held : tie.Start → Draft

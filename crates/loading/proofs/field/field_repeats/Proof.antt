@@ -1,7 +1,7 @@
 -- `field_repeats` meets its contract, by the kind of field.
 use borrow.Author.Needs.{needs}
-use Rattle.loading.proofs.reading.field_repeats.Statement.{statement}
-use Rattle.loading.proofs.reading.field_repeats.Tie as tie
+use Rattle.loading.proofs.field.field_repeats.Statement.{statement}
+use Rattle.loading.proofs.field.field_repeats.Tie as tie
 
 enum-told : tie.Need-enum-told
 enum-told c = search needs

@@ -1,0 +1,123 @@
+// One field of a plan that is being read: the tests 2 to 7, and the field stored.
+
+use crate::store::KEYS;
+use crate::store::Totals;
+use crate::store::key_of;
+use crate::store::store_field;
+use plan::Fault;
+use plan::Field;
+use plan::FieldRead;
+use plan::read::read_field;
+use plan::route::route_bytes;
+use plan::route::route_repeats;
+use plan::split::field_value;
+ghost use Prim.Native.Nat.{_≤_};
+ghost use mathlib.Core.Path.{_≡_};
+ghost use Rattle.plan.specs.Field.{field, fieldAt, routePorts};
+ghost use Rattle.plan.specs.Draft.{fieldRepeats};
+ghost use Rattle.plan.specs.Reading.{loose, stepAt, maxBytes};
+ghost use Rattle.plan.specs.Answer.{fieldOf};
+ghost use Rattle.loading.specs.Loading.{draftOf, progressOf};
+
+// Whether the reading goes on after a field.
+pub(crate) enum Progress {
+    More { next: usize, totals: Totals },
+    Stop { fault: Fault, offset: usize },
+}
+
+// Test 7: whether the field's route holds a port twice.
+fn field_repeats(field: Field, route: &[u8]) -> bool
+    ensures { λ r. ⌜ r ≡ fieldRepeats (fieldOf field) (routePorts (now (route .entry))) ⌝ }
+{
+    match field {
+        Field::Header(_) => false,
+        Field::Port(_) => false,
+        Field::Flow(_) => route_repeats(route),
+    }
+}
+
+// A field that passed the tests 2 to 5: the tests 6 and 7, and the field stored.
+fn take_field(
+    plan: &[u8],
+    at: usize,
+    x: Field,
+    next: usize,
+    totals: Totals,
+    rates: &mut [u32; 64],
+    blockings: &mut [u16; 64],
+    periods: &mut [u32; 256],
+    counts: &mut [u16; 256],
+    lengths: &mut [u16; 256],
+    hops: &mut [u8; 256],
+    routes: &mut [u8; 4096],
+    seen: &mut [u8; KEYS],
+) -> Progress
+    requires { ⌜ (totals .ports ≤ maxBytes) × (totals .flows ≤ maxBytes) × (fieldAt (now plan) at ≡ field (fieldOf x) next) ⌝ }
+    ensures { λ r. ⌜ progressOf r (now (rates .exit)) (now (blockings .exit)) (now (periods .exit)) (now (counts .exit)) (now (lengths .exit)) (now (hops .exit)) (now (routes .exit)) (now (seen .exit)) ≡ stepAt loose (now (plan .entry)) at (draftOf totals (now (rates .entry)) (now (blockings .entry)) (now (periods .entry)) (now (counts .entry)) (now (lengths .entry)) (now (hops .entry)) (now (routes .entry)) (now (seen .entry))) ⌝ }
+{
+    let key = key_of(x);
+    if 0 < seen[key] {
+        return Progress::Stop {
+            fault: Fault::Duplicate,
+            offset: at,
+        };
+    }
+    let route = route_bytes(field_value(plan, at));
+    if field_repeats(x, route) {
+        return Progress::Stop {
+            fault: Fault::RepeatedPort,
+            offset: at,
+        };
+    }
+    let sums = store_field(
+        x,
+        route,
+        totals,
+        rates,
+        blockings,
+        periods,
+        counts,
+        lengths,
+        hops,
+        routes,
+        seen,
+    );
+    Progress::More { next, totals: sums }
+}
+
+// The field at this offset.
+pub(crate) fn step(
+    plan: &[u8],
+    at: usize,
+    totals: Totals,
+    rates: &mut [u32; 64],
+    blockings: &mut [u16; 64],
+    periods: &mut [u32; 256],
+    counts: &mut [u16; 256],
+    lengths: &mut [u16; 256],
+    hops: &mut [u8; 256],
+    routes: &mut [u8; 4096],
+    seen: &mut [u8; KEYS],
+) -> Progress
+    requires { ⌜ (totals .ports ≤ maxBytes) × (totals .flows ≤ maxBytes) ⌝ }
+    ensures { λ r. ⌜ progressOf r (now (rates .exit)) (now (blockings .exit)) (now (periods .exit)) (now (counts .exit)) (now (lengths .exit)) (now (hops .exit)) (now (routes .exit)) (now (seen .exit)) ≡ stepAt loose (now (plan .entry)) at (draftOf totals (now (rates .entry)) (now (blockings .entry)) (now (periods .entry)) (now (counts .entry)) (now (lengths .entry)) (now (hops .entry)) (now (routes .entry)) (now (seen .entry))) ⌝ }
+{
+    match read_field(plan, at) {
+        FieldRead::Field { field, next } => take_field(
+            plan,
+            at,
+            field,
+            next,
+            totals,
+            rates,
+            blockings,
+            periods,
+            counts,
+            lengths,
+            hops,
+            routes,
+            seen,
+        ),
+        FieldRead::Refused { fault, offset } => Progress::Stop { fault, offset },
+    }
+}
