@@ -14,9 +14,9 @@ typedef struct { uint8_t bytes[MAX_BYTES]; size_t length; } plan_bytes;
 
 static plan_bytes accepted, refused;
 static cp_planner held, empty;
-static cp_loaded loaded;
+static cp_load_outcome loaded;
 static cp_answer answer;
-static cp_slacked slacked;
+static cp_slack_answer slacked;
 static cp_field_read field;
 static uint64_t scratch[PORTS];
 static uint8_t repeats;
@@ -25,9 +25,9 @@ static uint8_t repeats;
 static char *at_call;
 #define SEEN at_call = __builtin_dwarf_cfa()
 static cp_planner see_empty(void) { SEEN; return held; }
-static cp_loaded see_load(cp_planner p, const uint8_t *b, size_t n) { SEEN; (void)p, (void)b, (void)n; return loaded; }
+static cp_load_outcome see_load(cp_planner p, const uint8_t *b, size_t n) { SEEN; (void)p, (void)b, (void)n; return loaded; }
 static cp_answer see_check(cp_planner p, uint64_t d) { SEEN; (void)p, (void)d; return answer; }
-static cp_slacked see_slack(cp_planner p, uint64_t n, uint64_t d) { SEEN; (void)p, (void)n, (void)d; return slacked; }
+static cp_slack_answer see_slack(cp_planner p, uint64_t n, uint64_t d) { SEEN; (void)p, (void)n, (void)d; return slacked; }
 static cp_answer see_search(cp_planner p, uint64_t *s, size_t n) { SEEN; (void)p, (void)s, (void)n; return answer; }
 static cp_field_read see_field(const uint8_t *b, size_t n, size_t o) { SEEN; (void)b, (void)n, (void)o; return field; }
 static uint8_t see_repeats(const uint8_t *b, size_t n) { SEEN; (void)b, (void)n; return 0; }
@@ -60,13 +60,13 @@ MEASURED(on_empty) {
 }
 
 MEASURED(on_load) {
-  MEASURE(cp_loaded (*volatile call)(cp_planner, const uint8_t *, size_t), see_load, cp_load,
+  MEASURE(cp_load_outcome (*volatile call)(cp_planner, const uint8_t *, size_t), see_load, cp_load,
           loaded = call(held, accepted.bytes, accepted.length));
   return unused;
 }
 
 MEASURED(on_refused_load) {
-  MEASURE(cp_loaded (*volatile call)(cp_planner, const uint8_t *, size_t), see_load, cp_load,
+  MEASURE(cp_load_outcome (*volatile call)(cp_planner, const uint8_t *, size_t), see_load, cp_load,
           loaded = call(held, refused.bytes, refused.length));
   return unused;
 }
@@ -77,7 +77,7 @@ MEASURED(on_check) {
 }
 
 MEASURED(on_slack) {
-  MEASURE(cp_slacked (*volatile call)(cp_planner, uint64_t, uint64_t), see_slack, cp_slack,
+  MEASURE(cp_slack_answer (*volatile call)(cp_planner, uint64_t, uint64_t), see_slack, cp_slack,
           slacked = call(held, 1, held.top));
   return unused;
 }
