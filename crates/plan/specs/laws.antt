@@ -1,6 +1,7 @@
 -- Laws of the definitions: numbers in bytes, heads, values, routes; the walk over the fields and what an accepted plan is.
 pub mod Whole
 pub mod Lists
+pub mod Lengths
 pub mod Within
 pub mod Route
 pub mod Tested

@@ -9,8 +9,7 @@ use crate::Header;
 use crate::Port;
 use crate::number::be16;
 use crate::number::be32;
-use crate::route::FLOW_SIZE;
-use crate::route::hops_in;
+use crate::route::hops_by_length;
 use crate::route::route_bytes;
 use crate::route::route_in_range;
 use crate::split::HEAD_SIZE;
@@ -20,7 +19,6 @@ use numbers::limits::blocking_ok;
 use numbers::limits::count_ok;
 use numbers::limits::flow_ok;
 use numbers::limits::guard_ok;
-use numbers::limits::hops_ok;
 use numbers::limits::length_ok;
 use numbers::limits::period_ok;
 use numbers::limits::port_ok;
@@ -134,14 +132,8 @@ fn flow_of(value: &[u8], at: usize, next: usize) -> FieldRead
     ensures { λ r. ⌜ fieldReadOf r ≡ flowIn (now (value .entry)) at next ⌝ }
 {
     let size = value.len();
-    let hops = hops_in(size);
-    if !hops_ok(hops) {
-        return FieldRead::Refused {
-            fault: Fault::WrongLength,
-            offset: at,
-        };
-    }
-    if size != FLOW_SIZE + 2 * hops {
+    let hops = hops_by_length(size);
+    if hops == 0 {
         return FieldRead::Refused {
             fault: Fault::WrongLength,
             offset: at,
@@ -152,7 +144,7 @@ fn flow_of(value: &[u8], at: usize, next: usize) -> FieldRead
         period: be32(value, 2),
         count: be16(value, 6),
         length: be16(value, 8),
-        hops: hops as u8,
+        hops,
     };
     if !flow_in_range(x) {
         return FieldRead::Refused {

@@ -3,23 +3,40 @@
 use crate::number::be16;
 use numbers::limits::port_ok;
 ghost use mathlib.Core.Path.{_≡_};
-ghost use mathlib.Core.Bool.{not};
+ghost use mathlib.Core.Bool.{cond, not, _&&_};
+ghost use Prim.Native.Nat.{_+_, _*_};
+ghost use lib.Dec.{eqb};
 ghost use lib.ListN.{drop};
 ghost use Rattle.cqf.specs.Bounded.{elem, every, distinct};
-ghost use Rattle.cqf.specs.Limits.{portOk};
-ghost use Rattle.plan.specs.Field.{hopsIn, routeBytes, routeLength, routePorts, routePort, repeats};
+ghost use Rattle.cqf.specs.Limits.{portOk, hopsOk};
+ghost use Rattle.plan.specs.Field.{flowSize, hopsIn, routeBytes, routeLength, routePorts, routePort, repeats};
 
 // A flow's value before its route.
-pub(crate) const FLOW_SIZE: usize = 10;
+const FLOW_SIZE: usize = 10;
 
-// How many ports a flow's value of this length names.
-pub(crate) fn hops_in(size: usize) -> usize
-    ensures { λ r. ⌜ r ≡ hopsIn size ⌝ }
+// How many ports a flow field names, by the length of its value: one case for each length that it may have, and 0 for any other.
+pub(crate) fn hops_by_length(size: usize) -> u8
+    ensures { λ r. ⌜ r ≡ cond (hopsOk (hopsIn size) && eqb size (flowSize + 2 * hopsIn size)) (hopsIn size) 0 ⌝ }
 {
-    if size < FLOW_SIZE {
-        return 0;
+    match size {
+        12 => 1,
+        14 => 2,
+        16 => 3,
+        18 => 4,
+        20 => 5,
+        22 => 6,
+        24 => 7,
+        26 => 8,
+        28 => 9,
+        30 => 10,
+        32 => 11,
+        34 => 12,
+        36 => 13,
+        38 => 14,
+        40 => 15,
+        42 => 16,
+        _ => 0,
     }
-    (size - FLOW_SIZE) / 2
 }
 
 // The route's own bytes in a flow's value; none where the value is too short for them.

@@ -103,8 +103,26 @@ fn long_rows(tally: &mut Tally) {
     }
 }
 
+/// Flow fields of every length up to 100 bytes, with numbers in range and as many ports as fit: 4 for all but sixteen of them.
+fn lengths(tally: &mut Tally) {
+    for length in 0..=100u16 {
+        let mut plan = vec![0x03];
+        plan.extend(length.to_be_bytes());
+        let mut value = vec![0, 1, 0, 1, 0x86, 0xA0, 0, 1, 0, 230];
+        value.extend((1..=64u16).flat_map(|port| port.to_be_bytes()));
+        plan.extend(&value[..usize::from(length)]);
+        tally.case(0, &plan);
+        ask(tally, &plan, 0);
+        let got = ffi::field(&plan, 0);
+        let hops = (1..=16).find(|hops| 10 + 2 * hops == u64::from(length));
+        tally.same(format_args!("the refusal at length {length}"), got.refusal, if hops.is_some() { 0 } else { 4 });
+        tally.same(format_args!("the ports at length {length}"), got.numbers[4], hops.unwrap_or(0));
+    }
+}
+
 pub fn run(tally: &mut Tally) {
     long_rows(tally);
+    lengths(tally);
     for case in 0..tally.cases {
         let mut rng = tally.rng(case);
         let good = gen::plan(&mut rng);
