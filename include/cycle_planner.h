@@ -1,7 +1,8 @@
 /* The cycle planner as a static library (libcapi.a), for C and C++. Every function answers any planner value, any number and any slice,
  * an empty one too. A slice is a pointer and a length; a pointer that does not hold as many elements as its length says is
  * outside what is proved. An empty slice wants a pointer that is not null, aligned for its elements. A mutable slice overlaps nothing else.
- * Document 01's refusal number is in `refusal`, 0 where there is a result. */
+ * Document 01's refusal number is in `refusal`, 0 where there is a result. Stack of a call, beside the planner and the answer that the
+ * caller holds: cp_load 21 KB, a question 7.5 KB. No heap. */
 #ifndef CYCLE_PLANNER_H
 #define CYCLE_PLANNER_H
 #include <stddef.h>
