@@ -12,11 +12,12 @@
 extern "C" {
 #endif
 
-/* Plain data, 6,792 bytes. Keep it as the last call left it; do not look inside. */
+/* Plain data, 6,856 bytes. Keep it as the last call left it; do not look inside. */
 typedef struct {
   uint32_t guard, top;
   uint32_t rates[64];
   uint16_t blockings[64];
+  uint8_t extras[64];
   uint32_t periods[256];
   uint16_t counts[256], lengths[256];
   uint8_t hops[256], routes[4096];
@@ -46,8 +47,9 @@ cp_slack_answer cp_slack(cp_planner planner, uint64_t port, uint64_t duration);
 cp_answer cp_least(cp_planner planner, uint64_t *scratch, size_t length);
 cp_answer cp_margin_safe(cp_planner planner, uint64_t *scratch, size_t length);
 
-/* The field at an offset of a plan, by tests 2 to 5. Result: tag 1, 2 or 3; offset = the one after the field; numbers:
- * header: guard, top; port: number, rate, blocker; flow: number, period, count, length, hops; 0 in the others.
+/* The field at an offset of a plan, by tests 2 to 5. Result: tag 1 to 4; offset = the one after the field; numbers:
+ * 1, header: guard, top; 2, port: number, rate, blocker; 3, flow: number, period, count, length, hops; 4, extra bytes per
+ * frame at a port: port number, extra bytes; 0 in the others.
  * Refusal 2 to 5: offset = the one asked, tag and numbers 0. */
 cp_field_read cp_field(const uint8_t *plan, size_t length, size_t offset);
 

@@ -8,21 +8,26 @@ pub const PORTS: usize = 64;
 pub const FLOWS: usize = 256;
 pub const MAX_HOPS: usize = 16;
 
-fn wire_bits(length: u16) -> u64 {
-    8 * (length as u64 + 20)
+fn wire_bits(length: u16, extra: u8) -> u64 {
+    8 * (length as u64 + 20 + extra as u64)
 }
 
-fn add_route<const CHECKED: bool>(planner: &Planner, slot: usize, bits: u64, out: &mut [u64; PORTS]) {
+/// Adds a flow's frames, each with the extra bytes of the port, to every port of its route.
+fn add_route<const CHECKED: bool>(planner: &Planner, slot: usize, frames: u64, out: &mut [u64; PORTS]) {
+    let length = planner.lengths[slot];
     let base = slot * MAX_HOPS;
     let route = base..base + planner.hops[slot] as usize;
     if CHECKED {
         for &port in &planner.routes[route] {
-            out[port as usize - 1] += bits;
+            let port = port as usize - 1;
+            out[port] += frames * wire_bits(length, planner.extras[port]);
         }
     } else {
         // The form test found at most 16 hops, each between 1 and 64.
         for &port in unsafe { planner.routes.get_unchecked(route) } {
-            unsafe { *out.get_unchecked_mut(port as usize - 1) += bits };
+            let port = port as usize - 1;
+            let extra = unsafe { *planner.extras.get_unchecked(port) };
+            unsafe { *out.get_unchecked_mut(port) += frames * wire_bits(length, extra) };
         }
     }
 }
@@ -35,8 +40,8 @@ pub fn demands<const CHECKED: bool>(planner: &Planner, duration: u64, out: &mut 
         let period = planner.periods[slot];
         if period != 0 {
             let begun = (at + (period - 1)) / period;
-            let bits = planner.counts[slot] as u64 * begun as u64 * wire_bits(planner.lengths[slot]);
-            add_route::<CHECKED>(planner, slot, bits, out);
+            let frames = planner.counts[slot] as u64 * begun as u64;
+            add_route::<CHECKED>(planner, slot, frames, out);
         }
     }
 }
@@ -50,7 +55,7 @@ pub fn window(planner: &Planner, duration: u64) -> u64 {
 fn workload(planner: &Planner, slot: usize, demand: u64) -> u64 {
     match planner.blockings[slot] {
         0 => 1_000 * demand,
-        length => 1_000 * (demand + wire_bits(length)),
+        length => 1_000 * (demand + wire_bits(length, planner.extras[slot])),
     }
 }
 

@@ -1,9 +1,10 @@
-//! The load in safe Rust: a plan's bytes read into fresh tables, by tests 1 to 9 of document 01 in their order. SETS says whether
+//! The load in safe Rust: a plan's bytes read into fresh tables, by tests 1 to 9 of the papers in their order. SETS says whether
 //! sets of ports are bits of a number, so that test 7 looks at each port of a route once and test 9 walks the fields again only
 //! where it refuses; otherwise both tests go port by port.
 
 use crate::answers::{Answer, Planner};
 use crate::jump::{FLOWS, MAX_HOPS, PORTS};
+use std::ops::Range;
 
 const MAX_BYTES: usize = 16_384;
 const HEAD: usize = 3;
@@ -56,6 +57,8 @@ struct Draft<'a> {
     /// Ports that have a field, and ports that some route names.
     present: u64,
     named: u64,
+    /// Ports that have a field of extra bytes.
+    lengthened: u64,
 }
 
 impl Draft<'_> {
@@ -89,6 +92,20 @@ impl Draft<'_> {
         self.ports += 1;
         self.tables.rates[number as usize - 1] = rate;
         self.tables.blockings[number as usize - 1] = blocking;
+        Ok(())
+    }
+
+    fn extra(&mut self, value: &[u8]) -> Result<(), u32> {
+        let value: &[u8; 4] = value.try_into().map_err(|_| 4u32)?;
+        let (number, extra) = (be16(value, 0), be16(value, 2));
+        if !in_range(number) || extra > 64 {
+            return Err(5);
+        }
+        if self.lengthened & bit(number) != 0 {
+            return Err(6);
+        }
+        self.lengthened |= bit(number);
+        self.tables.extras[number as usize - 1] = extra as u8;
         Ok(())
     }
 
@@ -135,12 +152,13 @@ impl Draft<'_> {
     }
 }
 
-/// The first flow that names a port not among those present.
-fn first_absent(plan: &[u8], present: u64) -> Option<usize> {
+/// The first field of a tag that names a port not among those present, in the numbers of 2 bytes from a place in its value on.
+fn first_absent(plan: &[u8], present: u64, wanted: u8, named: Range<usize>) -> Option<usize> {
     let mut offset = 0;
     while offset < plan.len() {
         let (tag, value) = split(plan, offset)?;
-        if tag == 3 && ports(&value[FLOW_NUMBERS..]).any(|port| present & bit(port) == 0) {
+        let named = named.start..named.end.min(value.len());
+        if tag == wanted && ports(&value[named]).any(|port| present & bit(port) == 0) {
             return Some(offset);
         }
         offset += HEAD + value.len();
@@ -153,7 +171,7 @@ fn read<const SETS: bool>(plan: &[u8], tables: &mut Planner) -> Result<(u64, u64
     if plan.is_empty() || plan.len() > MAX_BYTES {
         return Err((1, 0));
     }
-    let mut draft = Draft { tables, ports: 0, flows: 0, present: 0, named: 0 };
+    let mut draft = Draft { tables, ports: 0, flows: 0, present: 0, named: 0, lengthened: 0 };
     let mut offset = 0;
     while offset < plan.len() {
         let (tag, value) = split(plan, offset).ok_or((2, offset))?;
@@ -161,6 +179,7 @@ fn read<const SETS: bool>(plan: &[u8], tables: &mut Planner) -> Result<(u64, u64
             1 => draft.header(value),
             2 => draft.port(value),
             3 => draft.flow::<SETS>(value),
+            4 => draft.extra(value),
             _ => Err(3),
         };
         taken.map_err(|refusal| (refusal, offset))?;
@@ -169,8 +188,9 @@ fn read<const SETS: bool>(plan: &[u8], tables: &mut Planner) -> Result<(u64, u64
     if draft.tables.top == 0 || draft.flows == 0 {
         return Err((8, plan.len()));
     }
-    if !SETS || draft.named & !draft.present != 0 {
-        if let Some(offset) = first_absent(plan, draft.present) {
+    if !SETS || (draft.named | draft.lengthened) & !draft.present != 0 {
+        let astray = first_absent(plan, draft.present, 3, FLOW_NUMBERS..usize::MAX);
+        if let Some(offset) = astray.or_else(|| first_absent(plan, draft.present, 4, 0..2)) {
             return Err((9, offset));
         }
     }

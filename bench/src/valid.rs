@@ -3,11 +3,11 @@
 use crate::answers::Planner;
 use crate::jump::{FLOWS, MAX_HOPS, PORTS};
 
-fn valid_port(rate: u32, blocking: u16) -> bool {
+fn valid_port(rate: u32, blocking: u16, extra: u8) -> bool {
     if rate == 0 {
-        return blocking == 0;
+        return blocking == 0 && extra == 0;
     }
-    (1..=100_000).contains(&rate) && (blocking == 0 || (64..=2_000).contains(&blocking))
+    (1..=100_000).contains(&rate) && (blocking == 0 || (64..=2_000).contains(&blocking)) && extra <= 64
 }
 
 /// Whether each port of a route is in the plan and stands in the route once.
@@ -39,7 +39,7 @@ fn valid_flow(planner: &Planner, slot: usize) -> bool {
 pub fn valid_plan(planner: &Planner) -> bool {
     (1..=100_000_000).contains(&planner.top)
         && planner.guard <= 1_000_000
-        && (0..PORTS).all(|slot| valid_port(planner.rates[slot], planner.blockings[slot]))
+        && (0..PORTS).all(|slot| valid_port(planner.rates[slot], planner.blockings[slot], planner.extras[slot]))
         && (0..FLOWS).all(|slot| valid_flow(planner, slot))
         && planner.periods.iter().any(|period| *period != 0)
 }

@@ -3,7 +3,9 @@
 #include "same.h"
 #include <string.h>
 
-_Static_assert(sizeof(cp_planner) == 6792, "a planner has 6,792 bytes");
+_Static_assert(sizeof(cp_planner) == 6856, "a planner has 6,856 bytes");
+_Static_assert(offsetof(cp_planner, extras) == 392, "extra bytes come after the blockers");
+_Static_assert(offsetof(cp_load_outcome, answer) == 6856, "a load's answer comes after the planner");
 
 static const uint8_t K[52] = {
     0x01, 0x00, 0x08, 0x00, 0x00, 0x03, 0xE8, 0x00, 0x0F, 0x42, 0x40,
@@ -41,22 +43,29 @@ static cp_planner loaded(const char *call, cp_planner before, const uint8_t *pla
   return got.planner;
 }
 
-/* The rows of K's table: each duration with the plain question's refusal and the spare of port 1. */
-static void rows(cp_planner k) {
-  static const struct { uint64_t duration; uint32_t refusal; int64_t slack; } table[] = {
+/* A duration with the plain question's refusal and the spare of port 1. */
+typedef struct { uint64_t duration; uint32_t refusal; int64_t slack; } row;
+
+static void rows(const char *plan, cp_planner planner, const row *table, size_t count) {
+  for (; count > 0; table++, count--) {
+    char call[64];
+    uint64_t fails = table->refusal == 21;
+    snprintf(call, sizeof call, "cp_check of %s at %" PRIu64, plan, table->duration);
+    same_answer(call, cp_check(planner, table->duration), answer(table->refusal, fails, fails));
+    snprintf(call, sizeof call, "cp_slack of %s, port 1 at %" PRIu64, plan, table->duration);
+    same_slack(call, cp_slack(planner, 1, table->duration), table->refusal == 10 ? 10 : 0, table->slack);
+  }
+  same_slack("cp_slack of a port not in K", cp_slack(planner, 2, 72000), 24, 0);
+}
+
+/* The rows of K's table. */
+static void rows_of_k(cp_planner k) {
+  static const row table[] = {
       {71999, 21, -100},      {72000, 0, 0},          {100000, 0, 2800000}, {110000, 0, 1800000},
       {110001, 21, -3199900}, {120000, 21, -2200000}, {141999, 21, -100},   {142000, 0, 0},
       {1000, 21, -7000000},   {0, 10, 0},             {1000001, 10, 0},
   };
-  for (size_t row = 0; row < sizeof table / sizeof table[0]; row++) {
-    char call[64];
-    uint64_t fails = table[row].refusal == 21;
-    snprintf(call, sizeof call, "cp_check of K at %" PRIu64, table[row].duration);
-    same_answer(call, cp_check(k, table[row].duration), answer(table[row].refusal, fails, fails));
-    snprintf(call, sizeof call, "cp_slack of K's port 1 at %" PRIu64, table[row].duration);
-    same_slack(call, cp_slack(k, 1, table[row].duration), table[row].refusal == 10 ? 10 : 0, table[row].slack);
-  }
-  same_slack("cp_slack of a port not in K", cp_slack(k, 2, 72000), 24, 0);
+  rows("K", k, table, sizeof table / sizeof table[0]);
 }
 
 typedef cp_answer (*search)(cp_planner planner, uint64_t *scratch, size_t length);
@@ -121,15 +130,51 @@ static void uncrossed_port(cp_planner k) {
   same_slack("cp_slack of port 2, not crossed", cp_slack(k, 2, 72000), 24, 0);
 }
 
-static void field(const char *call, size_t length, size_t offset, cp_field_read want) {
-  cp_field_read got = cp_field(K, length, offset);
+/* K and then so many bytes of a field for extra bytes at port 1 (tag 4). */
+static cp_planner lengthened(const char *call, cp_planner before, uint8_t extra, size_t bytes, cp_answer want, cp_planner left) {
+  const uint8_t field[] = {0x04, 0x00, 0x04, 0x00, 0x01, 0x00, extra};
+  uint8_t plan[sizeof K + sizeof field];
+  memcpy(plan, K, sizeof K);
+  memcpy(plan + sizeof K, field, sizeof field);
+  return loaded(call, before, plan, sizeof K + bytes, want, left);
+}
+
+static void extra_bytes(cp_planner k) {
+  static const row table[] = {
+      {77119, 21, -100},      {77120, 0, 0},         {110000, 0, 1032000},   {110001, 21, -4223900}, {152239, 21, -100},
+      {152240, 0, 0},         {220000, 0, 4520000},  {220001, 21, -735900},  {227359, 21, -100},     {227360, 0, 0},
+      {1000000, 0, 24680000}, {1000, 21, -7512000},  {0, 10, 0},             {1000001, 10, 0},
+  };
+  cp_planner left = planner_of_k();
+  left.extras[0] = 32;
+  k = lengthened("cp_load of K with 32 extra bytes", k, 32, 7, answer(0, 1, 2), left);
+  rows("K with 32 extra bytes", k, table, sizeof table / sizeof table[0]);
+  searched("cp_least of K with 32 extra bytes", cp_least, k, SCRATCH, answer(0, 77120, 0), 7512);
+  searched("cp_margin_safe of K with 32 extra bytes", cp_margin_safe, k, SCRATCH, answer(0, 227360, 0), 22536);
+  k = lengthened("cp_load of K with 65 extra bytes", k, 65, 7, answer(5, sizeof K, 0), left);
+  k = lengthened("cp_load of K with extra bytes cut short", k, 32, 6, answer(2, sizeof K, 0), left);
+  lengthened("cp_load of K with 0 extra bytes", k, 0, 7, answer(0, 1, 2), planner_of_k());
+  left.extras[1] = 1;
+  same_answer("cp_check, extra bytes at an absent port", cp_check(left, 77120), answer(20, 0, 0));
+  left = planner_of_k();
+  left.extras[0] = 65;
+  same_answer("cp_check, 65 extra bytes", cp_check(left, 1000000), answer(20, 0, 0));
+}
+
+static void field_of(const char *call, const uint8_t *plan, size_t length, size_t offset, cp_field_read want) {
+  cp_field_read got = cp_field(plan, length, offset);
   same(call, "refusal", got.refusal, want.refusal);
   same(call, "tag", got.tag, want.tag);
   same(call, "offset", got.offset, want.offset);
   SAME_TABLE(call, numbers, got, want);
 }
 
+static void field(const char *call, size_t length, size_t offset, cp_field_read want) {
+  field_of(call, K, length, offset, want);
+}
+
 static void fields(void) {
+  static const uint8_t extra[] = {0x04, 0x00, 0x04, 0x00, 0x40, 0x00, 0x20};
   static const uint8_t twice[] = {0, 1, 0, 1, 0x86, 0xA0, 0, 1, 0, 0xE6, 0, 1, 0, 2, 0, 1};
   field("cp_field of K's header", sizeof K, 0, (cp_field_read){.tag = 1, .offset = PORT_AT, .numbers = {1000, 1000000}});
   field("cp_field of K's port", sizeof K, PORT_AT, (cp_field_read){.tag = 2, .offset = FLOW_1_AT, .numbers = {1, 100}});
@@ -139,25 +184,30 @@ static void fields(void) {
         (cp_field_read){.tag = 3, .offset = sizeof K, .numbers = {2, 110000, 1, 605, 1}});
   field("cp_field of K cut short", sizeof K - 1, FLOW_2_AT, (cp_field_read){.refusal = 2, .offset = FLOW_2_AT});
   field("cp_field at byte 2 of K", sizeof K, 2, (cp_field_read){.refusal = 3, .offset = 2});
+  field_of("cp_field of 32 extra bytes at port 64", extra, sizeof extra, 0,
+           (cp_field_read){.tag = 4, .offset = sizeof extra, .numbers = {64, 32}});
   same("cp_repeats of ports 1, 2, 1", "the answer", cp_repeats(twice, sizeof twice), 1);
   same("cp_repeats of ports 1, 2", "the answer", cp_repeats(twice, sizeof twice - 2), 0);
   same("cp_repeats of K's flow 2", "the answer", cp_repeats(K + FLOW_2_AT + 3, 12), 0);
 }
 
 int main(void) {
-  static const uint8_t lone_tag[] = {0x04, 0x00, 0x01};
+  static const uint8_t lone_tag[] = {0x04, 0x00, 0x01}, unknown_tag[] = {0x07, 0x00, 0x01, 0x00};
   cp_planner none, k;
   memset(&none, 0, sizeof none);
   same_planner("cp_empty", cp_empty(), none);
   same_answer("cp_check without a plan", cp_check(cp_empty(), 72000), answer(20, 0, 0));
   same_slack("cp_slack without a plan", cp_slack(cp_empty(), 1, 72000), 20, 0);
   loaded("cp_load of 04 0001", cp_empty(), lone_tag, sizeof lone_tag, answer(2, 0, 0), none);
+  loaded("cp_load of 07 0001", cp_empty(), unknown_tag, 3, answer(2, 0, 0), none);
+  loaded("cp_load of 07 0001 00", cp_empty(), unknown_tag, 4, answer(3, 0, 0), none);
   k = loaded("cp_load of K", cp_empty(), K, sizeof K, answer(0, 1, 2), planner_of_k());
   k = loaded("cp_load of 51 bytes of K", k, K, sizeof K - 1, answer(2, FLOW_2_AT, 0), planner_of_k());
-  rows(k);
+  rows_of_k(k);
   searches(cp_empty(), k);
   neighbours(k);
   uncrossed_port(k);
+  extra_bytes(k);
   fields();
   printf("header: %u passed, %u failed\n", passed, failed);
   return failed != 0;

@@ -30,6 +30,7 @@ static void same_planner(const char *call, cp_planner got, cp_planner want) {
   same(call, "top", got.top, want.top);
   SAME_TABLE(call, rates, got, want);
   SAME_TABLE(call, blockings, got, want);
+  SAME_TABLE(call, extras, got, want);
   SAME_TABLE(call, periods, got, want);
   SAME_TABLE(call, counts, got, want);
   SAME_TABLE(call, lengths, got, want);

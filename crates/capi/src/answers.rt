@@ -28,6 +28,8 @@ const PORT: u32 = plan::read::PORT_TAG as u32;
 
 const FLOW: u32 = plan::read::FLOW_TAG as u32;
 
+const EXTRA: u32 = plan::read::EXTRA_TAG as u32;
+
 fn numbered(refusal: u32, first: u64, second: u64) -> AnswerNumbers
     ensures { λ r. ⌜ r ≡ (record { refusal = refusal; first = first; second = second }) ⌝ }
 {
@@ -130,6 +132,12 @@ pub(crate) fn field_numbers(reading: FieldRead) -> FieldReadNumbers
                     f.length as u64,
                     f.hops as u64,
                 ],
+            },
+            Field::Extra(e) => FieldReadNumbers {
+                refusal: 0,
+                tag: EXTRA,
+                offset: next as u64,
+                numbers: [e.number as u64, e.extra as u64, 0, 0, 0],
             },
         },
     }

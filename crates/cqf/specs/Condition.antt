@@ -5,8 +5,8 @@ use mathlib.Core.Bool.{Bool, cond, not, _&&_}
 use lib.Dec.{eqb, ltb, leb}
 use lib.IntN.{ℤ, subℕ}
 use Rattle.cqf.specs.Bounded.{sumTo, maxTo, countTo, anyTo, lowest}
-use Rattle.cqf.specs.Limits.{portSlots, flowSlots, maxCount, maxLength, mostBegun}
-use Rattle.cqf.specs.Plan.{Plan, rateOf, blockingOf, periodOf, countOf, lengthOf, crosses}
+use Rattle.cqf.specs.Limits.{portSlots, flowSlots, maxCount, maxLength, maxExtra, mostBegun}
+use Rattle.cqf.specs.Plan.{Plan, rateOf, blockingOf, extraOf, periodOf, countOf, lengthOf, crosses}
 
 -- preamble and start delimiter 8, gap 12
 abbrev pub overhead : ℕ
@@ -20,13 +20,13 @@ nsPerBit = 1000
 unfoldable pub ceilDiv : ℕ → ℕ → ℕ
 ceilDiv a b = (a + pred b) / b
 
--- One port, from its numbers. A frame of this many bytes on the wire, in bits.
-abbrev pub bitsOf : ℕ → ℕ
-bitsOf bytes = 8 * (bytes + overhead)
+-- One port, from its numbers. A frame of this many bytes on the wire, in bits; extra is what the port adds to each frame.
+abbrev pub bitsOf : (bytes extra : ℕ) → ℕ
+bitsOf bytes extra = 8 * (bytes + overhead + extra)
 
 -- the wire bits of the longest frame of another class (document 01: the blocker); none where the length is 0
-abbrev pub blockingBitsOf : ℕ → ℕ
-blockingBitsOf bytes = cond (eqb bytes 0) 0 (bitsOf bytes)
+abbrev pub blockingBitsOf : (bytes extra : ℕ) → ℕ
+blockingBitsOf bytes extra = cond (eqb bytes 0) 0 (bitsOf bytes extra)
 
 -- the part of a cycle in which a port sends: T - 2S, 0 where T is below 2S (a difference of naturals is 0 there)
 abbrev pub windowOf : (guard T : ℕ) → ℕ
@@ -36,24 +36,24 @@ windowOf guard T = T - 2 * guard
 abbrev pub capacityOf : (rate window : ℕ) → ℕ
 capacityOf rate window = rate * window
 
-abbrev pub workloadOf : (blocking bits : ℕ) → ℕ
-workloadOf blocking bits = nsPerBit * (bits + blockingBitsOf blocking)
+abbrev pub workloadOf : (blocking extra bits : ℕ) → ℕ
+workloadOf blocking extra bits = nsPerBit * (bits + blockingBitsOf blocking extra)
 
 -- whether a port must send more than it can
 abbrev pub exceeds : (work capacity : ℕ) → Bool
 exceeds work capacity = ltb capacity work
 
 -- whether a port that must send these bits in a window fails; one that must send none does not
-abbrev pub failsBy : (rate blocking window bits : ℕ) → Bool
-failsBy rate blocking window bits = ltb 0 bits && exceeds (workloadOf blocking bits) (capacityOf rate window)
+abbrev pub failsBy : (rate blocking extra window bits : ℕ) → Bool
+failsBy rate blocking extra window bits = ltb 0 bits && exceeds (workloadOf blocking extra bits) (capacityOf rate window)
 
 -- the least duration in which a port can send these bits outside the guard bands; 0 where there are none
-abbrev pub needBy : (guard rate blocking bits : ℕ) → ℕ
-needBy guard rate blocking bits = cond (ltb 0 bits) (2 * guard + ceilDiv (workloadOf blocking bits) rate) 0
+abbrev pub needBy : (guard rate blocking extra bits : ℕ) → ℕ
+needBy guard rate blocking extra bits = cond (ltb 0 bits) (2 * guard + ceilDiv (workloadOf blocking extra bits) rate) 0
 
--- The same of a plan. The wire bits of one frame of flow f at the port in slot q: the same at every port.
+-- The same of a plan. The wire bits of one frame of flow f at the port in slot q.
 unfoldable pub wireBits : Plan → ℕ → ℕ → ℕ
-wireBits p f q = bitsOf (lengthOf p f)
+wireBits p f q = bitsOf (lengthOf p f) (extraOf p q)
 
 -- the length over which frames are counted at T, in ns
 unfoldable pub stretch : Plan → ℕ → ℕ
@@ -83,7 +83,7 @@ unfolding window
 capacity p q T = capacityOf (rateOf p q) (window p T)
 
 unfoldable pub workload : Plan → ℕ → ℕ → ℕ
-workload p q bits = workloadOf (blockingOf p q) bits
+workload p q bits = workloadOf (blockingOf p q) (extraOf p q) bits
 
 -- a crossed port's slack at T: document 01's spare
 unfoldable pub slack : Plan → ℕ → ℕ → ℤ
@@ -93,14 +93,14 @@ slack p q T = subℕ (capacity p q T) (workload p q (demand p q T))
 -- what the port in slot q needs for its demand at T, and the most that a port needs
 unfoldable pub need : Plan → ℕ → ℕ → ℕ
 unfolding demand
-need p q T = needBy (p .guard) (rateOf p q) (blockingOf p q) (demand p q T)
+need p q T = needBy (p .guard) (rateOf p q) (blockingOf p q) (extraOf p q) (demand p q T)
 
 unfoldable pub largestNeed : Plan → ℕ → ℕ
 largestNeed p T = maxTo portSlots (λ q. need p q T)
 
 -- the most bits that one flow brings to a port, and the largest demand of a port
 abbrev pub mostBits : ℕ
-mostBits = maxCount * mostBegun * bitsOf maxLength
+mostBits = maxCount * mostBegun * bitsOf maxLength maxExtra
 
 abbrev pub mostDemand : ℕ
 mostDemand = flowSlots * mostBits

@@ -62,6 +62,13 @@ lengthOk n = within 64 maxLength n
 abbrev pub blockingOk : ℕ → Bool
 blockingOk n = eqb n 0 || lengthOk n
 
+-- the most bytes that a port adds to each frame, and a number of them
+abbrev pub maxExtra : ℕ
+maxExtra = 64
+
+abbrev pub extraOk : ℕ → Bool
+extraOk n = within 0 maxExtra n
+
 -- a flow's number
 abbrev pub flowOk : ℕ → Bool
 flowOk n = within 1 flowSlots n

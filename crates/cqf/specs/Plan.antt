@@ -6,13 +6,14 @@ use mathlib.Core.Bool.{Bool, _&&_, _||_}
 use lib.ListN.{getD, replicate}
 use lib.Dec.{eqb, ltb}
 use Rattle.cqf.specs.Bounded.{anyTo, allTo, elem, distinct, every, sublist}
-use Rattle.cqf.specs.Limits.{portSlots, flowSlots, routeStride, guardOk, topOk, portOk, rateOk, lengthOk, blockingOk, periodOk, countOk, hopsOk}
+use Rattle.cqf.specs.Limits.{portSlots, flowSlots, routeStride, guardOk, topOk, portOk, rateOk, lengthOk, blockingOk, extraOk, periodOk, countOk, hopsOk}
 
 pub record Plan : Type 0 where
   pub guard : ℕ
   pub top : ℕ
   pub rates : List ℕ
   pub blockings : List ℕ
+  pub extras : List ℕ
   pub periods : List ℕ
   pub counts : List ℕ
   pub lengths : List ℕ
@@ -27,6 +28,7 @@ noPlan =
       top = 0;
       rates = replicate portSlots 0;
       blockings = replicate portSlots 0;
+      extras = replicate portSlots 0;
       periods = replicate flowSlots 0;
       counts = replicate flowSlots 0;
       lengths = replicate flowSlots 0;
@@ -40,6 +42,10 @@ rateOf p q = getD (p .rates) q 0
 
 abbrev pub blockingOf : Plan → ℕ → ℕ
 blockingOf p q = getD (p .blockings) q 0
+
+-- the bytes that it adds to each frame
+abbrev pub extraOf : Plan → ℕ → ℕ
+extraOf p q = getD (p .extras) q 0
 
 -- the numbers of the flow in slot f
 abbrev pub periodOf : Plan → ℕ → ℕ
@@ -73,8 +79,8 @@ portIn rates n = portOk n && ltb 0 (getD (0 ∷ rates) n 0)
 -- whether slot q is empty, or holds a port in range
 unfoldable pub validPort : Plan → ℕ → Bool
 validPort p q =
-    (eqb (rateOf p q) 0 && eqb (blockingOf p q) 0)
-    || (rateOk (rateOf p q) && blockingOk (blockingOf p q))
+    (eqb (rateOf p q) 0 && eqb (blockingOf p q) 0 && eqb (extraOf p q) 0)
+    || (rateOk (rateOf p q) && blockingOk (blockingOf p q) && extraOk (extraOf p q))
 
 -- whether slot f is empty, or holds a flow in range over distinct ports of the plan
 unfoldable pub validFlow : Plan → ℕ → Bool

@@ -7,7 +7,7 @@ use lib.ListN.{length, getD}
 use lib.Dec.{eqb, ltb}
 use Rattle.cqf.specs.Bounded.{sumTo, countTo, anyTo}
 use Rattle.cqf.specs.Limits.{portSlots, flowSlots}
-use Rattle.cqf.specs.Plan.{Plan, rateOf, blockingOf, routeOf}
+use Rattle.cqf.specs.Plan.{Plan, rateOf, blockingOf, extraOf, routeOf}
 use Rattle.cqf.specs.Condition.{wireBits, window, failsBy}
 use Rattle.cqf.specs.Emission.{Cycles}
 
@@ -55,7 +55,7 @@ queuedBits p cycles places q =
 -- whether that port leaves a frame unsent
 unfoldable pub overrunAt : Plan → ℕ → ℕ → ℕ → Bool
 unfolding window
-overrunAt p T bits q = failsBy (rateOf p q) (blockingOf p q) (window p T) bits
+overrunAt p T bits q = failsBy (rateOf p q) (blockingOf p q) (extraOf p q) (window p T) bits
 
 unfoldable pub overrun : Plan → ℕ → Cycles → Places → Bool
 unfolding anyTo queuedBits overrunAt

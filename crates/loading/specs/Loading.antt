@@ -6,21 +6,22 @@ use mathlib.Core.List.{List}
 use Rattle.cqf.specs.Plan.{Plan}
 use Rattle.plan.specs.Answer.{faultNumber}
 use Rattle.plan.specs.Draft.{Draft}
-use Rattle.plan.specs.Reading.{PlanRead, accepted, rejected, Step, stop, more, namesAbsent, closing}
+use Rattle.plan.specs.Reading.{PlanRead, accepted, rejected, Step, stop, more, namesAbsent, extraAbsent, closing}
 use Rattle.loading.specs.declared.LoadAnswer.{LoadAnswer}
 use Rattle.loading.specs.declared.first.Sought.{Sought}
 use Rattle.loading.specs.declared.store.Totals.{Totals}
 use Rattle.loading.specs.declared.field.Progress.{Progress}
 
 -- the draft in the columns so far
-abbrev pub draftOf : Totals → (rates blockings periods counts lengths hops routes seen : List ℕ) → Draft
-draftOf t rates blockings periods counts lengths hops routes seen =
+abbrev pub draftOf : Totals → (rates blockings extras periods counts lengths hops routes seen : List ℕ) → Draft
+draftOf t rates blockings extras periods counts lengths hops routes seen =
     record {
       tables = record {
         guard = t .guard;
         top = t .top;
         rates = rates;
         blockings = blockings;
+        extras = extras;
         periods = periods;
         counts = counts;
         lengths = lengths;
@@ -33,14 +34,15 @@ draftOf t rates blockings periods counts lengths hops routes seen =
     }
 
 -- one field read
-abbrev pub progressOf : Progress → (rates blockings periods counts lengths hops routes seen : List ℕ) → Step
-progressOf (Progress.More next totals) rates blockings periods counts lengths hops routes seen =
-    more next (draftOf totals rates blockings periods counts lengths hops routes seen)
-progressOf (Progress.Stop fault offset) rates blockings periods counts lengths hops routes seen = stop (faultNumber fault) offset
+abbrev pub progressOf : Progress → (rates blockings extras periods counts lengths hops routes seen : List ℕ) → Step
+progressOf (Progress.More next totals) rates blockings extras periods counts lengths hops routes seen =
+    more next (draftOf totals rates blockings extras periods counts lengths hops routes seen)
+progressOf (Progress.Stop fault offset) rates blockings extras periods counts lengths hops routes seen = stop (faultNumber fault) offset
 
 -- what is sought in a field, in a plan with these rates
 abbrev pub soughtIn : Sought → List ℕ → List ℕ → ℕ → Bool
 soughtIn Sought.AbsentPort rates = namesAbsent rates
+soughtIn Sought.AbsentExtraPort rates = extraAbsent rates
 
 -- a whole plan read into these tables
 abbrev pub answerOf : Plan → LoadAnswer → PlanRead

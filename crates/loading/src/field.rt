@@ -33,6 +33,7 @@ fn field_repeats(field: Field, route: &[u8]) -> bool
         Field::Header(_) => false,
         Field::Port(_) => false,
         Field::Flow(_) => route_repeats(route),
+        Field::Extra(_) => false,
     }
 }
 
@@ -45,6 +46,7 @@ fn take_field(
     totals: Totals,
     rates: &mut [u32; 64],
     blockings: &mut [u16; 64],
+    extras: &mut [u8; 64],
     periods: &mut [u32; 256],
     counts: &mut [u16; 256],
     lengths: &mut [u16; 256],
@@ -53,7 +55,7 @@ fn take_field(
     seen: &mut [u8; KEYS],
 ) -> Progress
     requires { ⌜ (totals .ports ≤ maxBytes) × (totals .flows ≤ maxBytes) × (fieldAt (now plan) at ≡ field (fieldOf x) next) ⌝ }
-    ensures { λ r. ⌜ progressOf r (now (rates .exit)) (now (blockings .exit)) (now (periods .exit)) (now (counts .exit)) (now (lengths .exit)) (now (hops .exit)) (now (routes .exit)) (now (seen .exit)) ≡ stepAt loose (now (plan .entry)) at (draftOf totals (now (rates .entry)) (now (blockings .entry)) (now (periods .entry)) (now (counts .entry)) (now (lengths .entry)) (now (hops .entry)) (now (routes .entry)) (now (seen .entry))) ⌝ }
+    ensures { λ r. ⌜ progressOf r (now (rates .exit)) (now (blockings .exit)) (now (extras .exit)) (now (periods .exit)) (now (counts .exit)) (now (lengths .exit)) (now (hops .exit)) (now (routes .exit)) (now (seen .exit)) ≡ stepAt loose (now (plan .entry)) at (draftOf totals (now (rates .entry)) (now (blockings .entry)) (now (extras .entry)) (now (periods .entry)) (now (counts .entry)) (now (lengths .entry)) (now (hops .entry)) (now (routes .entry)) (now (seen .entry))) ⌝ }
 {
     let key = key_of(x);
     if 0 < seen[key] {
@@ -75,6 +77,7 @@ fn take_field(
         totals,
         rates,
         blockings,
+        extras,
         periods,
         counts,
         lengths,
@@ -92,6 +95,7 @@ pub(crate) fn step(
     totals: Totals,
     rates: &mut [u32; 64],
     blockings: &mut [u16; 64],
+    extras: &mut [u8; 64],
     periods: &mut [u32; 256],
     counts: &mut [u16; 256],
     lengths: &mut [u16; 256],
@@ -100,7 +104,7 @@ pub(crate) fn step(
     seen: &mut [u8; KEYS],
 ) -> Progress
     requires { ⌜ (totals .ports ≤ maxBytes) × (totals .flows ≤ maxBytes) ⌝ }
-    ensures { λ r. ⌜ progressOf r (now (rates .exit)) (now (blockings .exit)) (now (periods .exit)) (now (counts .exit)) (now (lengths .exit)) (now (hops .exit)) (now (routes .exit)) (now (seen .exit)) ≡ stepAt loose (now (plan .entry)) at (draftOf totals (now (rates .entry)) (now (blockings .entry)) (now (periods .entry)) (now (counts .entry)) (now (lengths .entry)) (now (hops .entry)) (now (routes .entry)) (now (seen .entry))) ⌝ }
+    ensures { λ r. ⌜ progressOf r (now (rates .exit)) (now (blockings .exit)) (now (extras .exit)) (now (periods .exit)) (now (counts .exit)) (now (lengths .exit)) (now (hops .exit)) (now (routes .exit)) (now (seen .exit)) ≡ stepAt loose (now (plan .entry)) at (draftOf totals (now (rates .entry)) (now (blockings .entry)) (now (extras .entry)) (now (periods .entry)) (now (counts .entry)) (now (lengths .entry)) (now (hops .entry)) (now (routes .entry)) (now (seen .entry))) ⌝ }
 {
     match read_field(plan, at) {
         FieldRead::Field { field, next } => take_field(
@@ -111,6 +115,7 @@ pub(crate) fn step(
             totals,
             rates,
             blockings,
+            extras,
             periods,
             counts,
             lengths,

@@ -2,6 +2,8 @@
 
 use numbers::limits::port_ok;
 use plan::Head;
+use plan::number::first_number;
+use plan::read::EXTRA_TAG;
 use plan::read::FLOW_TAG;
 use plan::route::route_bytes;
 use plan::route::route_len;
@@ -15,12 +17,13 @@ ghost use Rattle.cqf.specs.Bounded.{every};
 ghost use Rattle.cqf.specs.Plan.{portIn};
 ghost use Rattle.plan.specs.Bytes.{tagAt, wholeAt};
 ghost use Rattle.plan.specs.Field.{routePorts};
-ghost use Rattle.plan.specs.Reading.{namesAbsent, firstField};
+ghost use Rattle.plan.specs.Reading.{namesAbsent, extraAbsent, firstField, firstAbsent};
 ghost use Rattle.loading.specs.Loading.{soughtIn};
 
-// What is sought: a flow whose route names a port that is not in the plan.
-pub(crate) enum Sought {
+// What is sought: a flow whose route names a port that is not in the plan, or extra bytes of such a port.
+enum Sought {
     AbsentPort,
+    AbsentExtraPort,
 }
 
 // Whether a port of this number is in the plan.
@@ -49,7 +52,7 @@ fn route_absent(route: &[u8], rates: &[u32; 64]) -> bool
     false
 }
 
-// The same for the whole field at this offset, which may be no flow.
+// The same of the whole field at this offset, which may be no flow.
 fn names_absent(plan: &[u8], at: usize, tag: u8, rates: &[u32; 64]) -> bool
     requires { ⌜ (wholeAt (now plan) at ≡ true) × (tag ≡ tagAt (now plan) at) ⌝ }
     ensures { λ r. ⌜ r ≡ namesAbsent (now (rates .entry)) (now (plan .entry)) at ⌝ }
@@ -60,6 +63,17 @@ fn names_absent(plan: &[u8], at: usize, tag: u8, rates: &[u32; 64]) -> bool
     route_absent(route_bytes(field_value(plan, at)), rates)
 }
 
+// Whether the whole field at this offset says the extra bytes of a port not in the plan.
+fn extra_absent(plan: &[u8], at: usize, tag: u8, rates: &[u32; 64]) -> bool
+    requires { ⌜ (wholeAt (now plan) at ≡ true) × (tag ≡ tagAt (now plan) at) ⌝ }
+    ensures { λ r. ⌜ r ≡ extraAbsent (now (rates .entry)) (now (plan .entry)) at ⌝ }
+{
+    if tag != EXTRA_TAG {
+        return false;
+    }
+    !has_port(rates, first_number(field_value(plan, at)))
+}
+
 // Whether the whole field at this offset is sought.
 fn is_sought(sought: Sought, plan: &[u8], at: usize, tag: u8, rates: &[u32; 64]) -> bool
     requires { ⌜ (wholeAt (now plan) at ≡ true) × (tag ≡ tagAt (now plan) at) ⌝ }
@@ -67,11 +81,12 @@ fn is_sought(sought: Sought, plan: &[u8], at: usize, tag: u8, rates: &[u32; 64])
 {
     match sought {
         Sought::AbsentPort => names_absent(plan, at, tag, rates),
+        Sought::AbsentExtraPort => extra_absent(plan, at, tag, rates),
     }
 }
 
 // The offset of the first field that is sought; the plan's length where none is.
-pub(crate) fn first_field(plan: &[u8], sought: Sought, rates: &[u32; 64]) -> usize
+fn first_field(plan: &[u8], sought: Sought, rates: &[u32; 64]) -> usize
     ensures { λ r. ⌜ r ≡ firstField (soughtIn sought (now (rates .entry))) (now (plan .entry)) ⌝ }
 {
     let mut at = 0;
@@ -86,4 +101,16 @@ pub(crate) fn first_field(plan: &[u8], sought: Sought, rates: &[u32; 64]) -> usi
             Head::Cut => return plan.len(),
         }
     }
+}
+
+// Test 9: the first flow that names a port not in the plan, and where there is none the first extra bytes of such a port; the
+// plan's length where there are none either.
+pub(crate) fn first_absent(plan: &[u8], rates: &[u32; 64]) -> usize
+    ensures { λ r. ⌜ r ≡ firstAbsent (now (rates .entry)) (now (plan .entry)) ⌝ }
+{
+    let offset = first_field(plan, Sought::AbsentPort, rates);
+    if offset < plan.len() {
+        return offset;
+    }
+    first_field(plan, Sought::AbsentExtraPort, rates)
 }

@@ -5,8 +5,7 @@ use crate::LoadOutcome;
 use crate::MAX_BYTES;
 use crate::field::Progress;
 use crate::field::step;
-use crate::first::Sought;
-use crate::first::first_field;
+use crate::first::first_absent;
 use crate::store::HEADER_KEY;
 use crate::store::KEYS;
 use crate::store::Totals;
@@ -35,7 +34,7 @@ fn close(plan: &[u8], ports: u16, flows: u16, rates: &[u32; 64], seen: &[u8; KEY
             offset: plan.len(),
         };
     }
-    let offset = first_field(plan, Sought::AbsentPort, rates);
+    let offset = first_absent(plan, rates);
     if offset < plan.len() {
         return LoadAnswer::Refused {
             fault: Fault::UnknownPort,
@@ -71,6 +70,7 @@ pub fn load(planner: Planner, plan: &[u8]) -> LoadOutcome
     }
     let mut rates = [0u32; 64];
     let mut blockings = [0u16; 64];
+    let mut extras = [0u8; 64];
     let mut periods = [0u32; 256];
     let mut counts = [0u16; 256];
     let mut lengths = [0u16; 256];
@@ -91,6 +91,7 @@ pub fn load(planner: Planner, plan: &[u8]) -> LoadOutcome
             totals,
             &mut rates,
             &mut blockings,
+            &mut extras,
             &mut periods,
             &mut counts,
             &mut lengths,
@@ -118,6 +119,7 @@ pub fn load(planner: Planner, plan: &[u8]) -> LoadOutcome
             held.top = totals.top;
             held.rates = rates;
             held.blockings = blockings;
+            held.extras = extras;
             held.periods = periods;
             held.counts = counts;
             held.lengths = lengths;

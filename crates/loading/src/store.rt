@@ -1,5 +1,6 @@
 // A field stored into the columns of a plan that is being read.
 
+use plan::Extra;
 use plan::Field;
 use plan::Flow;
 use plan::Port;
@@ -16,14 +17,14 @@ ghost use Rattle.plan.specs.Field.{routePorts};
 ghost use Rattle.plan.specs.Key.{keyOf};
 ghost use Rattle.plan.specs.Draft.{added};
 ghost use Rattle.plan.specs.Reading.{maxBytes};
-ghost use Rattle.plan.specs.Ranges.{PortOk, FlowOk, NumbersOk, RouteOk, RouteFits};
+ghost use Rattle.plan.specs.Ranges.{PortOk, FlowOk, ExtraOk, NumbersOk, RouteOk, RouteFits};
 ghost use Rattle.plan.specs.Answer.{fieldOf};
 ghost use Rattle.loading.specs.Loading.{draftOf};
 
-// A flag for each key: the header's, the ports', the flows'.
+// A flag for each key: the header's, the ports', the flows', those of the ports' extra bytes.
 pub(crate) const HEADER_KEY: usize = 0;
 
-pub(crate) const KEYS: usize = 1 + PORTS + FLOWS;
+pub(crate) const KEYS: usize = 1 + PORTS + FLOWS + PORTS;
 
 // The header's numbers, and how many port and flow fields were read.
 pub(crate) struct Totals {
@@ -40,6 +41,7 @@ pub(crate) fn key_of(field: Field) -> usize
         Field::Header(_) => HEADER_KEY,
         Field::Port(x) => HEADER_KEY + x.number as usize,
         Field::Flow(x) => PORTS + x.number as usize,
+        Field::Extra(x) => PORTS + FLOWS + x.number as usize,
     }
 }
 
@@ -50,6 +52,14 @@ fn store_port(rates: &mut [u32; 64], blockings: &mut [u16; 64], x: Port)
     let slot = (x.number - 1) as usize;
     rates[slot] = x.rate;
     blockings[slot] = x.blocking;
+}
+
+fn store_extra(extras: &mut [u8; 64], x: Extra)
+    requires { ⌜ ExtraOk (x .number) (x .extra) ⌝ }
+    ensures { λ r. ⌜ now (extras .exit) ≡ set (now (extras .entry)) (x .number - 1) (x .extra) ⌝ }
+{
+    let slot = (x.number - 1) as usize;
+    extras[slot] = x.extra as u8;
 }
 
 // The ports of a route, copied to position base of the routes and on.
@@ -92,6 +102,7 @@ pub(crate) fn store_field(
     totals: Totals,
     rates: &mut [u32; 64],
     blockings: &mut [u16; 64],
+    extras: &mut [u8; 64],
     periods: &mut [u32; 256],
     counts: &mut [u16; 256],
     lengths: &mut [u16; 256],
@@ -100,7 +111,7 @@ pub(crate) fn store_field(
     seen: &mut [u8; KEYS],
 ) -> Totals
     requires { ⌜ (totals .ports ≤ maxBytes) × (totals .flows ≤ maxBytes) × NumbersOk (fieldOf field) × RouteFits (fieldOf field) (routePorts (now route)) ⌝ }
-    ensures { λ r. ⌜ draftOf r (now (rates .exit)) (now (blockings .exit)) (now (periods .exit)) (now (counts .exit)) (now (lengths .exit)) (now (hops .exit)) (now (routes .exit)) (now (seen .exit)) ≡ added (draftOf totals (now (rates .entry)) (now (blockings .entry)) (now (periods .entry)) (now (counts .entry)) (now (lengths .entry)) (now (hops .entry)) (now (routes .entry)) (now (seen .entry))) (fieldOf field) (routePorts (now (route .entry))) ⌝ }
+    ensures { λ r. ⌜ draftOf r (now (rates .exit)) (now (blockings .exit)) (now (extras .exit)) (now (periods .exit)) (now (counts .exit)) (now (lengths .exit)) (now (hops .exit)) (now (routes .exit)) (now (seen .exit)) ≡ added (draftOf totals (now (rates .entry)) (now (blockings .entry)) (now (extras .entry)) (now (periods .entry)) (now (counts .entry)) (now (lengths .entry)) (now (hops .entry)) (now (routes .entry)) (now (seen .entry))) (fieldOf field) (routePorts (now (route .entry))) ⌝ }
 {
     let key = key_of(field);
     seen[key] = 1;
@@ -119,6 +130,10 @@ pub(crate) fn store_field(
         Field::Flow(x) => {
             store_flow(periods, counts, lengths, hops, routes, x, route);
             sums.flows = sums.flows + 1;
+            sums
+        }
+        Field::Extra(x) => {
+            store_extra(extras, x);
             sums
         }
     }

@@ -2,7 +2,7 @@
 
 ghost use mathlib.Core.Path.{_≡_};
 ghost use Rattle.cqf.specs.Bounded.{within};
-ghost use Rattle.cqf.specs.Limits.{guardOk, topOk, portOk, rateOk, lengthOk, blockingOk, flowOk, periodOk, countOk, hopsOk};
+ghost use Rattle.cqf.specs.Limits.{guardOk, topOk, portOk, rateOk, lengthOk, blockingOk, extraOk, flowOk, periodOk, countOk, hopsOk};
 
 const MAX_GUARD: u64 = 1_000_000;
 
@@ -15,6 +15,8 @@ const MAX_RATE: u64 = 100_000;
 const MIN_LENGTH: u64 = 64;
 
 const MAX_LENGTH: u64 = 2_000;
+
+const MAX_EXTRA: u64 = 64;
 
 pub const MAX_FLOW: u64 = 256;
 
@@ -73,6 +75,13 @@ pub fn blocking_ok(n: u16) -> bool
         return true;
     }
     length_ok(n)
+}
+
+// The bytes that a port adds to each frame.
+pub fn extra_ok(n: u16) -> bool
+    ensures { λ r. ⌜ r ≡ extraOk n ⌝ }
+{
+    between(0, MAX_EXTRA, n as u64)
 }
 
 pub fn flow_ok(n: u16) -> bool

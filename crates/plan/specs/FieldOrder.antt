@@ -1,9 +1,11 @@
--- Two plans with the same fields in any order (document 01: "Fields may stand in any order").
+-- Two plans with the same fields in any order (document 01: "Fields may stand in any order"), and two of which one has a field
+-- more that says nothing.
 use mathlib.Core.Path.{_≡_}
 use mathlib.Core.List.{List, [], _∷_, flatten, List·Permᴰ}
 use Prim.Native.Nat.{ℕ, _+_, _≤_}
 use lib.ListN.{length}
 use Rattle.plan.specs.Bytes.{headSize, sizeAt}
+use Rattle.plan.specs.Field.{extra, field, fieldAt}
 
 -- bytes that are one whole field: a head, and as many bytes after it as the head says
 pub record IsField (b : List ℕ) : Type 0 where
@@ -22,3 +24,15 @@ pub record SameFields (s t : List ℕ) : Type 0 where
   pub bytes-first : s ≡ flatten first
   pub bytes-second : t ≡ flatten second
   pub permuted : List·Permᴰ first second
+
+-- s is the fields of t, and among them, anywhere, one that says 0 extra bytes at a port
+pub record ZeroMore (s t : List ℕ) : Type 0 where
+  pub all : List (List ℕ)
+  pub zero : List ℕ
+  pub others : List (List ℕ)
+  pub number : ℕ
+  pub fields : AllFields all
+  pub says : fieldAt zero 0 ≡ field (extra number 0) (length zero)
+  pub bytes-all : s ≡ flatten all
+  pub bytes-others : t ≡ flatten others
+  pub permuted : List·Permᴰ all (zero ∷ others)

@@ -5,8 +5,8 @@ use mathlib.Core.List.{List}
 use mathlib.Core.Bool.{true}
 use lib.ListN.{length}
 use Rattle.cqf.specs.Bounded.{every}
-use Rattle.cqf.specs.Limits.{guardOk, topOk, portOk, rateOk, lengthOk, blockingOk, flowOk, periodOk, countOk, hopsOk}
-use Rattle.plan.specs.Field.{Field, header, port, flow, ofFlow}
+use Rattle.cqf.specs.Limits.{guardOk, topOk, portOk, rateOk, lengthOk, blockingOk, extraOk, flowOk, periodOk, countOk, hopsOk}
+use Rattle.plan.specs.Field.{Field, header, port, flow, extra, ofFlow}
 
 pub record HeaderOk (g t : ℕ) : Type 0 where
   pub guard : guardOk g ≡ true
@@ -24,11 +24,16 @@ pub record FlowOk (n p c l h : ℕ) : Type 0 where
   pub length : lengthOk l ≡ true
   pub hops : hopsOk h ≡ true
 
+pub record ExtraOk (n b : ℕ) : Type 0 where
+  pub number : portOk n ≡ true
+  pub bytes : extraOk b ≡ true
+
 -- each number of the field is in its range
 abbrev pub NumbersOk : Field → Type 0
 NumbersOk (header g t) = HeaderOk g t
 NumbersOk (port n r b) = PortOk n r b
 NumbersOk (flow n p c l h) = FlowOk n p c l h
+NumbersOk (extra n b) = ExtraOk n b
 
 -- a route of h ports, each with a number in range
 pub record RouteOk (h : ℕ) (r : List ℕ) : Type 0 where

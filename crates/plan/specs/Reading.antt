@@ -6,8 +6,8 @@ use lib.Dec.{ltb, eqb}
 use lib.ListN.{length}
 use Rattle.cqf.specs.Bounded.{within, every}
 use Rattle.cqf.specs.Plan.{Plan, portIn}
-use Rattle.plan.specs.Bytes.{headSize, tagAt, sizeAt, wholeAt, valueAt}
-use Rattle.plan.specs.Field.{FieldRead, field, refused, flowTag, fieldAt, routeIn}
+use Rattle.plan.specs.Bytes.{number2, headSize, tagAt, sizeAt, wholeAt, valueAt}
+use Rattle.plan.specs.Field.{FieldRead, field, refused, flowTag, extraTag, fieldAt, routeIn}
 use Rattle.plan.specs.Key.{headerKey}
 use Rattle.plan.specs.Draft.{Draft, blank, hasKey, taken, fieldRepeats, added}
 
@@ -64,13 +64,27 @@ unfoldable pub namesAbsent : List ℕ → List ℕ → ℕ → Bool
 unfolding valueAt every routeIn
 namesAbsent rates s at = eqb (tagAt s at) flowTag && not (every (portIn rates) (routeAt s at))
 
+-- and extra bytes of a port that is not in it
+unfoldable pub extraAbsent : List ℕ → List ℕ → ℕ → Bool
+unfolding number2 valueAt
+extraAbsent rates s at = eqb (tagAt s at) extraTag && not (portIn rates (number2 (valueAt s at) 0))
+
+-- this offset where it is in the plan, else the next that was sought
+abbrev pub orElse : List ℕ → ℕ → ℕ → ℕ
+orElse s at next = cond (ltb at (length s)) at next
+
+-- the offset that test 9 finds, the plan's length where it finds none: all routes come before the extra bytes
+unfoldable pub firstAbsent : List ℕ → List ℕ → ℕ
+unfolding firstFrom namesAbsent extraAbsent
+firstAbsent rates s = orElse s (firstField (namesAbsent rates) s) (firstField (extraAbsent rates) s)
+
 -- all fields are read: tests 8 and 9
 unfoldable pub closing : List ℕ → Draft → PlanRead
-unfolding firstFrom namesAbsent
+unfolding firstAbsent
 closing s d =
     cond (not (hasKey d headerKey) || eqb (d .flows) 0) (rejected 8 (length s))
-    (cond (ltb (firstField (namesAbsent (d .tables .rates)) s) (length s))
-    (rejected 9 (firstField (namesAbsent (d .tables .rates)) s))
+    (cond (ltb (firstAbsent (d .tables .rates) s) (length s))
+    (rejected 9 (firstAbsent (d .tables .rates) s))
     (accepted (d .tables) (d .ports) (d .flows)))
 
 -- the fields from this offset on. The first number bounds how many are read: the plan's length is enough.

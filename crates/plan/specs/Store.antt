@@ -4,7 +4,7 @@ use mathlib.Core.List.{List}
 use mathlib.Core.Option.{Option, some, none}
 use Rattle.cqf.specs.Limits.{routeStride}
 use Rattle.cqf.specs.Plan.{Plan}
-use Rattle.plan.specs.Field.{Field, ofHeader, ofPort, ofFlow}
+use Rattle.plan.specs.Field.{Field, ofHeader, ofPort, ofFlow, ofExtra}
 use Rattle.plan.specs.Put.{Put, keep, number, run, put, given}
 
 -- a number of the header, of a port, of a flow: into the slot of its number
@@ -30,6 +30,9 @@ putsRate = portNumber (λ n rate blocking. rate)
 abbrev pub putsBlocking : Field → Put
 putsBlocking = portNumber (λ n rate blocking. blocking)
 
+abbrev pub putsExtra : Field → Put
+putsExtra = ofExtra keep (λ n bytes. number (n - 1) bytes)
+
 abbrev pub putsPeriod : Field → Put
 putsPeriod = flowNumber (λ n period count length hops. period)
 
@@ -52,6 +55,7 @@ store p x r =
       top = given (p .top) (putsTop x);
       rates = put (p .rates) (putsRate x);
       blockings = put (p .blockings) (putsBlocking x);
+      extras = put (p .extras) (putsExtra x);
       periods = put (p .periods) (putsPeriod x);
       counts = put (p .counts) (putsCount x);
       lengths = put (p .lengths) (putsLength x);

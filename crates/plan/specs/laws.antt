@@ -18,6 +18,7 @@ pub mod Valid
 pub mod Commute
 pub mod Stored
 pub mod Order
+pub mod Zero
 pub mod Found
 pub mod Steps
 pub mod Absent

@@ -3,11 +3,12 @@
 ghost use mathlib.Core.Path.{_≡_};
 ghost use Rattle.plan.specs.Answer.{faultNumber, headNumber};
 
-mod number; // number.rt: numbers of several bytes, high byte first
+pub mod number; // number.rt: numbers of several bytes, high byte first
 pub mod split; // split.rt: a field's head, and its value as a part of the plan
 pub mod route; // route.rt: a flow's route
 pub mod read; // read.rt: a whole field, tests 2 to 5
 
+pub use number::first_number;
 pub use read::read_field;
 pub use route::repeats_port;
 pub use route::route_bytes;
@@ -55,10 +56,17 @@ pub struct Flow {
     pub hops: u8,
 }
 
+// A port's number and the bytes that it adds to each frame.
+pub struct Extra {
+    pub number: u16,
+    pub extra: u16,
+}
+
 pub enum Field {
     Header(Header),
     Port(Port),
     Flow(Flow),
+    Extra(Extra),
 }
 
 pub enum FieldRead {

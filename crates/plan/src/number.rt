@@ -35,3 +35,17 @@ pub(crate) fn be32(s: &[u8], i: usize) -> u32
     let low = wider(be16(s, i + 2));
     high * 65536 + low
 }
+
+// The number of 2 bytes that a value begins with; a byte that is missing counts as 0.
+pub fn first_number(value: &[u8]) -> u16
+    ensures { λ r. ⌜ r ≡ number2 (now (value .entry)) 0 ⌝ }
+{
+    let size = value.len();
+    if size == 0 {
+        return 0;
+    }
+    if size == 1 {
+        return wide(value[0]) * 256;
+    }
+    be16(value, 0)
+}

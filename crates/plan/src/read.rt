@@ -1,5 +1,6 @@
 // A whole field: tests 2 to 5.
 
+use crate::Extra;
 use crate::Fault;
 use crate::Field;
 use crate::FieldRead;
@@ -17,6 +18,7 @@ use crate::split::field_value;
 use crate::split::split_head;
 use numbers::limits::blocking_ok;
 use numbers::limits::count_ok;
+use numbers::limits::extra_ok;
 use numbers::limits::flow_ok;
 use numbers::limits::guard_ok;
 use numbers::limits::length_ok;
@@ -26,8 +28,8 @@ use numbers::limits::rate_ok;
 use numbers::limits::top_ok;
 ghost use mathlib.Core.Path.{_≡_};
 ghost use mathlib.Core.Bool.{_&&_};
-ghost use Rattle.cqf.specs.Limits.{guardOk, topOk, portOk, rateOk, lengthOk, blockingOk, flowOk, periodOk, countOk};
-ghost use Rattle.plan.specs.Field.{headerIn, portInValue, flowIn, fieldIn, fieldAt};
+ghost use Rattle.cqf.specs.Limits.{guardOk, topOk, portOk, rateOk, lengthOk, blockingOk, extraOk, flowOk, periodOk, countOk};
+ghost use Rattle.plan.specs.Field.{headerIn, portInValue, flowIn, extraIn, fieldIn, fieldAt};
 ghost use Rattle.plan.specs.Answer.{fieldReadOf};
 
 pub const HEADER_TAG: u8 = 1;
@@ -36,9 +38,13 @@ pub const PORT_TAG: u8 = 2;
 
 pub const FLOW_TAG: u8 = 3;
 
+pub const EXTRA_TAG: u8 = 4;
+
 const HEADER_SIZE: usize = 8;
 
 const PORT_SIZE: usize = 8;
+
+const EXTRA_SIZE: usize = 4;
 
 fn header_in_range(x: Header) -> bool
     ensures { λ r. ⌜ r ≡ (guardOk (x .guard) && topOk (x .top)) ⌝ }
@@ -75,6 +81,15 @@ fn flow_in_range(x: Flow) -> bool
         return false;
     }
     length_ok(x.length)
+}
+
+fn extra_in_range(x: Extra) -> bool
+    ensures { λ r. ⌜ r ≡ (portOk (x .number) && extraOk (x .extra)) ⌝ }
+{
+    if !port_ok(x.number) {
+        return false;
+    }
+    extra_ok(x.extra)
 }
 
 fn header_of(value: &[u8], at: usize, next: usize) -> FieldRead
@@ -164,6 +179,31 @@ fn flow_of(value: &[u8], at: usize, next: usize) -> FieldRead
     }
 }
 
+fn extra_of(value: &[u8], at: usize, next: usize) -> FieldRead
+    ensures { λ r. ⌜ fieldReadOf r ≡ extraIn (now (value .entry)) at next ⌝ }
+{
+    if value.len() != EXTRA_SIZE {
+        return FieldRead::Refused {
+            fault: Fault::WrongLength,
+            offset: at,
+        };
+    }
+    let x = Extra {
+        number: be16(value, 0),
+        extra: be16(value, 2),
+    };
+    if !extra_in_range(x) {
+        return FieldRead::Refused {
+            fault: Fault::OutOfRange,
+            offset: at,
+        };
+    }
+    FieldRead::Field {
+        field: Field::Extra(x),
+        next,
+    }
+}
+
 // The field by its tag, with its value: tests 3, 4 and 5.
 fn field_of(tag: u8, value: &[u8], at: usize, next: usize) -> FieldRead
     ensures { λ r. ⌜ fieldReadOf r ≡ fieldIn tag (now (value .entry)) at next ⌝ }
@@ -176,6 +216,9 @@ fn field_of(tag: u8, value: &[u8], at: usize, next: usize) -> FieldRead
     }
     if tag == FLOW_TAG {
         return flow_of(value, at, next);
+    }
+    if tag == EXTRA_TAG {
+        return extra_of(value, at, next);
     }
     FieldRead::Refused {
         fault: Fault::UnknownTag,

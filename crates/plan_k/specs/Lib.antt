@@ -1,3 +1,4 @@
 -- Plan K of document 01, worked out by the definitions.
 pub mod PlanK
+pub mod Extra
 pub mod Order

@@ -5,14 +5,14 @@ use mathlib.Core.Option.{some}
 use Prim.Native.Nat.{ℕ}
 use lib.IntN.{ℤ, pos, negsuc}
 use Rattle.cqf.specs.Bounded.{sumTo, countTo, anyTo, allTo, lowest, elem, distinct, every, sublist}
-use Rattle.cqf.specs.Plan.{noPlan, validPlan, validPort, validFlow}
+use Rattle.cqf.specs.Plan.{Plan, noPlan, validPlan, validPort, validFlow}
 use Rattle.cqf.specs.Condition.{bitsOf, wireBits, ceilDiv, stretch, begun, frames, demand, window, capacity, workload, slack, crossed, fails, failing, lowestFailing, admissible}
 use Rattle.cqf.specs.Worked.{planK}
 use Rattle.plan.specs.Bytes.{number2, number4, sizeAt, wholeAt, valueAt, numbers2}
-use Rattle.plan.specs.Field.{routePorts, routeIn, headerIn, portInValue, flowIn, fieldIn, fieldAt, repeats}
+use Rattle.plan.specs.Field.{routePorts, routeIn, headerIn, portInValue, flowIn, extraIn, fieldIn, fieldAt, repeats}
 use Rattle.plan.specs.Store.{store}
 use Rattle.plan.specs.Draft.{blank, added}
-use Rattle.plan.specs.Reading.{stepAt, namesAbsent, firstFrom, closing, readFrom, readAs, readPlan, accepted}
+use Rattle.plan.specs.Reading.{stepAt, namesAbsent, extraAbsent, firstFrom, firstAbsent, closing, readFrom, readAs, readPlan, accepted}
 use Rattle.loading.specs.Outcome.{Answer, result, refusal, loadAnswer, loadLeaves}
 use Rattle.planner.specs.Outcome.{checkAnswer, slackAnswer}
 use Rattle.planner.specs.Calls.{load, afterFrom, after, heldFrom, heldBytes}
@@ -31,11 +31,15 @@ pub record Line : Type 0 where
   pub checked : Answer (Unit {0})
   pub slack : Answer ℤ
 
-abbrev at : ℕ → Answer (Unit {0}) → Answer ℤ → Line
+abbrev pub at : ℕ → Answer (Unit {0}) → Answer ℤ → Line
 at T checked z = record { duration = T; checked = checked; slack = z }
 
-abbrev fails-one : Answer (Unit {0})
+abbrev pub fails-one : Answer (Unit {0})
 fails-one = refusal 21 (1 ∷ 1 ∷ [])
+
+-- the lines of a plan at the durations of these
+abbrev pub linesOf : Plan → List Line → List Line
+linesOf p = map (λ (r : Line). at (r .duration) (checkAnswer p (r .duration)) (slackAnswer p 1 (r .duration)))
 
 table : List Line
 table =
@@ -54,22 +58,20 @@ table =
 
 -- K is accepted, with one port and two flows, and its tables are planK
 readK : readPlan bytesK ≡ accepted planK 1 2
-unfolding bytesK planK noPlan readPlan readAs readFrom blank stepAt fieldAt fieldIn headerIn portInValue flowIn number2 number4 sizeAt wholeAt valueAt numbers2 routePorts routeIn repeats every distinct elem store added closing firstFrom namesAbsent
+unfolding bytesK planK noPlan readPlan readAs readFrom blank stepAt fieldAt fieldIn headerIn portInValue flowIn extraIn number2 number4 sizeAt wholeAt valueAt numbers2 routePorts routeIn repeats every distinct elem store added closing firstFrom firstAbsent namesAbsent extraAbsent
 readK = refl
 
 -- K is the plan held after its load
 pub heldK : heldBytes (load bytesK ∷ []) ≡ some bytesK
-unfolding bytesK noPlan heldBytes heldFrom readPlan readAs readFrom blank stepAt fieldAt fieldIn headerIn portInValue flowIn number2 number4 sizeAt wholeAt valueAt numbers2 routePorts routeIn repeats every distinct elem store added closing firstFrom namesAbsent
+unfolding bytesK noPlan heldBytes heldFrom readPlan readAs readFrom blank stepAt fieldAt fieldIn headerIn portInValue flowIn extraIn number2 number4 sizeAt wholeAt valueAt numbers2 routePorts routeIn repeats every distinct elem store added closing firstFrom firstAbsent namesAbsent extraAbsent
 heldK = refl
 
 -- every line of the table, of the planner that holds the plan in K's bytes
-tableOfK
-    : map (λ (r : Line). at (r .duration) (checkAnswer (after (load bytesK ∷ [])) (r .duration)) (slackAnswer (after (load bytesK ∷ [])) 1 (r .duration))) table
-    ≡ table
-unfolding bytesK table after afterFrom loadLeaves noPlan readPlan readAs readFrom blank stepAt fieldAt fieldIn headerIn portInValue flowIn number2 number4 sizeAt wholeAt valueAt numbers2 routePorts routeIn repeats every distinct elem store added closing firstFrom namesAbsent checkAnswer slackAnswer validPlan validPort validFlow allTo anyTo sublist admissible failing lowestFailing lowest countTo fails crossed capacity window workload demand sumTo frames begun stretch ceilDiv wireBits slack
+tableOfK : linesOf (after (load bytesK ∷ [])) table ≡ table
+unfolding bytesK table after afterFrom loadLeaves noPlan readPlan readAs readFrom blank stepAt fieldAt fieldIn headerIn portInValue flowIn extraIn number2 number4 sizeAt wholeAt valueAt numbers2 routePorts routeIn repeats every distinct elem store added closing firstFrom firstAbsent namesAbsent extraAbsent checkAnswer slackAnswer validPlan validPort validFlow allTo anyTo sublist admissible failing lowestFailing lowest countTo fails crossed capacity window workload demand sumTo frames begun stretch ceilDiv wireBits slack
 tableOfK = refl
 
--- a field cut short is 2 at its tag, whatever the tag
-cutShort : loadAnswer (0x04 ∷ 0x00 ∷ 0x01 ∷ []) ≡ refusal 2 (0 ∷ [])
-unfolding loadAnswer readPlan readAs readFrom blank stepAt fieldAt fieldIn headerIn portInValue flowIn number2 number4 sizeAt wholeAt valueAt numbers2 routePorts routeIn every
+-- a field cut short is 2 at its tag and not 3, whether its tag is known or not
+cutShort : map (λ (tag : ℕ). loadAnswer (tag ∷ 0x00 ∷ 0x01 ∷ [])) (0x04 ∷ 0x07 ∷ []) ≡ refusal 2 (0 ∷ []) ∷ refusal 2 (0 ∷ []) ∷ []
+unfolding loadAnswer readPlan readAs readFrom blank stepAt fieldAt fieldIn headerIn portInValue flowIn extraIn number2 number4 sizeAt wholeAt valueAt numbers2 routePorts routeIn every
 cutShort = refl

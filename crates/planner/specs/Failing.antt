@@ -15,8 +15,9 @@ unfolding sumTo
 setTo n b = sumTo n (λ q. cond (b q) (2 ^ q) 0)
 
 -- whether the port in slot q fails, by the columns
-abbrev pub failsIn : (rates blockings : List ℕ) → ℕ → List ℕ → ℕ → Bool
-failsIn rates blockings window demands q = failsBy (getD rates q 0) (getD blockings q 0) window (getD demands q 0)
+abbrev pub failsIn : (rates blockings extras : List ℕ) → ℕ → List ℕ → ℕ → Bool
+failsIn rates blockings extras window demands q =
+    failsBy (getD rates q 0) (getD blockings q 0) (getD extras q 0) window (getD demands q 0)
 
 -- the lowest port that fails at T, how many fail, and each port's demand there
 pub record FailingAt (p : Plan) (T port count : ℕ) (out : List ℕ) : Type 0 where

@@ -20,6 +20,7 @@ pub(crate) fn climb<'a>(
     top: u32,
     rates: &'a [u32; 64],
     blockings: &'a [u16; 64],
+    extras: &'a [u8; 64],
     periods: &'a [u32; 256],
     counts: &'a [u16; 256],
     lengths: &'a [u16; 256],
@@ -27,17 +28,17 @@ pub(crate) fn climb<'a>(
     routes: &'a [u8; 4096],
     out: &mut [u64],
 ) -> u64
-    requires { ⌜ (validPlan (planBy guard top (now rates) (now blockings) (now periods) (now counts) (now lengths) (now hops) (now routes)) ≡ true) × (length (now out) ≡ portSlots) ⌝ }
-    ensures { λ r. ⌜ Found least (planBy guard top (now (rates .entry)) (now (blockings .entry)) (now (periods .entry)) (now (counts .entry)) (now (lengths .entry)) (now (hops .entry)) (now (routes .entry))) r (now (out .exit)) ⌝ }
+    requires { ⌜ (validPlan (planBy guard top (now rates) (now blockings) (now extras) (now periods) (now counts) (now lengths) (now hops) (now routes)) ≡ true) × (length (now out) ≡ portSlots) ⌝ }
+    ensures { λ r. ⌜ Found least (planBy guard top (now (rates .entry)) (now (blockings .entry)) (now (extras .entry)) (now (periods .entry)) (now (counts .entry)) (now (lengths .entry)) (now (hops .entry)) (now (routes .entry))) r (now (out .exit)) ⌝ }
 {
     let limit = top as u64;
     let mut t: u64 = 1;
     let found = loop {
-        demands(periods, counts, lengths, hops, routes, t, out);
+        demands(extras, periods, counts, lengths, hops, routes, t, out);
         let available = window(guard, t);
         let mut q: usize = 0;
         'ports: while q < PORTS {
-            if port_fails(rates[q], blockings[q], available, out[q]) {
+            if port_fails(rates[q], blockings[q], extras[q], available, out[q]) {
                 break 'ports;
             }
             q += 1;
@@ -45,7 +46,7 @@ pub(crate) fn climb<'a>(
         if PORTS <= q {
             break t;
         }
-        let next = largest_need(guard, rates, blockings, &out[..]);
+        let next = largest_need(guard, rates, blockings, extras, &out[..]);
         if limit < next {
             break limit + 1;
         }

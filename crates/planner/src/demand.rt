@@ -8,9 +8,9 @@ ghost use mathlib.Core.List.{[]};
 ghost use Prim.Native.Nat.{ℕ, _+_, _*_, _^_, _≤_, _<_};
 ghost use lib.ListN.{length, getD};
 ghost use Rattle.cqf.specs.Bounded.{distinct, every, sublist, tabulate};
-ghost use Rattle.cqf.specs.Limits.{portSlots, flowSlots, routeStride, maxTop, portOk, minPeriod, maxPeriod, maxCount, maxLength};
+ghost use Rattle.cqf.specs.Limits.{portSlots, flowSlots, routeStride, maxTop, portOk, minPeriod, maxPeriod, maxCount};
 ghost use Rattle.cqf.specs.Condition.{bitsOf, ceilDiv, demand};
-ghost use Rattle.tables.specs.Columns.{columns, FlowsInRange, Marked};
+ghost use Rattle.tables.specs.Columns.{columns, FlowsInRange, ExtrasInRange, Marked};
 
 // The periods that begin within a duration: the quotient rounded up.
 fn periods_begun(duration: u32, period: u32) -> u32
@@ -20,26 +20,34 @@ fn periods_begun(duration: u32, period: u32) -> u32
     (duration + (period - 1)) / period
 }
 
-// The wire bits of the frames that a flow brings.
-pub(crate) fn flow_bits(period: u32, count: u16, bytes: u16, duration: u32) -> u64
-    requires { ⌜ (minPeriod ≤ period) × (period ≤ maxPeriod) × (count ≤ maxCount) × (bytes ≤ maxLength) × (duration ≤ maxTop) ⌝ }
-    ensures { λ r. ⌜ r ≡ count * ceilDiv duration period * bitsOf bytes ⌝ }
+// The frames that a flow brings.
+pub(crate) fn flow_frames(period: u32, count: u16, duration: u32) -> u64
+    requires { ⌜ (minPeriod ≤ period) × (period ≤ maxPeriod) × (count ≤ maxCount) × (duration ≤ maxTop) ⌝ }
+    ensures { λ r. ⌜ r ≡ count * ceilDiv duration period ⌝ }
 {
     let begun = periods_begun(duration, period);
-    (count as u64) * (begun as u64) * wire_bits(bytes)
+    (count as u64) * (begun as u64)
 }
 
-// The bits are added at each port of a route.
-fn add_route<'a>(routes: &'a [u8; 4096], base: usize, hops: usize, bits: u64, out: &mut [u64])
+// The wire bits of these frames are added at each port of a route, with what that port adds to each frame.
+fn add_route<'a>(
+    routes: &'a [u8; 4096],
+    base: usize,
+    hops: usize,
+    frames: u64,
+    bytes: u16,
+    extras: &'a [u8; 64],
+    out: &mut [u64],
+)
     requires { ⌜ (base + hops ≤ flowSlots * routeStride) × (length (now out) ≡ portSlots) ⌝ }
     requires { ⌜ (every portOk (sublist (now routes) base hops) ≡ true) × (distinct (sublist (now routes) base hops) ≡ true) ⌝ }
-    requires { ⌜ ((q : ℕ) → q < portSlots → getD (now out) q 0 + bits < 2 ^ 64) ⌝ }
-    ensures { λ r. ⌜ Marked (now (out .entry)) (now (out .exit)) (sublist (now (routes .entry)) base hops) bits ⌝ }
+    requires { ⌜ ((q : ℕ) → q < portSlots → getD (now out) q 0 + frames * bitsOf bytes (getD (now extras) q 0) < 2 ^ 64) ⌝ }
+    ensures { λ r. ⌜ Marked (now (out .entry)) (now (out .exit)) (sublist (now (routes .entry)) base hops) (λ q. frames * bitsOf bytes (getD (now (extras .entry)) q 0)) ⌝ }
 {
     let mut i: usize = 0;
     while i < hops {
         let q = routes[base + i] as usize - 1;
-        out[q] = out[q] + bits;
+        out[q] = out[q] + frames * wire_bits(bytes, extras[q]);
         i += 1;
     }
 }
@@ -57,6 +65,7 @@ fn clear(out: &mut [u64])
 
 // Port n's demand goes to position n - 1; what stood there before does not matter.
 pub(crate) fn demands<'a>(
+    extras: &'a [u8; 64],
     periods: &'a [u32; 256],
     counts: &'a [u16; 256],
     lengths: &'a [u16; 256],
@@ -65,9 +74,9 @@ pub(crate) fn demands<'a>(
     duration: u64,
     out: &mut [u64],
 )
-    requires { ⌜ FlowsInRange (now periods) (now counts) (now lengths) (now hops) (now routes) ⌝ }
+    requires { ⌜ FlowsInRange (now periods) (now counts) (now lengths) (now hops) (now routes) × ExtrasInRange (now extras) ⌝ }
     requires { ⌜ (duration ≤ maxTop) × (length (now out) ≡ portSlots) ⌝ }
-    ensures { λ r. ⌜ now (out .exit) ≡ tabulate portSlots (λ q. demand (columns [] [] (now (periods .entry)) (now (counts .entry)) (now (lengths .entry)) (now (hops .entry)) (now (routes .entry))) q duration) ⌝ }
+    ensures { λ r. ⌜ now (out .exit) ≡ tabulate portSlots (λ q. demand (columns [] [] (now (extras .entry)) (now (periods .entry)) (now (counts .entry)) (now (lengths .entry)) (now (hops .entry)) (now (routes .entry))) q duration) ⌝ }
 {
     clear(out);
     let at = duration as u32;
@@ -75,8 +84,16 @@ pub(crate) fn demands<'a>(
     while f < FLOWS {
         let period = periods[f];
         if period != 0 {
-            let bits = flow_bits(period, counts[f], lengths[f], at);
-            add_route(routes, f * STRIDE, hops[f] as usize, bits, out);
+            let frames = flow_frames(period, counts[f], at);
+            add_route(
+                routes,
+                f * STRIDE,
+                hops[f] as usize,
+                frames,
+                lengths[f],
+                extras,
+                out,
+            );
         }
         f += 1;
     }

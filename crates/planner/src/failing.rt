@@ -19,38 +19,39 @@ ghost use Rattle.planner.specs.Failing.{setTo, failsIn, FailingAt};
 const NS_PER_BIT: u64 = 1_000;
 
 // What a port must be able to send, in bits times 1,000 ns.
-pub(crate) fn workload(blocking: u16, bits: u64) -> u64
+pub(crate) fn workload(blocking: u16, extra: u8, bits: u64) -> u64
     requires { ⌜ bits ≤ mostDemand ⌝ }
-    ensures { λ r. ⌜ r ≡ workloadOf blocking bits ⌝ }
+    ensures { λ r. ⌜ r ≡ workloadOf blocking extra bits ⌝ }
 {
-    NS_PER_BIT * (bits + blocking_bits(blocking))
+    NS_PER_BIT * (bits + blocking_bits(blocking, extra))
 }
 
 // Whether a port fails; a demand of 0 is that of a port that no flow crosses.
-pub(crate) fn port_fails(rate: u32, blocking: u16, window: u64, bits: u64) -> bool
+pub(crate) fn port_fails(rate: u32, blocking: u16, extra: u8, window: u64, bits: u64) -> bool
     requires { ⌜ (window ≤ maxTop) × (bits ≤ mostDemand) ⌝ }
-    ensures { λ r. ⌜ r ≡ failsBy rate blocking window bits ⌝ }
+    ensures { λ r. ⌜ r ≡ failsBy rate blocking extra window bits ⌝ }
 {
     if bits == 0 {
         return false;
     }
-    (rate as u64) * window < workload(blocking, bits)
+    (rate as u64) * window < workload(blocking, extra, bits)
 }
 
 // The failing ports: bit q for the port in slot q.
 pub(crate) fn failing_set<'a>(
     rates: &'a [u32; 64],
     blockings: &'a [u16; 64],
+    extras: &'a [u8; 64],
     window: u64,
     demands: &'a [u64],
 ) -> u64
     requires { ⌜ (length (now demands) ≡ portSlots) × (window ≤ maxTop) × ((q : ℕ) → q < portSlots → getD (now demands) q 0 ≤ mostDemand) ⌝ }
-    ensures { λ r. ⌜ r ≡ setTo portSlots (failsIn (now (rates .entry)) (now (blockings .entry)) window (now (demands .entry))) ⌝ }
+    ensures { λ r. ⌜ r ≡ setTo portSlots (failsIn (now (rates .entry)) (now (blockings .entry)) (now (extras .entry)) window (now (demands .entry))) ⌝ }
 {
     let mut set: u64 = 0;
     let mut q: usize = 0;
     while q < PORTS {
-        if port_fails(rates[q], blockings[q], window, demands[q]) {
+        if port_fails(rates[q], blockings[q], extras[q], window, demands[q]) {
             set = set | (1u64 << q);
         }
         q += 1;
@@ -64,6 +65,7 @@ pub(crate) fn failing_at<'a>(
     guard: u32,
     rates: &'a [u32; 64],
     blockings: &'a [u16; 64],
+    extras: &'a [u8; 64],
     periods: &'a [u32; 256],
     counts: &'a [u16; 256],
     lengths: &'a [u16; 256],
@@ -72,11 +74,20 @@ pub(crate) fn failing_at<'a>(
     duration: u64,
     out: &mut [u64],
 ) -> FailingPorts
-    requires { ⌜ (validPlan (planBy guard duration (now rates) (now blockings) (now periods) (now counts) (now lengths) (now hops) (now routes)) ≡ true) × (length (now out) ≡ portSlots) ⌝ }
-    ensures { λ r. ⌜ FailingAt (planBy guard duration (now (rates .entry)) (now (blockings .entry)) (now (periods .entry)) (now (counts .entry)) (now (lengths .entry)) (now (hops .entry)) (now (routes .entry))) duration (r .port) (r .count) (now (out .exit)) ⌝ }
+    requires { ⌜ (validPlan (planBy guard duration (now rates) (now blockings) (now extras) (now periods) (now counts) (now lengths) (now hops) (now routes)) ≡ true) × (length (now out) ≡ portSlots) ⌝ }
+    ensures { λ r. ⌜ FailingAt (planBy guard duration (now (rates .entry)) (now (blockings .entry)) (now (extras .entry)) (now (periods .entry)) (now (counts .entry)) (now (lengths .entry)) (now (hops .entry)) (now (routes .entry))) duration (r .port) (r .count) (now (out .exit)) ⌝ }
 {
-    demands(periods, counts, lengths, hops, routes, duration, out);
+    demands(
+        extras,
+        periods,
+        counts,
+        lengths,
+        hops,
+        routes,
+        duration,
+        out,
+    );
     let available = window(guard, duration);
-    let set = failing_set(rates, blockings, available, &out[..]);
+    let set = failing_set(rates, blockings, extras, available, &out[..]);
     failing_ports(set)
 }

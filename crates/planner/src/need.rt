@@ -10,15 +10,15 @@ ghost use Rattle.cqf.specs.Condition.{needBy, mostDemand};
 
 // The least duration in which a port can send these bits outside the guard bands; 0 where there are none. A port with a demand
 // has a rate.
-pub(crate) fn need(guard: u32, rate: u32, blocking: u16, bits: u64) -> u64
+pub(crate) fn need(guard: u32, rate: u32, blocking: u16, extra: u8, bits: u64) -> u64
     requires { ⌜ (bits ≤ mostDemand) × (0 < bits → 0 < rate) ⌝ }
-    ensures { λ r. ⌜ r ≡ needBy guard rate blocking bits ⌝ }
+    ensures { λ r. ⌜ r ≡ needBy guard rate blocking extra bits ⌝ }
 {
     if bits == 0 {
         return 0;
     }
     let speed = rate as u64;
-    let work = workload(blocking, bits);
+    let work = workload(blocking, extra, bits);
     2 * (guard as u64) + (work + (speed - 1)) / speed
 }
 
@@ -34,16 +34,20 @@ pub(crate) fn largest_need<'a>(
     guard: u32,
     rates: &'a [u32; 64],
     blockings: &'a [u16; 64],
+    extras: &'a [u8; 64],
     demands: &'a [u64],
 ) -> u64
     requires { ⌜ length (now demands) ≡ portSlots ⌝ }
     requires { ⌜ ((q : ℕ) → q < portSlots → (getD (now demands) q 0 ≤ mostDemand) × (0 < getD (now demands) q 0 → 0 < getD (now rates) q 0)) ⌝ }
-    ensures { λ r. ⌜ r ≡ maxTo portSlots (λ q. needBy guard (getD (now (rates .entry)) q 0) (getD (now (blockings .entry)) q 0) (getD (now (demands .entry)) q 0)) ⌝ }
+    ensures { λ r. ⌜ r ≡ maxTo portSlots (λ q. needBy guard (getD (now (rates .entry)) q 0) (getD (now (blockings .entry)) q 0) (getD (now (extras .entry)) q 0) (getD (now (demands .entry)) q 0)) ⌝ }
 {
     let mut most: u64 = 0;
     let mut q: usize = 0;
     while q < PORTS {
-        most = larger(most, need(guard, rates[q], blockings[q], demands[q]));
+        most = larger(
+            most,
+            need(guard, rates[q], blockings[q], extras[q], demands[q]),
+        );
         q += 1;
     }
     most

@@ -1,14 +1,23 @@
 // The demand of one port at a duration, in bits.
-use super::demand::flow_bits;
+use super::demand::flow_frames;
+use numbers::frame::wire_bits;
 use tables::FLOWS;
 use tables::STRIDE;
 ghost use mathlib.Core.Path.{_≡_};
 ghost use mathlib.Core.List.{[]};
 ghost use Prim.Native.Nat.{suc, _+_, _*_, _≤_, _<_};
 ghost use Rattle.cqf.specs.Bounded.{elem, sublist};
-ghost use Rattle.cqf.specs.Limits.{portSlots, flowSlots, routeStride, maxTop};
-ghost use Rattle.cqf.specs.Condition.{demand};
-ghost use Rattle.tables.specs.Columns.{columns, FlowsInRange};
+ghost use Rattle.cqf.specs.Limits.{portSlots, flowSlots, routeStride, maxTop, minPeriod, maxPeriod, maxCount, maxLength, maxExtra};
+ghost use Rattle.cqf.specs.Condition.{bitsOf, ceilDiv, demand};
+ghost use Rattle.tables.specs.Columns.{columns, FlowsInRange, ExtrasInRange};
+
+// The wire bits of the frames that a flow brings to a port.
+fn flow_bits(period: u32, count: u16, bytes: u16, extra: u8, duration: u32) -> u64
+    requires { ⌜ (minPeriod ≤ period) × (period ≤ maxPeriod) × (count ≤ maxCount) × (bytes ≤ maxLength) × (extra ≤ maxExtra) × (duration ≤ maxTop) ⌝ }
+    ensures { λ r. ⌜ r ≡ count * ceilDiv duration period * bitsOf bytes extra ⌝ }
+{
+    flow_frames(period, count, duration) * wire_bits(bytes, extra)
+}
 
 // Whether a route holds the port in slot q.
 fn route_holds<'a>(routes: &'a [u8; 4096], base: usize, hops: usize, q: usize) -> bool
@@ -28,6 +37,7 @@ fn route_holds<'a>(routes: &'a [u8; 4096], base: usize, hops: usize, q: usize) -
 
 // The demand of the port in slot q.
 pub(crate) fn port_demand<'a>(
+    extras: &'a [u8; 64],
     periods: &'a [u32; 256],
     counts: &'a [u16; 256],
     lengths: &'a [u16; 256],
@@ -36,16 +46,16 @@ pub(crate) fn port_demand<'a>(
     duration: u64,
     q: usize,
 ) -> u64
-    requires { ⌜ FlowsInRange (now periods) (now counts) (now lengths) (now hops) (now routes) ⌝ }
+    requires { ⌜ FlowsInRange (now periods) (now counts) (now lengths) (now hops) (now routes) × ExtrasInRange (now extras) ⌝ }
     requires { ⌜ (duration ≤ maxTop) × (q < portSlots) ⌝ }
-    ensures { λ r. ⌜ r ≡ demand (columns [] [] (now (periods .entry)) (now (counts .entry)) (now (lengths .entry)) (now (hops .entry)) (now (routes .entry))) q duration ⌝ }
+    ensures { λ r. ⌜ r ≡ demand (columns [] [] (now (extras .entry)) (now (periods .entry)) (now (counts .entry)) (now (lengths .entry)) (now (hops .entry)) (now (routes .entry))) q duration ⌝ }
 {
     let at = duration as u32;
     let mut bits: u64 = 0;
     let mut f: usize = 0;
     while f < FLOWS {
         if route_holds(routes, f * STRIDE, hops[f] as usize, q) {
-            bits += flow_bits(periods[f], counts[f], lengths[f], at);
+            bits += flow_bits(periods[f], counts[f], lengths[f], extras[q], at);
         }
         f += 1;
     }

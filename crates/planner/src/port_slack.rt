@@ -17,12 +17,12 @@ ghost use Rattle.planner.specs.Answer.{slackOf};
 ghost use Rattle.planner.specs.Outcome.{slackAnswer};
 
 // The slack of a port, from two products: a signed number, exact at zero.
-fn port_slack(rate: u32, blocking: u16, window: u64, bits: u64) -> i64
+fn port_slack(rate: u32, blocking: u16, extra: u8, window: u64, bits: u64) -> i64
     requires { ⌜ (window ≤ maxTop) × (bits ≤ mostDemand) ⌝ }
-    ensures { λ r. ⌜ r ≡ subℕ (capacityOf rate window) (workloadOf blocking bits) ⌝ }
+    ensures { λ r. ⌜ r ≡ subℕ (capacityOf rate window) (workloadOf blocking extra bits) ⌝ }
 {
     let capacity = (rate as u64) * window;
-    let needed = workload(blocking, bits);
+    let needed = workload(blocking, extra, bits);
     (capacity as i64) - (needed as i64)
 }
 
@@ -35,6 +35,7 @@ pub fn slack(planner: Planner, port: u64, duration: u64) -> SlackAnswer
         planner.top,
         &planner.rates,
         &planner.blockings,
+        &planner.extras,
         &planner.periods,
         &planner.counts,
         &planner.lengths,
@@ -51,6 +52,7 @@ pub fn slack(planner: Planner, port: u64, duration: u64) -> SlackAnswer
     }
     let q = (port - 1) as usize;
     let bits = port_demand(
+        &planner.extras,
         &planner.periods,
         &planner.counts,
         &planner.lengths,
@@ -63,6 +65,12 @@ pub fn slack(planner: Planner, port: u64, duration: u64) -> SlackAnswer
         SlackAnswer::NotCrossed
     } else {
         let available = window(planner.guard, duration);
-        SlackAnswer::Slack(port_slack(planner.rates[q], planner.blockings[q], available, bits))
+        SlackAnswer::Slack(port_slack(
+            planner.rates[q],
+            planner.blockings[q],
+            planner.extras[q],
+            available,
+            bits,
+        ))
     }
 }

@@ -24,6 +24,7 @@ fn answer<'a>(
     top: u32,
     rates: &'a [u32; 64],
     blockings: &'a [u16; 64],
+    extras: &'a [u8; 64],
     periods: &'a [u32; 256],
     counts: &'a [u16; 256],
     lengths: &'a [u16; 256],
@@ -31,8 +32,8 @@ fn answer<'a>(
     routes: &'a [u8; 4096],
     out: &mut [u64],
 ) -> SearchAnswer
-    requires { ⌜ (validPlan (planBy guard top (now rates) (now blockings) (now periods) (now counts) (now lengths) (now hops) (now routes)) ≡ true) × (length (now out) ≡ portSlots) ⌝ }
-    ensures { λ r. ⌜ Answers (noneNumber goal) (wanted goal) (planBy guard top (now (rates .entry)) (now (blockings .entry)) (now (periods .entry)) (now (counts .entry)) (now (lengths .entry)) (now (hops .entry)) (now (routes .entry))) (searchOf (noneNumber goal) r) (now (out .exit)) ⌝ }
+    requires { ⌜ (validPlan (planBy guard top (now rates) (now blockings) (now extras) (now periods) (now counts) (now lengths) (now hops) (now routes)) ≡ true) × (length (now out) ≡ portSlots) ⌝ }
+    ensures { λ r. ⌜ Answers (noneNumber goal) (wanted goal) (planBy guard top (now (rates .entry)) (now (blockings .entry)) (now (extras .entry)) (now (periods .entry)) (now (counts .entry)) (now (lengths .entry)) (now (hops .entry)) (now (routes .entry))) (searchOf (noneNumber goal) r) (now (out .exit)) ⌝ }
 {
     let found = seek(
         goal,
@@ -40,6 +41,7 @@ fn answer<'a>(
         top,
         rates,
         blockings,
+        extras,
         periods,
         counts,
         lengths,
@@ -55,6 +57,7 @@ fn answer<'a>(
         guard,
         rates,
         blockings,
+        extras,
         periods,
         counts,
         lengths,
@@ -76,6 +79,7 @@ fn search<'a>(
     top: u32,
     rates: &'a [u32; 64],
     blockings: &'a [u16; 64],
+    extras: &'a [u8; 64],
     periods: &'a [u32; 256],
     counts: &'a [u16; 256],
     lengths: &'a [u16; 256],
@@ -83,13 +87,14 @@ fn search<'a>(
     routes: &'a [u8; 4096],
     scratch: &mut [u64],
 ) -> SearchAnswer
-    ensures { λ r. ⌜ Ends (noneNumber goal) (wanted goal) (planBy guard top (now (rates .entry)) (now (blockings .entry)) (now (periods .entry)) (now (counts .entry)) (now (lengths .entry)) (now (hops .entry)) (now (routes .entry))) (now (scratch .entry)) (searchOf (noneNumber goal) r) (now (scratch .exit)) ⌝ }
+    ensures { λ r. ⌜ Ends (noneNumber goal) (wanted goal) (planBy guard top (now (rates .entry)) (now (blockings .entry)) (now (extras .entry)) (now (periods .entry)) (now (counts .entry)) (now (lengths .entry)) (now (hops .entry)) (now (routes .entry))) (now (scratch .entry)) (searchOf (noneNumber goal) r) (now (scratch .exit)) ⌝ }
 {
     if !valid_tables(
         guard,
         top,
         rates,
         blockings,
+        extras,
         periods,
         counts,
         lengths,
@@ -108,6 +113,7 @@ fn search<'a>(
         top,
         rates,
         blockings,
+        extras,
         periods,
         counts,
         lengths,
@@ -127,6 +133,7 @@ pub fn least(planner: Planner, scratch: &mut [u64]) -> SearchAnswer
         planner.top,
         &planner.rates,
         &planner.blockings,
+        &planner.extras,
         &planner.periods,
         &planner.counts,
         &planner.lengths,
@@ -146,6 +153,7 @@ pub fn margin_safe(planner: Planner, scratch: &mut [u64]) -> SearchAnswer
         planner.top,
         &planner.rates,
         &planner.blockings,
+        &planner.extras,
         &planner.periods,
         &planner.counts,
         &planner.lengths,

@@ -22,6 +22,7 @@ pub(crate) fn seek<'a>(
     top: u32,
     rates: &'a [u32; 64],
     blockings: &'a [u16; 64],
+    extras: &'a [u8; 64],
     periods: &'a [u32; 256],
     counts: &'a [u16; 256],
     lengths: &'a [u16; 256],
@@ -29,8 +30,8 @@ pub(crate) fn seek<'a>(
     routes: &'a [u8; 4096],
     out: &mut [u64],
 ) -> u64
-    requires { ⌜ (validPlan (planBy guard top (now rates) (now blockings) (now periods) (now counts) (now lengths) (now hops) (now routes)) ≡ true) × (length (now out) ≡ portSlots) ⌝ }
-    ensures { λ r. ⌜ Found (wanted goal) (planBy guard top (now (rates .entry)) (now (blockings .entry)) (now (periods .entry)) (now (counts .entry)) (now (lengths .entry)) (now (hops .entry)) (now (routes .entry))) r (now (out .exit)) ⌝ }
+    requires { ⌜ (validPlan (planBy guard top (now rates) (now blockings) (now extras) (now periods) (now counts) (now lengths) (now hops) (now routes)) ≡ true) × (length (now out) ≡ portSlots) ⌝ }
+    ensures { λ r. ⌜ Found (wanted goal) (planBy guard top (now (rates .entry)) (now (blockings .entry)) (now (extras .entry)) (now (periods .entry)) (now (counts .entry)) (now (lengths .entry)) (now (hops .entry)) (now (routes .entry))) r (now (out .exit)) ⌝ }
 {
     match goal {
         Goal::Least => climb(
@@ -38,6 +39,7 @@ pub(crate) fn seek<'a>(
             top,
             rates,
             blockings,
+            extras,
             periods,
             counts,
             lengths,
@@ -50,6 +52,7 @@ pub(crate) fn seek<'a>(
             top,
             rates,
             blockings,
+            extras,
             periods,
             counts,
             lengths,

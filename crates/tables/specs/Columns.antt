@@ -5,17 +5,18 @@ use mathlib.Core.Bool.{true, cond}
 use Prim.Native.Nat.{ℕ, suc, _+_, _*_, _≤_, _<_}
 use lib.ListN.{getD}
 use Rattle.cqf.specs.Bounded.{elem, distinct, every, sublist}
-use Rattle.cqf.specs.Limits.{portSlots, flowSlots, maxHops, routeStride, portOk, minPeriod, maxPeriod, maxCount, maxLength}
+use Rattle.cqf.specs.Limits.{portSlots, flowSlots, maxHops, routeStride, portOk, minPeriod, maxPeriod, maxCount, maxLength, maxExtra}
 use Rattle.cqf.specs.Plan.{Plan}
 
 -- the plan of these tables
-abbrev pub planBy : (guard top : ℕ) (rates blockings periods counts lengths hops routes : List ℕ) → Plan
-planBy guard top rates blockings periods counts lengths hops routes =
+abbrev pub planBy : (guard top : ℕ) (rates blockings extras periods counts lengths hops routes : List ℕ) → Plan
+planBy guard top rates blockings extras periods counts lengths hops routes =
     record {
       guard = guard;
       top = top;
       rates = rates;
       blockings = blockings;
+      extras = extras;
       periods = periods;
       counts = counts;
       lengths = lengths;
@@ -24,7 +25,7 @@ planBy guard top rates blockings periods counts lengths hops routes =
     }
 
 -- the same where guard and top are not given; a column that the function is not lent is empty
-abbrev pub columns : (rates blockings periods counts lengths hops routes : List ℕ) → Plan
+abbrev pub columns : (rates blockings extras periods counts lengths hops routes : List ℕ) → Plan
 columns = planBy 0 0
 
 -- a flow's slot that is empty or in range, over distinct ports; whether the ports are in the plan does not matter here
@@ -44,6 +45,10 @@ pub record FlowsInRange (periods counts lengths hops routes : List ℕ) : Type 0
       → f < flowSlots
       → FlowInRange (getD periods f 0) (getD counts f 0) (getD lengths f 0) (getD hops f 0) (sublist routes (f * routeStride) (getD hops f 0))
 
--- a table l that has v more than l₀ at each port of r, and as much elsewhere
-abbrev pub Marked : (l₀ l r : List ℕ) → ℕ → Type 0
-Marked l₀ l r v = (q : ℕ) → q < portSlots → getD l q 0 ≡ getD l₀ q 0 + cond (elem (suc q) r) v 0
+-- ports that add no more than the most extra bytes to each frame
+abbrev pub ExtrasInRange : List ℕ → Type 0
+ExtrasInRange extras = (q : ℕ) → q < portSlots → getD extras q 0 ≤ maxExtra
+
+-- a table l that has v q more than l₀ in the slot q of each port of r, and as much elsewhere
+abbrev pub Marked : (l₀ l r : List ℕ) → (ℕ → ℕ) → Type 0
+Marked l₀ l r v = (q : ℕ) → q < portSlots → getD l q 0 ≡ getD l₀ q 0 + cond (elem (suc q) r) (v q) 0

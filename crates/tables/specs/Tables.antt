@@ -9,6 +9,7 @@ planOf s =
       top = s .top;
       rates = s .rates;
       blockings = s .blockings;
+      extras = s .extras;
       periods = s .periods;
       counts = s .counts;
       lengths = s .lengths;

@@ -5,6 +5,7 @@ use super::Planner;
 use super::STRIDE;
 use numbers::limits::blocking_ok;
 use numbers::limits::count_ok;
+use numbers::limits::extra_ok;
 use numbers::limits::guard_ok;
 use numbers::limits::hops_ok;
 use numbers::limits::length_ok;
@@ -17,7 +18,7 @@ ghost use mathlib.Core.List.{[]};
 ghost use Prim.Native.Nat.{_+_, _*_, _≤_, _<_};
 ghost use lib.Dec.{eqb};
 ghost use Rattle.cqf.specs.Bounded.{anyTo, allTo, distinct, every, sublist};
-ghost use Rattle.cqf.specs.Limits.{portSlots, flowSlots, routeStride, rateOk, blockingOk, periodOk, countOk, lengthOk, hopsOk};
+ghost use Rattle.cqf.specs.Limits.{portSlots, flowSlots, routeStride, rateOk, blockingOk, extraOk, periodOk, countOk, lengthOk, hopsOk};
 ghost use Rattle.cqf.specs.Plan.{portIn, present, validPort, validFlow, validPlan};
 ghost use Rattle.tables.specs.Tables.{planOf};
 ghost use Rattle.tables.specs.Columns.{planBy, columns};
@@ -25,24 +26,30 @@ ghost use Rattle.tables.specs.Columns.{planBy, columns};
 const LAST_PORT: u8 = numbers::limits::MAX_PORT as u8;
 
 // Whether a port's slot is empty, or in range.
-fn valid_port(rate: u32, blocking: u16) -> bool
-    ensures { λ r. ⌜ r ≡ (eqb rate 0 && eqb blocking 0) || (rateOk rate && blockingOk blocking) ⌝ }
+fn valid_port(rate: u32, blocking: u16, extra: u8) -> bool
+    ensures { λ r. ⌜ r ≡ (eqb rate 0 && eqb blocking 0 && eqb extra 0) || (rateOk rate && blockingOk blocking && extraOk extra) ⌝ }
 {
     if rate == 0 {
-        return blocking == 0;
+        if blocking != 0 {
+            return false;
+        }
+        return extra == 0;
     }
     if !rate_ok(rate) {
         return false;
     }
-    blocking_ok(blocking)
+    if !blocking_ok(blocking) {
+        return false;
+    }
+    extra_ok(extra as u16)
 }
 
-fn valid_ports<'a>(rates: &'a [u32; 64], blockings: &'a [u16; 64]) -> bool
-    ensures { λ r. ⌜ r ≡ allTo portSlots (validPort (columns (now (rates .entry)) (now (blockings .entry)) [] [] [] [] [])) ⌝ }
+fn valid_ports<'a>(rates: &'a [u32; 64], blockings: &'a [u16; 64], extras: &'a [u8; 64]) -> bool
+    ensures { λ r. ⌜ r ≡ allTo portSlots (validPort (columns (now (rates .entry)) (now (blockings .entry)) (now (extras .entry)) [] [] [] [] [])) ⌝ }
 {
     let mut q: usize = 0;
     while q < PORTS {
-        if !valid_port(rates[q], blockings[q]) {
+        if !valid_port(rates[q], blockings[q], extras[q]) {
             return false;
         }
         q += 1;
@@ -105,7 +112,7 @@ fn valid_flow<'a>(
     f: usize,
 ) -> bool
     requires { ⌜ f < flowSlots ⌝ }
-    ensures { λ r. ⌜ r ≡ validFlow (columns (now (rates .entry)) [] (now (periods .entry)) (now (counts .entry)) (now (lengths .entry)) (now (hops .entry)) (now (routes .entry))) f ⌝ }
+    ensures { λ r. ⌜ r ≡ validFlow (columns (now (rates .entry)) [] [] (now (periods .entry)) (now (counts .entry)) (now (lengths .entry)) (now (hops .entry)) (now (routes .entry))) f ⌝ }
 {
     let period = periods[f];
     let count = counts[f];
@@ -134,7 +141,7 @@ fn valid_flows<'a>(
     hops: &'a [u8; 256],
     routes: &'a [u8; 4096],
 ) -> bool
-    ensures { λ r. ⌜ r ≡ allTo flowSlots (validFlow (columns (now (rates .entry)) [] (now (periods .entry)) (now (counts .entry)) (now (lengths .entry)) (now (hops .entry)) (now (routes .entry)))) ⌝ }
+    ensures { λ r. ⌜ r ≡ allTo flowSlots (validFlow (columns (now (rates .entry)) [] [] (now (periods .entry)) (now (counts .entry)) (now (lengths .entry)) (now (hops .entry)) (now (routes .entry)))) ⌝ }
 {
     let mut f: usize = 0;
     while f < FLOWS {
@@ -147,7 +154,7 @@ fn valid_flows<'a>(
 }
 
 fn any_present(periods: &[u32; 256]) -> bool
-    ensures { λ r. ⌜ r ≡ anyTo flowSlots (present (columns [] [] (now (periods .entry)) [] [] [] [])) ⌝ }
+    ensures { λ r. ⌜ r ≡ anyTo flowSlots (present (columns [] [] [] (now (periods .entry)) [] [] [] [])) ⌝ }
 {
     let mut f: usize = 0;
     while f < FLOWS {
@@ -165,13 +172,14 @@ pub fn valid_tables<'a>(
     top: u32,
     rates: &'a [u32; 64],
     blockings: &'a [u16; 64],
+    extras: &'a [u8; 64],
     periods: &'a [u32; 256],
     counts: &'a [u16; 256],
     lengths: &'a [u16; 256],
     hops: &'a [u8; 256],
     routes: &'a [u8; 4096],
 ) -> bool
-    ensures { λ r. ⌜ r ≡ validPlan (planBy guard top (now (rates .entry)) (now (blockings .entry)) (now (periods .entry)) (now (counts .entry)) (now (lengths .entry)) (now (hops .entry)) (now (routes .entry))) ⌝ }
+    ensures { λ r. ⌜ r ≡ validPlan (planBy guard top (now (rates .entry)) (now (blockings .entry)) (now (extras .entry)) (now (periods .entry)) (now (counts .entry)) (now (lengths .entry)) (now (hops .entry)) (now (routes .entry))) ⌝ }
 {
     if !top_ok(top) {
         return false;
@@ -179,7 +187,7 @@ pub fn valid_tables<'a>(
     if !guard_ok(guard) {
         return false;
     }
-    if !valid_ports(rates, blockings) {
+    if !valid_ports(rates, blockings, extras) {
         return false;
     }
     if !valid_flows(rates, periods, counts, lengths, hops, routes) {
@@ -196,6 +204,7 @@ pub fn valid_plan(planner: Planner) -> bool
         planner.top,
         &planner.rates,
         &planner.blockings,
+        &planner.extras,
         &planner.periods,
         &planner.counts,
         &planner.lengths,

@@ -32,6 +32,7 @@ pub struct Planner {
     pub top: u32,
     pub rates: [u32; 64],
     pub blockings: [u16; 64],
+    pub extras: [u8; 64],
     pub periods: [u32; 256],
     pub counts: [u16; 256],
     pub lengths: [u16; 256],
@@ -39,7 +40,7 @@ pub struct Planner {
     pub routes: [u8; 4096],
 }
 
-pub const PLANNER_BYTES: usize = 6792;
+pub const PLANNER_BYTES: usize = 6856;
 const _: () = assert!(std::mem::size_of::<Planner>() == PLANNER_BYTES);
 
 impl Planner {
@@ -60,6 +61,7 @@ impl Planner {
         first("guard, top", &[self.guard, self.top], &[other.guard, other.top])
             .or_else(|| first("rates", &self.rates, &other.rates))
             .or_else(|| first("blockings", &self.blockings, &other.blockings))
+            .or_else(|| first("extras", &self.extras, &other.extras))
             .or_else(|| first("periods", &self.periods, &other.periods))
             .or_else(|| first("counts", &self.counts, &other.counts))
             .or_else(|| first("lengths", &self.lengths, &other.lengths))

@@ -13,6 +13,7 @@ pub enum Piece {
     Header { guard: u32, top: u32 },
     Port { number: u16, rate: u32, blocker: u16 },
     Flow { number: u16, period: u32, count: u16, length: u16, route: Vec<u16> },
+    Extra { number: u16, extra: u16 },
     Raw(Vec<u8>),
 }
 
@@ -40,6 +41,11 @@ impl Piece {
                 bytes.extend(length.to_be_bytes());
                 bytes.extend(route.iter().flat_map(|port| port.to_be_bytes()));
             }
+            Piece::Extra { number, extra } => {
+                bytes.extend([4, 0, 4]);
+                bytes.extend(number.to_be_bytes());
+                bytes.extend(extra.to_be_bytes());
+            }
             Piece::Raw(raw) => bytes.extend(raw),
         }
         bytes
@@ -48,6 +54,20 @@ impl Piece {
 
 pub fn encode(pieces: &[Piece]) -> Vec<u8> {
     pieces.iter().flat_map(Piece::bytes).collect()
+}
+
+/// Wire bits of a frame at a port, with the extra bytes that the pieces give it.
+pub fn wire_bits(pieces: &[Piece], port: u16, length: u16) -> u64 {
+    let extra = pieces.iter().find_map(|piece| match piece {
+        Piece::Extra { number, extra } if *number == port => Some(u64::from(*extra)),
+        _ => None,
+    });
+    8 * (u64::from(length) + 20 + extra.unwrap_or(0))
+}
+
+/// Whether some port has extra bytes.
+pub fn has_extra(pieces: &[Piece]) -> bool {
+    pieces.iter().any(|piece| matches!(piece, Piece::Extra { extra, .. } if *extra > 0))
 }
 
 pub fn set_top(pieces: &mut [Piece], new: u64) {

@@ -1,5 +1,6 @@
 //! The named groups of comparisons, and what they share.
 
+pub mod extra;
 pub mod fields;
 pub mod foreign;
 pub mod known;

@@ -1,4 +1,4 @@
-//! Document 01 once more: plans as maps, the condition, the plain question and the spare.
+//! Document 01 and the landed requests of document 02 once more: plans as maps, the condition, the plain question and the spare.
 
 pub mod read;
 pub mod spans;
@@ -11,6 +11,8 @@ use std::collections::BTreeMap;
 pub struct Port {
     pub rate: u64,
     pub blocker: u64,
+    /// Bytes that this port adds to each frame.
+    pub extra: u64,
 }
 
 #[derive(Clone, Debug, PartialEq, Eq)]
@@ -29,29 +31,28 @@ pub struct Plan {
     pub flows: BTreeMap<u64, Flow>,
 }
 
-pub fn wire_bits(length: u64) -> u64 {
-    (length + 8 + 12) * 8
-}
+impl Port {
+    /// What a frame of this length takes on the wire here.
+    pub fn wire_bits(&self, length: u64) -> u64 {
+        (length + 8 + 12 + self.extra) * 8
+    }
 
-pub fn blocker_bits(blocker: u64) -> u64 {
-    match blocker {
-        0 => 0,
-        length => wire_bits(length),
+    pub fn blocker_bits(&self) -> u64 {
+        match self.blocker {
+            0 => 0,
+            length => self.wire_bits(length),
+        }
     }
 }
 
 impl Flow {
-    pub fn burst_bits(&self) -> u64 {
-        self.count * wire_bits(self.length)
-    }
-
-    /// Wire bits that this flow brings to each of its ports at a duration.
-    pub fn bits_at(&self, duration: u64) -> u64 {
+    /// Frames that this flow brings to each of its ports at a duration.
+    pub fn frames_at(&self, duration: u64) -> u64 {
         let mut rounds = duration / self.period;
         if duration % self.period != 0 {
             rounds += 1;
         }
-        rounds * self.burst_bits()
+        rounds * self.count
     }
 }
 
@@ -68,18 +69,18 @@ impl Plan {
     pub fn demands(&self, duration: u64) -> BTreeMap<u64, u64> {
         let mut demands = BTreeMap::new();
         for flow in self.flows.values() {
-            let bits = flow.bits_at(duration);
+            let frames = flow.frames_at(duration);
             for port in &flow.route {
-                *demands.entry(*port).or_insert(0) += bits;
+                *demands.entry(*port).or_insert(0) += frames * self.ports[port].wire_bits(flow.length);
             }
         }
         demands
     }
 
     fn spare(&self, port: u64, demand: u64, duration: u64) -> i128 {
-        let Port { rate, blocker } = self.ports[&port];
-        let offered = i128::from(rate) * i128::from(self.window(duration));
-        offered - 1000 * (i128::from(demand) + i128::from(blocker_bits(blocker)))
+        let port = &self.ports[&port];
+        let offered = i128::from(port.rate) * i128::from(self.window(duration));
+        offered - 1000 * (i128::from(demand) + i128::from(port.blocker_bits()))
     }
 
     /// Failing ports at a duration, rising.

@@ -1,6 +1,6 @@
 //! Runs of frames through ports with two queues each, one filling while the other empties.
 
-use crate::model::{wire_bits, Plan};
+use crate::model::Plan;
 use crate::rng::Rng;
 use std::collections::BTreeMap;
 
@@ -67,14 +67,15 @@ impl<'a> Run<'a> {
     /// Whether a port gets all of its emptying queue out in one cycle.
     fn clears(&self, port: u64) -> bool {
         let frames = self.queues[&port].emptying.iter();
-        let bits: u64 = frames.map(|frame| wire_bits(self.plan.flows[&frame.flow].length)).sum();
+        let port = &self.plan.ports[&port];
+        let bits: u64 = frames.map(|frame| port.wire_bits(self.plan.flows[&frame.flow].length)).sum();
         let mut taken = bits;
-        if self.plan.ports[&port].blocker != 0 {
-            taken += wire_bits(self.plan.ports[&port].blocker);
+        if port.blocker != 0 {
+            taken += port.wire_bits(port.blocker);
         }
         let start = self.plan.guard;
         let window = if self.duration < 2 * start { 0 } else { self.duration - 2 * start };
-        bits == 0 || 1000 * taken <= self.plan.ports[&port].rate * window
+        bits == 0 || 1000 * taken <= port.rate * window
     }
 
     /// One cycle: queues swap, ports send, sources emit. The port that leaves a frame unsent, if one does.

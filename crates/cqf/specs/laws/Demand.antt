@@ -6,7 +6,7 @@ use native.Mathlib.Nat.{mul-le-mul}
 use native.Mathlib.Numerals.{add-one}
 use native.Mathlib.Omega.{arith}
 use Rattle.cqf.specs.Bounded.{sumTo, elem, sublist}
-use Rattle.cqf.specs.Limits.{flowSlots, maxTop, minPeriod, maxCount, maxLength, mostBegun}
+use Rattle.cqf.specs.Limits.{flowSlots, maxTop, minPeriod, maxCount, maxLength, maxExtra, mostBegun}
 use Rattle.cqf.specs.Plan.{Plan, hopsOf, crosses}
 use Rattle.cqf.specs.Condition.{bitsOf, wireBits, ceilDiv, frames, demand, mostBits}
 use Rattle.cqf.specs.laws.Begun.{begun-most}
@@ -21,15 +21,16 @@ demand-sum p q T = refl
 
 -- one flow brings at most its most bits
 pub flow-bits-most
-    : (T : ℕ) {period count bytes : ℕ}
+    : (T : ℕ) {period count bytes extra : ℕ}
     → T ≤ maxTop
     → minPeriod ≤ period
     → count ≤ maxCount
     → bytes ≤ maxLength
-    → count * ceilDiv T period * bitsOf bytes ≤ mostBits
-flow-bits-most T {period} {count} {bytes} l h c b =
+    → extra ≤ maxExtra
+    → count * ceilDiv T period * bitsOf bytes extra ≤ mostBits
+flow-bits-most T {period} {count} {bytes} {extra} l h c b x =
     let many : count * ceilDiv T period ≤ maxCount * mostBegun = mul-le-mul c (begun-most T l h) in
-    let long : bitsOf bytes ≤ bitsOf maxLength = omega arith in
+    let long : bitsOf bytes extra ≤ bitsOf maxLength maxExtra = omega arith in
     mul-le-mul many long
 
 -- a flow that crosses no port brings nothing

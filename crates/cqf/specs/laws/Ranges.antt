@@ -1,15 +1,16 @@
--- What the searches ask of a valid plan: the range of its top, and a rate for each port that is crossed.
+-- What the searches ask of a valid plan: the ranges of its top and of each port's extra bytes, and a rate for each port that is crossed.
 use mathlib.Core.Path.{_≡_}
-use mathlib.Core.Bool.{true, and-eq-true-iff}
+use mathlib.Core.Bool.{true, _&&_, and-eq-true-iff}
 use mathlib.Core.List.{List}
 use Prim.Native.Nat.{ℕ, suc, _≤_, _<_}
 use lib.ListN.{getD}
-use lib.Dec.{ltb}
-use borrow.Author.Tests.{leb-true, ltb-true}
-use Rattle.cqf.specs.Limits.{flowSlots, maxTop, portOk}
-use Rattle.cqf.specs.Plan.{Plan, rateOf, routeOf, crosses, portIn, validPlan}
+use lib.Dec.{eqb, ltb}
+use native.Mathlib.Omega.{arith}
+use borrow.Author.Tests.{eqb-true, leb-true, ltb-true}
+use Rattle.cqf.specs.Limits.{portSlots, flowSlots, maxTop, maxExtra, portOk, rateOk, blockingOk, extraOk}
+use Rattle.cqf.specs.Plan.{Plan, rateOf, blockingOf, extraOf, routeOf, crosses, portIn, validPort, validPlan}
 use Rattle.cqf.specs.Condition.{crossed}
-use Rattle.cqf.specs.laws.Bounded.{anyTo-true}
+use Rattle.cqf.specs.laws.Bounded.{anyTo-true, or-cases, allTo-at}
 use Rattle.cqf.specs.laws.Lists.{elem-index, every-at}
 use Rattle.cqf.specs.laws.Valid.{crosses-held}
 
@@ -26,6 +27,18 @@ module _ (p : Plan) (valid : validPlan p ≡ true) where
   pub top-most : p .top ≤ maxTop
   unfolding validPlan
   top-most = let h = simp and-eq-true-iff at valid in leb-true _ _ (h .0 .0 .0 .0 .1)
+
+  -- a port adds at most the most extra bytes to a frame
+  pub extra-most : (q : ℕ) → q < portSlots → extraOf p q ≤ maxExtra
+  unfolding validPlan validPort
+  extra-most q l =
+      let h = simp and-eq-true-iff at valid in
+      or-cases
+      (eqb (rateOf p q) 0 && eqb (blockingOf p q) 0 && eqb (extraOf p q) 0)
+      (rateOk (rateOf p q) && blockingOk (blockingOf p q) && extraOk (extraOf p q))
+      (allTo-at portSlots (validPort p) (h .0 .0 .1) q l)
+      (λ e. let t = simp and-eq-true-iff at e in omega (arith, eqb-true (extraOf p q) 0 (t .1)))
+      (λ e. let t = simp and-eq-true-iff at e in leb-true (extraOf p q) maxExtra (t .1 .1))
 
   -- a port that a flow crosses is in the plan
   pub crossed-rate : (q : ℕ) → crossed p q ≡ true → 0 < rateOf p q

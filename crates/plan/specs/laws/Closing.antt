@@ -7,7 +7,7 @@ use borrow.Author.Tests.{eq-eqb, ne-eqb, lt-ltb, le-ltb}
 use lib.ListN.{length}
 use Rattle.plan.specs.Key.{headerKey}
 use Rattle.plan.specs.Draft.{Draft, hasKey}
-use Rattle.plan.specs.Reading.{accepted, rejected, firstField, namesAbsent, closing}
+use Rattle.plan.specs.Reading.{accepted, rejected, firstAbsent, closing}
 
 module _ (s : List ℕ) (d : Draft) where
   -- no header, or no flow
@@ -19,13 +19,12 @@ module _ (s : List ℕ) (d : Draft) where
   unfolding closing
   close-flowless e = rw (eq-eqb _ _ e, or-true (not (hasKey d headerKey)))
 
-  -- both are there: the first flow that names an absent port decides
+  -- both are there: the first field that names an absent port decides
   module _ (h : hasKey d headerKey ≡ true) (g : d .flows ≡ 0 → ⊥) where
-    pub close-absent : firstField (namesAbsent (d .tables .rates)) s < length s
-        → closing s d ≡ rejected 9 (firstField (namesAbsent (d .tables .rates)) s)
+    pub close-absent : firstAbsent (d .tables .rates) s < length s → closing s d ≡ rejected 9 (firstAbsent (d .tables .rates) s)
     unfolding closing
     close-absent l = rw (h, ne-eqb _ _ g, lt-ltb _ _ l)
 
-    pub close-accepted : length s ≤ firstField (namesAbsent (d .tables .rates)) s → closing s d ≡ accepted (d .tables) (d .ports) (d .flows)
+    pub close-accepted : length s ≤ firstAbsent (d .tables .rates) s → closing s d ≡ accepted (d .tables) (d .ports) (d .flows)
     unfolding closing
     close-accepted l = rw (h, ne-eqb _ _ g, le-ltb _ _ l)

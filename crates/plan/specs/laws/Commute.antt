@@ -11,13 +11,13 @@ use lib.Seq.{set-comm, getD-set-same, getD-set-other}
 use Rattle.cqf.specs.Limits.{portSlots, flowSlots, routeStride, portOk, flowOk}
 use Rattle.cqf.specs.Plan.{Plan}
 use Rattle.plan.specs.Field.{Field}
-use Rattle.plan.specs.Key.{headerKey, portKeys, flowKeys, keySlots, keyOf}
+use Rattle.plan.specs.Key.{headerKey, portKeys, flowKeys, extraKeys, keySlots, keyOf}
 use Rattle.plan.specs.Put.{keep, put, given}
-use Rattle.plan.specs.Store.{headerNumber, portNumber, flowNumber, putsRoute, store}
+use Rattle.plan.specs.Store.{headerNumber, portNumber, flowNumber, putsExtra, putsRoute, store}
 use Rattle.plan.specs.Draft.{Draft, taken, added, portsIn, flowsIn}
 use Rattle.plan.specs.Ranges.{NumbersOk, RouteFits}
 use Rattle.plan.specs.laws.Within.{within-low, within-high}
-use Rattle.plan.specs.laws.Kinds.{of-header, of-port, of-flow, key-below}
+use Rattle.plan.specs.laws.Kinds.{of-header, of-port, of-flow, of-extra, key-below}
 use Rattle.plan.specs.laws.Puts.{Block, Placed, put-comm, Owned, given-comm}
 
 -- test 6 of one does not see another of a different key
@@ -38,7 +38,7 @@ fresh-apart d x y r sized k e same =
     let here = getD-set-same (d .seen) (keyOf x) 1 0 (omega arith) in
     true≢false (rw (← same, here) at e)
 
--- the blocks of a port's and of a flow's columns
+-- the blocks of a port's, of a flow's and of the extra bytes' columns
 port-block : (n : ℕ) → portOk n ≡ true → Block portKeys 1 (headerKey + n) (n - 1) 1
 port-block n ok =
     let low = within-low 1 portSlots n ok in
@@ -50,7 +50,12 @@ flow-block n i width m ok here fits =
     let slot : portSlots + n - flowKeys ≡ n - 1 = omega arith in
     record { owned = omega arith; here = rw slot here; fits = fits }
 
--- where what a field puts stands: a number of the header, of a port, of a flow, and the route
+extra-block : (n : ℕ) → portOk n ≡ true → Block extraKeys 1 (portSlots + flowSlots + n) (n - 1) 1
+extra-block n ok =
+    let low = within-low 1 portSlots n ok in
+    record { owned = omega arith; here = omega arith; fits = omega arith }
+
+-- where what a field puts stands: a number of the header, of a port, of a flow, the route, and extra bytes
 header-owned : (which : (guard top : ℕ) → ℕ) (x : Field) → NumbersOk x → Owned headerKey (keyOf x) (headerNumber which x)
 header-owned which = of-header (Owned headerKey) none (λ key. tt) _ (λ g t ok. refl)
 
@@ -74,6 +79,9 @@ route-placed x route =
     flow-block n ((n - 1) * routeStride) routeStride (length route) (ok .number) refl
     (omega (arith, fits .hops, within-high _ _ h (ok .hops))))
     x
+
+extra-placed : (x : Field) → NumbersOk x → Placed extraKeys 1 (keyOf x) (putsExtra x)
+extra-placed = of-extra (Placed extraKeys 1) keep (λ key. tt) _ (λ n b ok. extra-block n (ok .number))
 
 -- the order of two fields of different keys is free, in each column and so in the tables
 module _ (x y : Field) (v w : List ℕ) (k : NumbersOk x) (m : NumbersOk y) (a : RouteFits x v) (b : RouteFits y w) (differ : keyOf x ≢ keyOf y) where
@@ -104,6 +112,12 @@ module _ (x y : Field) (v w : List ℕ) (k : NumbersOk x) (m : NumbersOk y) (a :
       (route-placed x v k a)
       (route-placed y w m b)
 
+  extra-comm : (l : List ℕ) → put (put l (putsExtra x)) (putsExtra y) ≡ put (put l (putsExtra y)) (putsExtra x)
+  extra-comm l =
+      put-comm extraKeys 1 (keyOf x) (keyOf y) differ l (putsExtra x) (putsExtra y)
+      (extra-placed x k)
+      (extra-placed y m)
+
   store-comm : (p : Plan) → store (store p x v) y w ≡ store (store p y w) x v
   unfolding store
   store-comm p = λ i. record {
@@ -111,6 +125,7 @@ module _ (x y : Field) (v w : List ℕ) (k : NumbersOk x) (m : NumbersOk y) (a :
     top = header-comm (λ guard top. top) (p .top) i;
     rates = port-comm (λ number rate blocking. rate) (p .rates) i;
     blockings = port-comm (λ number rate blocking. blocking) (p .blockings) i;
+    extras = extra-comm (p .extras) i;
     periods = flow-comm (λ number period count length hops. period) (p .periods) i;
     counts = flow-comm (λ number period count length hops. count) (p .counts) i;
     lengths = flow-comm (λ number period count length hops. length) (p .lengths) i;

@@ -1,9 +1,9 @@
 -- A draft stays valid with each field that is added to it.
-use mathlib.Core.Path.{_≡_, refl, sym, _∙_}
+use mathlib.Core.Path.{_≡_, refl, sym, ap, _∙_}
 use mathlib.Core.Logic.{_≢_, _⊎_, inl, inr}
 use mathlib.Core.List.{List}
 use mathlib.Core.Bool.{true, true≢false}
-use Prim.Native.Nat.{ℕ, _-_, _≤_, _<_}
+use Prim.Native.Nat.{ℕ, suc, _-_, _≤_, _<_}
 use native.Mathlib.Nat.{add-zero}
 use native.Mathlib.Omega.{arith}
 use native.Mathlib.Decide.{ℕ-discrete}
@@ -12,34 +12,36 @@ use lib.Seq.{getD-set-same, getD-set-other}
 use borrow.Author.Tests.{lt-ltb}
 use Rattle.cqf.specs.Bounded.{every, distinct}
 use Rattle.cqf.specs.Limits.{portSlots, flowSlots, maxHops, guardOk, topOk}
-use Rattle.cqf.specs.Plan.{Plan, noPlan, periodOf, routeOf, present, portIn, validPort}
-use Rattle.plan.specs.Field.{Field, header, port, flow}
+use Rattle.cqf.specs.Plan.{Plan, noPlan, periodOf, routeOf, extraOf, present, portIn}
+use Rattle.plan.specs.Field.{Field, header, port, flow, extra}
 use Rattle.plan.specs.Key.{headerKey, keyOf}
 use Rattle.plan.specs.Store.{store}
 use Rattle.plan.specs.Draft.{Draft, blank, hasKey, added}
-use Rattle.plan.specs.Ranges.{HeaderOk, PortOk, FlowOk, RouteOk}
+use Rattle.plan.specs.Ranges.{HeaderOk, PortOk, FlowOk, ExtraOk, RouteOk}
 use Rattle.plan.specs.laws.Within.{within-low, within-high, slot-below}
-use Rattle.plan.specs.laws.Slots.{validIn, valid-hops, port-kept, flow-kept, port-filled, flow-filled}
+use Rattle.plan.specs.laws.Slots.{validRate, validExtra, validIn, valid-hops, rate-kept, extra-kept, flow-kept, rate-filled, extra-filled, flow-filled}
 use Rattle.plan.specs.laws.Tables
 use Rattle.plan.specs.laws.Tables.{Sized, sized-none, sized-store}
 
--- the draft's tables are valid, but for the ports that its routes name: those are in the plan of these rates
+-- the draft's tables are valid, but for the ports that its routes and extra bytes name: those are in the plan of these rates
 pub record ValidDraft (rates : List ℕ) (d : Draft) : Type 0 where
   pub sized : Sized (d .tables)
   pub guard : guardOk (d .tables .guard) ≡ true
   pub top : hasKey d headerKey ≡ true → topOk (d .tables .top) ≡ true
-  pub ports : (q : ℕ) → q < portSlots → validPort (d .tables) q ≡ true
+  pub ports : (q : ℕ) → q < portSlots → validRate (d .tables) q ≡ true
+  pub extras : (q : ℕ) → q < portSlots → validExtra rates (d .tables) q ≡ true
   pub flows : (f : ℕ) → f < flowSlots → validIn rates (d .tables) f ≡ true
   pub some : (d .flows ≡ 0) ⊎ ((f : ℕ) × (f < flowSlots) × (present (d .tables) f ≡ true))
 
 pub blank-valid : (rates : List ℕ) → ValidDraft rates blank
-unfolding blank noPlan validPort validIn
+unfolding blank noPlan validRate validExtra validIn
 blank-valid rates =
     record {
       sized = sized-none;
       guard = refl;
       top = λ e. absurd (true≢false (sym e));
       ports = λ q l. rw (getD-replicate {A = ℕ} portSlots q 0 0 l);
+      extras = λ q l. rw (getD-replicate {A = ℕ} portSlots q 0 0 l);
       flows = λ f l. rw (getD-replicate {A = ℕ} flowSlots f 0 0 l);
       some = inl refl;
     }
@@ -55,13 +57,14 @@ pub header-valid
     → HeaderOk g t
     → ValidDraft rates d
     → ValidDraft rates (added d (header g t) r)
-unfolding added store validPort validIn
+unfolding added store validRate validExtra validIn
 header-valid rates d g t r ok s =
     record {
       sized = sized-store (d .tables) (header g t) r (s .sized);
       guard = ok .guard;
       top = λ e. ok .top;
       ports = s .ports;
+      extras = s .extras;
       flows = s .flows;
       some = rw add-zero (s .some);
     }
@@ -72,13 +75,14 @@ pub port-valid
     → PortOk n rate b
     → ValidDraft rates d
     → ValidDraft rates (added d (port n rate b) r)
-unfolding added store validIn
+unfolding added store validExtra validIn
 port-valid rates d n rate b r ok s =
     record {
       sized = sized-store (d .tables) (port n rate b) r (s .sized);
       guard = s .guard;
       top = λ e. s .top (sym (header-flag d (port n rate b) r some-number) ∙ e);
       ports = λ q l. slot q l (ℕ-discrete q (n - 1));
+      extras = s .extras;
       flows = s .flows;
       some = rw add-zero (s .some);
     }
@@ -92,16 +96,50 @@ port-valid rates d n rate b r ok s =
     fits : n - 1 < portSlots
     fits = slot-below portSlots n (ok .number)
 
-    slot : (q : ℕ) → q < portSlots → Dec (q ≡ n - 1) → validPort (store p (port n rate b) r) q ≡ true
+    slot : (q : ℕ) → q < portSlots → Dec (q ≡ n - 1) → validRate (store p (port n rate b) r) q ≡ true
     slot q l (yes e) =
-        port-filled (store p (port n rate b) r) q
+        rate-filled (store p (port n rate b) r) q
         (rw (e, getD-set-same (p .rates) (n - 1) rate 0 (rw (s .sized .rates) fits)) (ok .rate))
         (rw (e, getD-set-same (p .blockings) (n - 1) b 0 (rw (s .sized .blockings) fits)) (ok .blocking))
     slot q l (no ne) =
-        port-kept p (store p (port n rate b) r) q
+        rate-kept p (store p (port n rate b) r) q
         (getD-set-other (p .rates) (n - 1) q rate 0 ne)
         (getD-set-other (p .blockings) (n - 1) q b 0 ne)
         (s .ports q l)
+
+-- extra bytes of a port of the plan
+pub extra-valid
+    : (rates : List ℕ) (d : Draft) (n b : ℕ) (r : List ℕ)
+    → ExtraOk n b
+    → portIn rates n ≡ true
+    → ValidDraft rates d
+    → ValidDraft rates (added d (extra n b) r)
+unfolding added store validRate validIn
+extra-valid rates d n b r ok named s =
+    record {
+      sized = sized-store (d .tables) (extra n b) r (s .sized);
+      guard = s .guard;
+      top = λ e. s .top (sym (header-flag d (extra n b) r (omega arith)) ∙ e);
+      ports = s .ports;
+      extras = λ q l. slot q l (ℕ-discrete q (n - 1));
+      flows = s .flows;
+      some = rw add-zero (s .some);
+    }
+  where
+    o : Plan
+    o = store (d .tables) (extra n b) r
+
+    new : validExtra rates o (n - 1) ≡ true
+    new =
+        let fits : n - 1 < portSlots = slot-below portSlots n (ok .number) in
+        let own : suc (n - 1) ≡ n = omega (arith, within-low 1 portSlots n (ok .number)) in
+        extra-filled rates o (n - 1)
+        (rw (getD-set-same (d .tables .extras) (n - 1) b 0 (rw (s .sized .extras) fits)) (ok .bytes))
+        (ap (portIn rates) own ∙ named)
+
+    slot : (q : ℕ) → q < portSlots → Dec (q ≡ n - 1) → validExtra rates o q ≡ true
+    slot q l (yes e) = rw e new
+    slot q l (no ne) = extra-kept rates (d .tables) o q (getD-set-other (d .tables .extras) (n - 1) q b 0 ne) (s .extras q l)
 
 -- and a flow over distinct ports of the plan
 pub flow-valid
@@ -112,13 +150,14 @@ pub flow-valid
     → every (portIn rates) r ≡ true
     → ValidDraft rates d
     → ValidDraft rates (added d (flow n t c l h) r)
-unfolding added store validPort
+unfolding added store validRate validExtra
 flow-valid rates d n t c l h r ok on once named s =
     record {
       sized = sized-store (d .tables) (flow n t c l h) r (s .sized);
       guard = s .guard;
       top = λ e. s .top (sym (header-flag d (flow n t c l h) r (omega arith)) ∙ e);
       ports = s .ports;
+      extras = s .extras;
       flows = λ f less. slot f less (ℕ-discrete f (n - 1));
       some = inr (n - 1, fits, here);
     }

@@ -3,10 +3,10 @@
 use Prim.Native.Nat.{ℕ, _+_, _<_}
 use mathlib.Core.List.{List}
 use native.Mathlib.Omega.{arith}
-use Rattle.cqf.specs.Limits.{portSlots}
-use Rattle.plan.specs.Field.{Field, header, port, flow, ofHeader, ofPort, ofFlow}
+use Rattle.cqf.specs.Limits.{portSlots, flowSlots}
+use Rattle.plan.specs.Field.{Field, header, port, flow, extra, ofHeader, ofPort, ofFlow, ofExtra}
 use Rattle.plan.specs.Key.{headerKey, keySlots, keyOf}
-use Rattle.plan.specs.Ranges.{HeaderOk, PortOk, FlowOk, RouteOk, NumbersOk, RouteFits}
+use Rattle.plan.specs.Ranges.{HeaderOk, PortOk, FlowOk, ExtraOk, RouteOk, NumbersOk, RouteFits}
 use Rattle.plan.specs.laws.Within.{within-high}
 
 module _ {A : Type 0} (P : ℕ → A → Type 0) (other : A) (rest : (key : ℕ) → P key other) where
@@ -19,6 +19,7 @@ module _ {A : Type 0} (P : ℕ → A → Type 0) (other : A) (rest : (key : ℕ)
   of-header gives own (header g t) k = own g t k
   of-header gives own (port n r b) k = rest (headerKey + n)
   of-header gives own (flow n p c l h) k = rest (portSlots + n)
+  of-header gives own (extra n b) k = rest (portSlots + flowSlots + n)
 
   pub of-port
       : (gives : (number rate blocking : ℕ) → A)
@@ -29,6 +30,7 @@ module _ {A : Type 0} (P : ℕ → A → Type 0) (other : A) (rest : (key : ℕ)
   of-port gives own (header g t) k = rest headerKey
   of-port gives own (port n r b) k = own n r b k
   of-port gives own (flow n p c l h) k = rest (portSlots + n)
+  of-port gives own (extra n b) k = rest (portSlots + flowSlots + n)
 
   pub of-flow
       : (route : List ℕ) (gives : (number period count length hops : ℕ) → A)
@@ -40,9 +42,22 @@ module _ {A : Type 0} (P : ℕ → A → Type 0) (other : A) (rest : (key : ℕ)
   of-flow route gives own (header g t) k fits = rest headerKey
   of-flow route gives own (port n r b) k fits = rest (headerKey + n)
   of-flow route gives own (flow n p c l h) k fits = own n p c l h k fits
+  of-flow route gives own (extra n b) k fits = rest (portSlots + flowSlots + n)
+
+  pub of-extra
+      : (gives : (number bytes : ℕ) → A)
+      → ((n b : ℕ) → ExtraOk n b → P (portSlots + flowSlots + n) (gives n b))
+      → (x : Field)
+      → NumbersOk x
+      → P (keyOf x) (ofExtra other gives x)
+  of-extra gives own (header g t) k = rest headerKey
+  of-extra gives own (port n r b) k = rest (headerKey + n)
+  of-extra gives own (flow n p c l h) k = rest (portSlots + n)
+  of-extra gives own (extra n b) k = own n b k
 
 -- a field in range has its flag
 pub key-below : (x : Field) → NumbersOk x → keyOf x < keySlots
 key-below (header g t) k = omega arith
 key-below (port n r b) k = omega (arith, within-high _ _ n (k .number))
 key-below (flow n p c l h) k = omega (arith, within-high _ _ n (k .number))
+key-below (extra n b) k = omega (arith, within-high _ _ n (k .number))

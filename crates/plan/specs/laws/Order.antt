@@ -64,14 +64,14 @@ walk-stored (b ∷ bs) s front at d e p q (more is h) (one x after less stands f
     (walk-stored bs s (front ++ b) after (added d x (routeAt s at)) e (p ∙ sym (append-assoc front b (flatten bs))) ends h rest))
 
 -- a permutation of whole fields is one
-all-permuted : {bs cs : List (List ℕ)} → List·Permᴰ bs cs → AllFields bs → AllFields cs
+pub all-permuted : {bs cs : List (List ℕ)} → List·Permᴰ bs cs → AllFields bs → AllFields cs
 all-permuted List·Permᴰ·nil h = h
 all-permuted (List·Permᴰ·cons same perm) (more is h) = more (rw same at is) (all-permuted perm h)
 all-permuted (List·Permᴰ·swap p q) (more is (more was h)) = more (rw q at was) (more (rw p at is) h)
 all-permuted (List·Permᴰ·trans p q) h = all-permuted q (all-permuted p h)
 
 -- an accepted plan of whole fields leaves what they store
-accepted-stored
+pub accepted-stored
     : (bs : List (List ℕ)) (s : List ℕ) (d : Draft)
     → s ≡ flatten bs
     → AllFields bs
@@ -79,7 +79,7 @@ accepted-stored
     → Stored bs blank d
 accepted-stored bs s d p h reads = walk-stored bs s [] 0 blank d p refl h reads
 
-flagged-blank : Flagged blank
+pub flagged-blank : Flagged blank
 unfolding blank
 flagged-blank = length-replicate {A = ℕ} keySlots 0
 

@@ -8,9 +8,9 @@ use lib.Dec.{eqb}
 use lib.ListN.{length}
 use borrow.Author.Tests.{eqb-true}
 use Rattle.cqf.specs.Bounded.{every}
-use Rattle.cqf.specs.Limits.{guardOk, topOk, portOk, rateOk, lengthOk, blockingOk, flowOk, periodOk, countOk, hopsOk}
+use Rattle.cqf.specs.Limits.{guardOk, topOk, portOk, rateOk, lengthOk, blockingOk, extraOk, flowOk, periodOk, countOk, hopsOk}
 use Rattle.plan.specs.Bytes.{number2, number4, headSize, tagAt, sizeAt, wholeAt, valueAt}
-use Rattle.plan.specs.Field.{Field, header, port, flow, FieldRead, field, refused, unless, headerTag, portTag, flowTag, headerSize, portSize, flowSize, hopsIn, routeIn, headerIn, portInValue, flowIn, fieldIn, fieldAt}
+use Rattle.plan.specs.Field.{Field, header, port, flow, extra, FieldRead, field, refused, unless, headerTag, portTag, flowTag, extraTag, headerSize, portSize, flowSize, extraSize, hopsIn, routeIn, headerIn, portInValue, flowIn, extraIn, fieldIn, fieldAt}
 use Rattle.plan.specs.Ranges.{NumbersOk, RouteFits}
 use Rattle.plan.specs.laws.Route.{value-hops}
 
@@ -19,12 +19,14 @@ abbrev pub tagOf : Field → ℕ
 tagOf (header g t) = headerTag
 tagOf (port n r b) = portTag
 tagOf (flow n p c l h) = flowTag
+tagOf (extra n b) = extraTag
 
 abbrev numbersIn : ℕ → List ℕ → Field
 numbersIn tag v =
     cond (eqb tag headerTag) (header (number4 v 0) (number4 v 4))
     (cond (eqb tag portTag) (port (number2 v 0) (number4 v 2) (number2 v 6))
-    (flow (number2 v 0) (number4 v 2) (number2 v 6) (number2 v 8) (hopsIn (length v))))
+    (cond (eqb tag flowTag) (flow (number2 v 0) (number4 v 2) (number2 v 6) (number2 v 8) (hopsIn (length v)))
+    (extra (number2 v 0) (number2 v 2))))
 
 -- field x is the one of this tag and value
 pub record Passes (tag : ℕ) (v : List ℕ) (x : Field) : Type 0 where
@@ -122,6 +124,16 @@ module _ (tag : ℕ) (v : List ℕ) (at after : ℕ) {x : Field} {next : ℕ} wh
       })
       (b .1)
 
+  extra-read : tag ≡ extraTag → extraIn v at after ≡ field x next → Read tag v after x next
+  unfolding extraIn
+  extra-read k e =
+      let a = unless-passes 4 at (eqb (length v) extraSize) _ e in
+      let b = unless-passes 5 at (portOk (number2 v 0) && extraOk (number2 v 2)) _ (a .1) in
+      let t = and-eq-true-iff (portOk (number2 v 0)) (extraOk (number2 v 2)) .0 (b .0) in
+      read-as tag v after (extra (number2 v 0) (number2 v 2))
+      (record { kind = k; numbers = rw k; ok = record { number = t .0; bytes = t .1 }; route = tt })
+      (b .1)
+
   unknown : refused 3 at ≡ field x next → Read tag v after x next
   unknown e = let z : _≡_ {A = ℕ} 0 1 = cc in absurd (omega arith)
 
@@ -131,7 +143,8 @@ module _ (tag : ℕ) (v : List ℕ) (at after : ℕ) {x : Field} {next : ℕ} wh
       by-tag tag headerTag _ _ header-read
       (by-tag tag portTag _ _ port-read
       (by-tag tag flowTag _ _ flow-read
-      unknown))
+      (by-tag tag extraTag _ _ extra-read
+      unknown)))
 
 -- a field of the plan is whole, and passes
 pub field-is-whole : (s : List ℕ) (at : ℕ) (x : Field) (next : ℕ) → fieldAt s at ≡ field x next → wholeAt s at ≡ true
@@ -144,6 +157,10 @@ pub field-passes
     → Read (tagAt s at) (valueAt s at) (at + headSize + sizeAt s at) x next
 unfolding fieldAt
 field-passes s at x next e = field-read (tagAt s at) (valueAt s at) at _ (unless-passes 2 at (wholeAt s at) _ e .1)
+
+-- the port of extra bytes is the number that the value begins with
+pub extra-number : (tag : ℕ) (v : List ℕ) (n b : ℕ) → Passes tag v (extra n b) → number2 v 0 ≡ n
+extra-number tag v n b k = let z : extra (number2 v 0) (number2 v 2) ≡ extra n b = rw (k .kind) at (k .numbers) in cc
 
 -- a tag and a value are those of one field
 pub passes-once : (tag : ℕ) (v : List ℕ) (x y : Field) → Passes tag v x → Passes tag v y → x ≡ y

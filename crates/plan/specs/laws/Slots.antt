@@ -1,16 +1,41 @@
--- Laws of the soundness of one slot, by the numbers that stand in it.
-use mathlib.Core.Path.{_≡_}
+-- Laws of the validity of one slot, by the numbers that stand in it.
+use mathlib.Core.Path.{_≡_, ap}
 use mathlib.Core.List.{List}
 use mathlib.Core.Bool.{Bool, true, _&&_, _||_, and-eq-true-iff, or-true}
-use Prim.Native.Nat.{ℕ, _≤_}
+use Prim.Native.Nat.{ℕ, suc, _≤_}
 use native.Mathlib.Omega.{arith}
 use lib.Dec.{eqb}
-use borrow.Author.Tests.{leb-true, eqb-true}
+use borrow.Author.Tests.{leb-true, ltb-true, eqb-true}
 use Rattle.cqf.specs.Bounded.{every, distinct}
-use Rattle.cqf.specs.Limits.{maxHops, rateOk, blockingOk, lengthOk, periodOk, countOk, hopsOk}
-use Rattle.cqf.specs.Plan.{Plan, rateOf, blockingOf, periodOf, countOf, lengthOf, hopsOf, routeOf, portIn, validPort}
+use Rattle.cqf.specs.Limits.{maxHops, rateOk, blockingOk, extraOk, lengthOk, periodOk, countOk, hopsOk}
+use Rattle.cqf.specs.Plan.{Plan, rateOf, blockingOf, extraOf, periodOf, countOf, lengthOf, hopsOf, routeOf, portIn, validPort}
 use Rattle.cqf.specs.laws.Bounded.{or-cases}
 use Rattle.cqf.specs.laws.Slot.{emptyAt, heldAt}
+
+-- whether slot q is empty, or holds a rate and a blocker in range; the extra bytes apart
+unfoldable pub validRate : Plan → ℕ → Bool
+validRate p q = (eqb (rateOf p q) 0 && eqb (blockingOf p q) 0) || (rateOk (rateOf p q) && blockingOk (blockingOf p q))
+
+-- whether slot q has no extra bytes, or some in range and a port with these rates
+unfoldable pub validExtra : List ℕ → Plan → ℕ → Bool
+validExtra rates p q = eqb (extraOf p q) 0 || (extraOk (extraOf p q) && portIn rates (suc q))
+
+-- both make a valid port
+pub port-whole : (p : Plan) (q : ℕ) → validRate p q ≡ true → validExtra (p .rates) p q ≡ true → validPort p q ≡ true
+unfolding validRate validExtra validPort
+port-whole p q link bytes = or-cases (eqb (rateOf p q) 0 && eqb (blockingOf p q) 0) _ link empty held
+  where
+    empty : (eqb (rateOf p q) 0 && eqb (blockingOf p q) 0) ≡ true → validPort p q ≡ true
+    empty h = or-cases (eqb (extraOf p q) 0) _ bytes (λ z. rw (h, z)) λ z.
+        let t = simp and-eq-true-iff at z in
+        let none = eqb-true (rateOf p q) 0 (and-eq-true-iff (eqb (rateOf p q) 0) _ .0 h .0) in
+        absurd (omega (arith, ltb-true 0 (rateOf p q) (t .1 .1)))
+
+    held : (rateOk (rateOf p q) && blockingOk (blockingOf p q)) ≡ true → validPort p q ≡ true
+    held h =
+        let e : extraOk (extraOf p q) ≡ true =
+        or-cases (eqb (extraOf p q) 0) _ bytes (λ z. ap extraOk (eqb-true (extraOf p q) 0 z)) (λ z. and-eq-true-iff (extraOk (extraOf p q)) _ .0 z .0) in
+        rw (h, e) (or-true (eqb (rateOf p q) 0 && eqb (blockingOf p q) 0 && eqb (extraOf p q) 0))
 
 -- whether slot f is empty, or holds a flow in range over distinct ports with these rates
 unfoldable pub validIn : List ℕ → Plan → ℕ → Bool
@@ -28,14 +53,18 @@ valid-hops rates p f e = or-cases (emptyAt p f) (heldAt rates p f) e empty held
     held h = let t = simp and-eq-true-iff at h in leb-true _ _ (t .0 .0 .1 .1)
 
 -- a slot whose numbers stay is as valid as it was
-pub port-kept
+pub rate-kept
     : (p o : Plan) (q : ℕ)
     → rateOf o q ≡ rateOf p q
     → blockingOf o q ≡ blockingOf p q
-    → validPort p q ≡ true
-    → validPort o q ≡ true
-unfolding validPort
-port-kept p o q a b h = rw (a, b) h
+    → validRate p q ≡ true
+    → validRate o q ≡ true
+unfolding validRate
+rate-kept p o q a b h = rw (a, b) h
+
+pub extra-kept : (rates : List ℕ) (p o : Plan) (q : ℕ) → extraOf o q ≡ extraOf p q → validExtra rates p q ≡ true → validExtra rates o q ≡ true
+unfolding validExtra
+extra-kept rates p o q a h = rw a h
 
 pub flow-kept
     : (rates : List ℕ) (p o : Plan) (f : ℕ)
@@ -49,10 +78,18 @@ pub flow-kept
 unfolding validIn
 flow-kept rates p o f a b c d e h = rw (e, a, b, c, d) h
 
--- a slot with a port, or a flow, in range is valid
-pub port-filled : (p : Plan) (q : ℕ) → rateOk (rateOf p q) ≡ true → blockingOk (blockingOf p q) ≡ true → validPort p q ≡ true
-unfolding validPort
-port-filled p q a b = rw (a, b) (or-true (eqb (rateOf p q) 0 && eqb (blockingOf p q) 0))
+-- a slot with numbers in range is valid
+pub rate-filled : (p : Plan) (q : ℕ) → rateOk (rateOf p q) ≡ true → blockingOk (blockingOf p q) ≡ true → validRate p q ≡ true
+unfolding validRate
+rate-filled p q a b = rw (a, b) (or-true (eqb (rateOf p q) 0 && eqb (blockingOf p q) 0))
+
+pub extra-filled
+    : (rates : List ℕ) (p : Plan) (q : ℕ)
+    → extraOk (extraOf p q) ≡ true
+    → portIn rates (suc q) ≡ true
+    → validExtra rates p q ≡ true
+unfolding validExtra
+extra-filled rates p q a b = rw (a, b) (or-true (eqb (extraOf p q) 0))
 
 pub flow-filled
     : (rates : List ℕ) (p : Plan) (f : ℕ)

@@ -10,7 +10,7 @@ use lib.Seq.{sets, getD-set-same, getD-set-other}
 use Rattle.cqf.specs.Limits.{portSlots, flowSlots, maxHops, routeStride}
 use Rattle.cqf.specs.Plan.{Plan, noPlan, periodOf, countOf, lengthOf, hopsOf, routeOf}
 use Rattle.plan.specs.Field.{Field, flow}
-use Rattle.plan.specs.Store.{putsRate, putsBlocking, putsPeriod, putsCount, putsLength, putsHops, putsRoute, store}
+use Rattle.plan.specs.Store.{putsRate, putsBlocking, putsExtra, putsPeriod, putsCount, putsLength, putsHops, putsRoute, store}
 use Rattle.plan.specs.laws.Puts.{put-length}
 use Rattle.plan.specs.laws.Stores.{Outside, sets-outside, sublist-sets, sublist-same}
 
@@ -18,6 +18,7 @@ use Rattle.plan.specs.laws.Stores.{Outside, sets-outside, sublist-sets, 
 pub record Sized (p : Plan) : Type 0 where
   pub rates : length (p .rates) ≡ portSlots
   pub blockings : length (p .blockings) ≡ portSlots
+  pub extras : length (p .extras) ≡ portSlots
   pub periods : length (p .periods) ≡ flowSlots
   pub counts : length (p .counts) ≡ flowSlots
   pub lengths : length (p .lengths) ≡ flowSlots
@@ -30,6 +31,7 @@ sized-none =
     record {
       rates = length-replicate {A = ℕ} portSlots 0;
       blockings = length-replicate {A = ℕ} portSlots 0;
+      extras = length-replicate {A = ℕ} portSlots 0;
       periods = length-replicate {A = ℕ} flowSlots 0;
       counts = length-replicate {A = ℕ} flowSlots 0;
       lengths = length-replicate {A = ℕ} flowSlots 0;
@@ -43,6 +45,7 @@ sized-store p x r h =
     record {
       rates = put-length (p .rates) (putsRate x) ∙ h .rates;
       blockings = put-length (p .blockings) (putsBlocking x) ∙ h .blockings;
+      extras = put-length (p .extras) (putsExtra x) ∙ h .extras;
       periods = put-length (p .periods) (putsPeriod x) ∙ h .periods;
       counts = put-length (p .counts) (putsCount x) ∙ h .counts;
       lengths = put-length (p .lengths) (putsLength x) ∙ h .lengths;

@@ -7,10 +7,10 @@ use borrow.Author.Tests.{ne-eqb}
 use lib.Dec.{eqb}
 use lib.ListN.{length}
 use Rattle.cqf.specs.Bounded.{every}
-use Rattle.cqf.specs.Limits.{guardOk, topOk, portOk, rateOk, lengthOk, blockingOk, flowOk, periodOk, countOk, hopsOk}
+use Rattle.cqf.specs.Limits.{guardOk, topOk, portOk, rateOk, lengthOk, blockingOk, extraOk, flowOk, periodOk, countOk, hopsOk}
 use Rattle.plan.specs.Bytes.{number2, number4, headSize, tagAt, sizeAt, wholeAt, valueAt}
-use Rattle.plan.specs.Field.{header, port, flow, field, refused, headerTag, portTag, flowTag, headerSize, portSize, flowSize}
-use Rattle.plan.specs.Field.{hopsIn, routeIn, headerIn, portInValue, flowIn, fieldIn, fieldAt}
+use Rattle.plan.specs.Field.{header, port, flow, extra, field, refused, headerTag, portTag, flowTag, extraTag, headerSize, portSize, flowSize, extraSize}
+use Rattle.plan.specs.Field.{hopsIn, routeIn, headerIn, portInValue, flowIn, extraIn, fieldIn, fieldAt}
 
 -- test 2
 module _ (s : List ℕ) (at : ℕ) where
@@ -36,10 +36,14 @@ module _ (v : List ℕ) (at next : ℕ) where
   unfolding fieldIn
   tag-flow tag e = rw e
 
-  pub tag-unknown : (tag : ℕ) → (tag ≡ headerTag → ⊥) → (tag ≡ portTag → ⊥) → (tag ≡ flowTag → ⊥)
+  pub tag-extra : (tag : ℕ) → tag ≡ extraTag → fieldIn tag v at next ≡ extraIn v at next
+  unfolding fieldIn
+  tag-extra tag e = rw e
+
+  pub tag-unknown : (tag : ℕ) → (tag ≡ headerTag → ⊥) → (tag ≡ portTag → ⊥) → (tag ≡ flowTag → ⊥) → (tag ≡ extraTag → ⊥)
       → fieldIn tag v at next ≡ refused 3 at
   unfolding fieldIn
-  tag-unknown tag h p f = rw (ne-eqb _ _ h, ne-eqb _ _ p, ne-eqb _ _ f)
+  tag-unknown tag h p f x = rw (ne-eqb _ _ h, ne-eqb _ _ p, ne-eqb _ _ f, ne-eqb _ _ x)
 
   -- a header of another length, with a number out of range, or with neither
   pub header-length : eqb (length v) headerSize ≡ false → headerIn v at next ≡ refused 4 at
@@ -88,3 +92,18 @@ module _ (v : List ℕ) (at next : ℕ) where
       → flowIn v at next ≡ field (flow (number2 v 0) (number4 v 2) (number2 v 6) (number2 v 8) (hopsIn (length v))) next
   unfolding flowIn
   flow-read e f = rw (e, f)
+
+  -- and of a port's extra bytes
+  pub extra-length : eqb (length v) extraSize ≡ false → extraIn v at next ≡ refused 4 at
+  unfolding extraIn
+  extra-length e = rw e
+
+  pub extra-range : eqb (length v) extraSize ≡ true → (portOk (number2 v 0) && extraOk (number2 v 2)) ≡ false
+      → extraIn v at next ≡ refused 5 at
+  unfolding extraIn
+  extra-range e f = rw (e, f)
+
+  pub extra-read : eqb (length v) extraSize ≡ true → (portOk (number2 v 0) && extraOk (number2 v 2)) ≡ true
+      → extraIn v at next ≡ field (extra (number2 v 0) (number2 v 2)) next
+  unfolding extraIn
+  extra-read e f = rw (e, f)

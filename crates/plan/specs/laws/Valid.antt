@@ -6,55 +6,49 @@ use mathlib.Core.Bool.{true, false, true≢false}
 use Prim.Native.Nat.{ℕ, _<_}
 use lib.Dec.{eqb}
 use borrow.Author.Tests.{eq-eqb, not-false}
-use Rattle.cqf.specs.Bounded.{every, anyTo}
+use Rattle.cqf.specs.Bounded.{anyTo}
 use Rattle.cqf.specs.Limits.{portSlots, flowSlots}
-use Rattle.cqf.specs.Plan.{Plan, present, portIn, validPort, validFlow, validPlan}
+use Rattle.cqf.specs.Plan.{Plan, present, validPort, validFlow, validPlan}
 use Rattle.cqf.specs.laws.Bounded.{allTo-every, anyTo-some}
 use Rattle.plan.specs.Bytes.{tagAt, valueAt}
-use Rattle.plan.specs.Field.{Field, header, port, flow, flowTag}
+use Rattle.plan.specs.Field.{Field, header, port, flow, extra}
 use Rattle.plan.specs.Key.{headerKey}
 use Rattle.plan.specs.Draft.{Draft, hasKey, fieldRepeats, added}
-use Rattle.plan.specs.Reading.{accepted, routeAt, namesAbsent, readPlan}
-use Rattle.plan.specs.laws.Passes.{Passes, field-is-whole, field-passes}
-use Rattle.plan.specs.laws.Slots.{validIn}
+use Rattle.plan.specs.Reading.{accepted, routeAt, readPlan}
+use Rattle.plan.specs.laws.Passes.{Passes, field-is-whole, field-passes, extra-number}
+use Rattle.plan.specs.laws.Slots.{validIn, port-whole}
 use Rattle.plan.specs.laws.Walk.{Reads, done, one, accepted-reads, closing-accepted}
-use Rattle.plan.specs.laws.Absent.{absent-flow}
-use Rattle.plan.specs.laws.First.{NoneFrom, none-front}
-use Rattle.plan.specs.laws.Drafts.{ValidDraft, blank-valid, header-valid, port-valid, flow-valid}
-
--- what test 9 says of a flow's route
-named-route
-    : (rates s : List ℕ) (at : ℕ)
-    → tagAt s at ≡ flowTag
-    → namesAbsent rates s at ≡ false
-    → every (portIn rates) (routeAt s at) ≡ true
-named-route rates s at kind e = not-false _ (sym (absent-flow rates s at kind) ∙ e)
+use Rattle.plan.specs.laws.Absent.{PortsThere, AllThere, all-there, there-front, there-route, there-extra}
+use Rattle.plan.specs.laws.Drafts.{ValidDraft, blank-valid, header-valid, port-valid, extra-valid, flow-valid}
 
 -- a field of the walk keeps the draft valid
 field-valid
     : (rates s : List ℕ) (at : ℕ) (d : Draft) (x : Field)
     → Passes (tagAt s at) (valueAt s at) x
     → fieldRepeats x (routeAt s at) ≡ false
-    → namesAbsent rates s at ≡ false
+    → PortsThere rates s at
     → ValidDraft rates d
     → ValidDraft rates (added d x (routeAt s at))
 field-valid rates s at d (header g t) k once named h = header-valid rates d g t (routeAt s at) (k .ok) h
 field-valid rates s at d (port n r b) k once named h = port-valid rates d n r b (routeAt s at) (k .ok) h
 field-valid rates s at d (flow n t c l m) k once named h =
-    flow-valid rates d n t c l m (routeAt s at) (k .ok) (k .route) (not-false _ once) (named-route rates s at (k .kind) named) h
+    flow-valid rates d n t c l m (routeAt s at) (k .ok) (k .route) (not-false _ once) (there-route rates s at (k .kind) named) h
+field-valid rates s at d (extra n b) k once named h =
+    let own = extra-number (tagAt s at) (valueAt s at) n b k in
+    extra-valid rates d n b (routeAt s at) (k .ok) (rw own at (there-extra rates s at (k .kind) named)) h
 
 -- so does the whole walk
 walk-valid
     : (rates s : List ℕ) {at : ℕ} {d e : Draft}
     → Reads s at d e
-    → NoneFrom (namesAbsent rates) s at
+    → AllThere rates s at
     → ValidDraft rates d
     → ValidDraft rates e
 walk-valid rates s (done same end) named h = rw same at h
 walk-valid rates s {at} {d} (one x next less stands fresh no-repeat rest) named h =
-    let f = none-front (namesAbsent rates) s at less (field-is-whole s at x next stands) named in
+    let f = there-front rates s at less (field-is-whole s at x next stands) named in
     let r = field-passes s at x next stands in
-    walk-valid rates s rest (rw (r .follows) (f .rest)) (field-valid rates s at d x (r .passes) no-repeat (f .front) h)
+    walk-valid rates s rest (rw (r .follows) (f .1)) (field-valid rates s at d x (r .passes) no-repeat (f .0) h)
 
 -- a valid draft with a header and a flow is a valid plan
 draft-valid
@@ -68,7 +62,7 @@ draft-valid d h headed flowing =
     rw (
       h .top headed,
       h .guard,
-      allTo-every portSlots (validPort p) (h .ports),
+      allTo-every portSlots (validPort p) (λ q l. port-whole p q (h .ports q l) (h .extras q l)),
       allTo-every flowSlots (validFlow p) (h .flows),
       some (h .some),
     )
@@ -89,5 +83,5 @@ accepted-valid s p m k e =
     let a = accepted-reads s p m k e in
     let c = closing-accepted s (a .final) p m k (a .closes) in
     let rates = a .final .tables .rates in
-    let h = walk-valid rates s (a .walk) (c .none-absent) (blank-valid rates) in
+    let h = walk-valid rates s (a .walk) (all-there rates s (c .none-absent)) (blank-valid rates) in
     rw (c .plan) at (draft-valid (a .final) h (c .with-header) (c .with-flow))

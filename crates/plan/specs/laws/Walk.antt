@@ -12,7 +12,7 @@ use Rattle.cqf.specs.Plan.{Plan}
 use Rattle.plan.specs.Field.{Field, field, fieldAt}
 use Rattle.plan.specs.Key.{headerKey}
 use Rattle.plan.specs.Draft.{Draft, blank, hasKey, taken, fieldRepeats, added}
-use Rattle.plan.specs.Reading.{PlanRead, accepted, rejected, Mode, loose, Step, stop, more, routeAt, stepAt, firstField, namesAbsent, closing, readFrom, readAs, readPlan, maxBytes}
+use Rattle.plan.specs.Reading.{PlanRead, accepted, rejected, Mode, loose, Step, stop, more, routeAt, stepAt, firstAbsent, closing, readFrom, readAs, readPlan, maxBytes}
 use Rattle.plan.specs.laws.Steps.{step-more, onward, read-end, read-stop, read-more}
 
 -- from offset at and draft d the fields of s are read to their end, which leaves draft e
@@ -94,11 +94,11 @@ pub accepted-reads
 unfolding readPlan
 accepted-reads s = read-as loose s
 
--- the final draft is the plan, with a header, a flow, and every route in it
+-- the final draft is the plan, with a header, a flow, and every port that is named
 pub record Closes (s : List ℕ) (e : Draft) (p : Plan) (ports flows : ℕ) : Type 0 where
   pub with-header : hasKey e headerKey ≡ true
   pub with-flow : eqb (e .flows) 0 ≡ false
-  pub none-absent : length s ≤ firstField (namesAbsent (e .tables .rates)) s
+  pub none-absent : length s ≤ firstAbsent (e .tables .rates) s
   pub plan : e .tables ≡ p
   pub ports-read : e .ports ≡ ports
   pub flows-read : e .flows ≡ flows
@@ -111,7 +111,7 @@ unfolding closing
 closing-accepted s e p m k h = eight (hasKey e headerKey) (eqb (e .flows) 0) refl refl h
   where
     absent : ℕ
-    absent = firstField (namesAbsent (e .tables .rates)) s
+    absent = firstAbsent (e .tables .rates) s
 
     nine
         : hasKey e headerKey ≡ true

@@ -7,7 +7,7 @@ use native.Mathlib.Decide.{ℕ-discrete}
 use native.Mathlib.Omega.{arith}
 use lib.ListN.{getD}
 use Rattle.cqf.specs.Limits.{portSlots}
-use Rattle.cqf.specs.Plan.{Plan, rateOf, blockingOf}
+use Rattle.cqf.specs.Plan.{Plan, rateOf, blockingOf, extraOf}
 use Rattle.cqf.specs.Condition.{windowOf, failsBy, largestNeed, fails, least}
 use Rattle.cqf.specs.laws.Search.{Climbed, fails-largest, climb-found}
 use Rattle.planner.specs.laws.Fails.{fails-by}
@@ -37,11 +37,11 @@ module _ {p : Plan} {out : List ℕ} {t q : ℕ} (s : Passed p out t q) where
     pub port-tested
         : {window : ℕ} {r : Bool}
         → window ≡ windowOf (p .guard) t
-        → r ≡ failsBy (rateOf p q) (blockingOf p q) window (getD out q 0)
+        → r ≡ failsBy (rateOf p q) (blockingOf p q) (extraOf p q) window (getD out q 0)
         → r ≡ fails p t q
     port-tested d e =
         e
-        ∙ ap₂ (failsBy (rateOf p q) (blockingOf p q)) d (filled-bits (s .filled) q slot)
+        ∙ ap₂ (failsBy (rateOf p q) (blockingOf p q) (extraOf p q)) d (filled-bits (s .filled) q slot)
         ∙ sym (fails-by p (s .filled .valid) t (s .climbed .first) q)
 
     -- it fails

@@ -11,7 +11,7 @@ use lib.Count.{ones, trailingZeros}
 use borrow.Author.Tests.{lt-ltb, le-ltb}
 use Rattle.cqf.specs.Bounded.{tabulate}
 use Rattle.cqf.specs.Limits.{portSlots}
-use Rattle.cqf.specs.Plan.{Plan, rateOf, blockingOf, validPlan}
+use Rattle.cqf.specs.Plan.{Plan, rateOf, blockingOf, extraOf, validPlan}
 use Rattle.cqf.specs.Condition.{workloadOf, failsBy, demand, capacity, workload, crossed, slack, fails, failing, lowestFailing}
 use Rattle.cqf.specs.laws.Condition.{demand-pos, demand-crossed}
 use Rattle.cqf.specs.laws.Tabulate.{tabulate-at}
@@ -23,11 +23,11 @@ capacity-is : (p : Plan) (q T : ℕ) → capacity p q T ≡ rateOf p q * (T - 2 
 unfolding capacity
 capacity-is p q T = refl
 
-workload-is : (p : Plan) (q bits : ℕ) → workload p q bits ≡ workloadOf (blockingOf p q) bits
+workload-is : (p : Plan) (q bits : ℕ) → workload p q bits ≡ workloadOf (blockingOf p q) (extraOf p q) bits
 unfolding workload
 workload-is p q bits = refl
 
-pub slack-is : (p : Plan) (q T : ℕ) → slack p q T ≡ subℕ (rateOf p q * (T - 2 * p .guard)) (workloadOf (blockingOf p q) (demand p q T))
+pub slack-is : (p : Plan) (q T : ℕ) → slack p q T ≡ subℕ (rateOf p q * (T - 2 * p .guard)) (workloadOf (blockingOf p q) (extraOf p q) (demand p q T))
 unfolding slack
 slack-is p q T = refl
 
@@ -46,7 +46,7 @@ module _ (p : Plan) (valid : validPlan p ≡ true) (T : ℕ) (long : 0 < T) wher
           let none : demand p q T < 1 = lt-of-not-le (λ l. true≢false (sym (demand-crossed p q T l) ∙ e)) in
           sym (le-ltb 0 (demand p q T) (omega arith))
 
-  pub fails-by : (q : ℕ) → fails p T q ≡ failsBy (rateOf p q) (blockingOf p q) (T - 2 * p .guard) (demand p q T)
+  pub fails-by : (q : ℕ) → fails p T q ≡ failsBy (rateOf p q) (blockingOf p q) (extraOf p q) (T - 2 * p .guard) (demand p q T)
   fails-by q =
       fails-is p T q
       ∙ ap₂ (λ (x y : Bool). x && y) (crossed-demand q)
@@ -57,14 +57,14 @@ module _ (p : Plan) (valid : validPlan p ≡ true) (T : ℕ) (long : 0 < T) wher
       : {window set : ℕ} {out : List ℕ}
       → window ≡ T - 2 * p .guard
       → out ≡ tabulate portSlots (λ q. demand p q T)
-      → set ≡ setTo portSlots (failsIn (p .rates) (p .blockings) window out)
+      → set ≡ setTo portSlots (failsIn (p .rates) (p .blockings) (p .extras) window out)
       → set ≡ setTo portSlots (fails p T)
   failing-set w d e =
       e
-      ∙ ap₂ (λ (w : ℕ) (l : List ℕ). setTo portSlots (failsIn (p .rates) (p .blockings) w l)) w d
+      ∙ ap₂ (λ (w : ℕ) (l : List ℕ). setTo portSlots (failsIn (p .rates) (p .blockings) (p .extras) w l)) w d
       ∙ set-same portSlots _ (fails p T)
       (λ q l.
-      ap (failsBy (rateOf p q) (blockingOf p q) (T - 2 * p .guard)) (tabulate-at portSlots (λ q. demand p q T) q l) ∙ sym (fails-by q))
+      ap (failsBy (rateOf p q) (blockingOf p q) (extraOf p q) (T - 2 * p .guard)) (tabulate-at portSlots (λ q. demand p q T) q l) ∙ sym (fails-by q))
 
 -- the lowest port of the set, and how many it has
 module _ (p : Plan) (T : ℕ) {s : ℕ} (is : s ≡ setTo portSlots (fails p T)) where

@@ -7,11 +7,11 @@ use native.Mathlib.Omega.{arith}
 use lib.ListN.{length, getD}
 use Rattle.cqf.specs.Bounded.{maxTo, tabulate}
 use Rattle.cqf.specs.Limits.{portSlots, maxTop}
-use Rattle.cqf.specs.Plan.{Plan, rateOf, blockingOf, validPlan}
+use Rattle.cqf.specs.Plan.{Plan, rateOf, blockingOf, extraOf, validPlan}
 use Rattle.cqf.specs.Condition.{needBy, demand, need, largestNeed, mostDemand}
 use Rattle.cqf.specs.laws.Bounds.{maxTo-same}
 use Rattle.cqf.specs.laws.Tabulate.{tabulate-length, tabulate-at}
-use Rattle.cqf.specs.laws.Ranges.{top-most}
+use Rattle.cqf.specs.laws.Ranges.{top-most, extra-most}
 use Rattle.cqf.specs.laws.Search.{busy-rate}
 use Rattle.tables.specs.Columns.{columns}
 use Rattle.planner.specs.laws.Sums.{slot-in-range, demand-most, demand-columns}
@@ -26,7 +26,7 @@ pub filled-by
     : (p : Plan) {out : List ℕ} {t : ℕ}
     → validPlan p ≡ true
     → t ≤ p .top
-    → out ≡ tabulate portSlots (λ q. demand (columns [] [] (p .periods) (p .counts) (p .lengths) (p .hops) (p .routes)) q t)
+    → out ≡ tabulate portSlots (λ q. demand (columns [] [] (p .extras) (p .periods) (p .counts) (p .lengths) (p .hops) (p .routes)) q t)
     → Filled p out t
 filled-by p {t = t} valid l e =
     record { valid = valid; within = l; demands = e ∙ ap (tabulate portSlots) (fun-ext (λ q. demand-columns p q t)) }
@@ -43,7 +43,7 @@ module _ {p : Plan} {out : List ℕ} {t : ℕ} (s : Filled p out t) where
     filled-bits = rw (s .demands) (tabulate-at portSlots (λ q. demand p q t) q slot)
 
     pub filled-most : getD out q 0 ≤ mostDemand
-    filled-most = rw filled-bits (demand-most p (slot-in-range p (s .valid)) t filled-short q)
+    filled-most = rw filled-bits (demand-most p (slot-in-range p (s .valid)) (extra-most p (s .valid)) t filled-short q slot)
 
     -- a port with a demand has a rate
     pub filled-served : 0 < getD out q 0 → 0 < rateOf p q
@@ -52,8 +52,8 @@ module _ {p : Plan} {out : List ℕ} {t : ℕ} (s : Filled p out t) where
   -- the most that a port needs by the columns
   pub filled-largest
       : {r : ℕ}
-      → r ≡ maxTo portSlots (λ q. needBy (p .guard) (rateOf p q) (blockingOf p q) (getD out q 0))
+      → r ≡ maxTo portSlots (λ q. needBy (p .guard) (rateOf p q) (blockingOf p q) (extraOf p q) (getD out q 0))
       → r ≡ largestNeed p t
   unfolding largestNeed need
   filled-largest e =
-      e ∙ maxTo-same portSlots _ _ (λ q l. ap (needBy (p .guard) (rateOf p q) (blockingOf p q)) (filled-bits q l))
+      e ∙ maxTo-same portSlots _ _ (λ q l. ap (needBy (p .guard) (rateOf p q) (blockingOf p q) (extraOf p q)) (filled-bits q l))

@@ -13,7 +13,7 @@ use lib.Seq.{ext-getD}
 use borrow.Author.Tests.{ne-eqb}
 use Rattle.cqf.specs.Bounded.{sumTo, elem, every, distinct, sublist, tabulate}
 use Rattle.cqf.specs.Limits.{portSlots, flowSlots, maxTop, minPeriod, portOk}
-use Rattle.cqf.specs.Plan.{Plan, periodOf, countOf, lengthOf, hopsOf, routeOf, crosses, portIn, validPlan}
+use Rattle.cqf.specs.Plan.{Plan, extraOf, periodOf, countOf, lengthOf, hopsOf, routeOf, crosses, portIn, validPlan}
 use Rattle.cqf.specs.Condition.{bitsOf, wireBits, ceilDiv, begun, stretch, frames, demand, mostBits, mostDemand}
 use Rattle.cqf.specs.laws.Bounds.{sumTo-most}
 use Rattle.cqf.specs.laws.Valid.{Empty, Held, slot-cases}
@@ -21,7 +21,7 @@ use Rattle.cqf.specs.laws.Lists.{elem-at, sublist-length, sublist-at}
 use Rattle.cqf.specs.laws.Route.{sublist-more, elem-more}
 use Rattle.cqf.specs.laws.Tabulate.{tabulate-length, tabulate-at}
 use Rattle.cqf.specs.laws.Demand.{share, demand-sum, flow-bits-most, share-none, sum-next}
-use Rattle.tables.specs.Columns.{columns, FlowInRange, Marked}
+use Rattle.tables.specs.Columns.{columns, FlowInRange, ExtrasInRange, Marked}
 
 -- a stronger test that each number of a list passes
 every-weaker : (a b : ℕ → Bool) → ((n : ℕ) → a n ≡ true → b n ≡ true) → (l : List ℕ) → every a l ≡ true → every b l ≡ true
@@ -64,9 +64,12 @@ slot-in-range p valid f l = go (slot-cases p valid f l)
           once = h .once;
         }
 
--- the wire bits of the frames of flow f
-abbrev pub bitsAt : Plan → ℕ → ℕ → ℕ
-bitsAt p T f = countOf p f * ceilDiv T (periodOf p f) * bitsOf (lengthOf p f)
+-- the frames of flow f, and their wire bits at the port in slot q
+abbrev pub framesAt : Plan → ℕ → ℕ → ℕ
+framesAt p T f = countOf p f * ceilDiv T (periodOf p f)
+
+abbrev pub bitsAt : Plan → ℕ → ℕ → ℕ → ℕ
+bitsAt p T f q = framesAt p T f * bitsOf (lengthOf p f) (extraOf p q)
 
 -- each port's demand by the flows before f
 abbrev pub Sums : Plan → ℕ → ℕ → List ℕ → Type 0
@@ -84,13 +87,13 @@ module _ (p : Plan) (T : ℕ) where
 
   -- a flow whose bits are added at each port of its route
   pub sums-add
-      : (f bits : ℕ) (l l′ : List ℕ)
-      → bits ≡ bitsAt p T f
-      → Marked l l′ (routeOf p f) bits
+      : (f many : ℕ) (l l′ : List ℕ)
+      → many ≡ framesAt p T f
+      → Marked l l′ (routeOf p f) (λ q. many * bitsOf (lengthOf p f) (extraOf p q))
       → Sums p T f l
       → Sums p T (f + 1) l′
   unfolding frames begun stretch wireBits
-  sums-add f bits l l′ e marked sums q h =
+  sums-add f many l l′ e marked sums q h =
       marked q h
       ∙ rw (e, sums q h) (sym (sum-next p q T f))
 
@@ -104,39 +107,39 @@ module _ (p : Plan) (T : ℕ) where
 
 -- one port's demand by the flows before f, with flow f, which crosses it or does not
 module _ (p : Plan) (q T f : ℕ) {sum : ℕ} (before : sum ≡ sumTo f (share p q T)) where
-  pub sum-crossing : {bits : ℕ} → crosses p f q ≡ true → bits ≡ bitsAt p T f → sum + bits ≡ sumTo (f + 1) (share p q T)
+  pub sum-crossing : {bits : ℕ} → crosses p f q ≡ true → bits ≡ bitsAt p T f q → sum + bits ≡ sumTo (f + 1) (share p q T)
   unfolding frames begun stretch wireBits
   sum-crossing e is = rw (before, is) (sym (sum-next p q T f ∙ rw e))
 
   pub sum-apart : crosses p f q ≡ false → sum ≡ sumTo (f + 1) (share p q T)
   sum-apart e = before ∙ sym (sum-next p q T f ∙ (rw e (add-zero _)))
 
-module _ (p : Plan) (in-range : AllInRange p) (T : ℕ) (fits : T ≤ maxTop) where
-  -- one flow brings at most its most bits
-  pub flow-most : (f : ℕ) → f < flowSlots → (periodOf p f ≡ 0 → ⊥) → bitsAt p T f ≤ mostBits
-  flow-most f l there =
+module _ (p : Plan) (in-range : AllInRange p) (small : ExtrasInRange (p .extras)) (T : ℕ) (fits : T ≤ maxTop) where
+  -- one flow brings at most its most bits to a port
+  pub flow-most : (f : ℕ) → f < flowSlots → (periodOf p f ≡ 0 → ⊥) → (q : ℕ) → q < portSlots → bitsAt p T f q ≤ mostBits
+  flow-most f l there q slot =
       let r = in-range f l in
-      flow-bits-most T fits (r .period-least there) (r .count-most) (r .bytes-most)
+      flow-bits-most T fits (r .period-least there) (r .count-most) (r .bytes-most) (small q slot)
 
-  share-most : (q f : ℕ) → f < flowSlots → share p q T f ≤ mostBits
+  share-most : (q f : ℕ) → q < portSlots → f < flowSlots → share p q T f ≤ mostBits
   unfolding frames begun stretch wireBits
-  share-most q f l = go (ℕ-discrete (periodOf p f) 0)
+  share-most q f slot l = go (ℕ-discrete (periodOf p f) 0)
     where
-      part : (x : Bool) → bitsAt p T f ≤ mostBits → cond x (bitsAt p T f) 0 ≤ mostBits
+      part : (x : Bool) → bitsAt p T f q ≤ mostBits → cond x (bitsAt p T f q) 0 ≤ mostBits
       part true h = h
       part false h = zero-le
 
       go : Dec (periodOf p f ≡ 0) → share p q T f ≤ mostBits
       go (yes e) = omega (arith, share-none p q T f (in-range f l .absent e))
-      go (no there) = part (crosses p f q) (flow-most f l there)
+      go (no there) = part (crosses p f q) (flow-most f l there q slot)
 
   -- the sums by the flows before f, and so each demand
-  pub sum-most : (q f : ℕ) → f ≤ flowSlots → sumTo f (share p q T) ≤ mostDemand
-  sum-most q f l =
-      le-trans (sumTo-most f (share p q T) mostBits (λ i h. share-most q i (omega arith))) (mul-le-mul-right mostBits l)
+  pub sum-most : (q f : ℕ) → q < portSlots → f ≤ flowSlots → sumTo f (share p q T) ≤ mostDemand
+  sum-most q f slot l =
+      le-trans (sumTo-most f (share p q T) mostBits (λ i h. share-most q i slot (omega arith))) (mul-le-mul-right mostBits l)
 
-  pub demand-most : (q : ℕ) → demand p q T ≤ mostDemand
-  demand-most q = omega (arith, demand-sum p q T, sum-most q flowSlots (omega arith))
+  pub demand-most : (q : ℕ) → q < portSlots → demand p q T ≤ mostDemand
+  demand-most q slot = omega (arith, demand-sum p q T, sum-most q flowSlots slot (omega arith))
 
 -- a flow that crosses a port has a period
 pub crossing-period : (p : Plan) → AllInRange p → (q f : ℕ) → f < flowSlots → crosses p f q ≡ true → minPeriod ≤ periodOf p f
@@ -158,10 +161,10 @@ elem-here l at h i n less e =
     ap (λ (m : ℕ). elem m (sublist l at h)) (sym (sublist-at l at h i less ∙ e))
     ∙ elem-at (sublist l at h) i (rw sublist-length less)
 
--- the demand depends on the flows' columns alone
+-- the demand depends on the extra bytes and the flows' columns alone
 pub demand-columns
     : (p : Plan) (q T : ℕ)
-    → demand (columns [] [] (p .periods) (p .counts) (p .lengths) (p .hops) (p .routes)) q T ≡ demand p q T
+    → demand (columns [] [] (p .extras) (p .periods) (p .counts) (p .lengths) (p .hops) (p .routes)) q T ≡ demand p q T
 unfolding frames begun stretch wireBits
 demand-columns p q T =
-    demand-sum (columns [] [] (p .periods) (p .counts) (p .lengths) (p .hops) (p .routes)) q T ∙ sym (demand-sum p q T)
+    demand-sum (columns [] [] (p .extras) (p .periods) (p .counts) (p .lengths) (p .hops) (p .routes)) q T ∙ sym (demand-sum p q T)

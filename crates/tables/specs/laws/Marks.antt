@@ -17,22 +17,22 @@ use Rattle.cqf.specs.laws.Route.{sublist-more, elem-more}
 use Rattle.tables.specs.Columns.{Marked}
 
 -- nothing is marked for a route of no port
-pub mark-none : (l : List ℕ) (v : ℕ) → Marked l l [] v
+pub mark-none : (l : List ℕ) (v : ℕ → ℕ) → Marked l l [] v
 unfolding elem
 mark-none l v q h = sym (add-zero (getD l q 0))
 
 -- one more port is marked by setting its number
 mark
-    : (l₀ l r : List ℕ) (n v w : ℕ)
+    : (l₀ l r : List ℕ) (n : ℕ) (v : ℕ → ℕ) (w : ℕ)
     → Marked l₀ l r v
     → 0 < n
     → n ≤ length l
     → elem n r ≡ false
-    → w ≡ getD l₀ (n - 1) 0 + v
+    → w ≡ getD l₀ (n - 1) 0 + v (n - 1)
     → Marked l₀ (set l (n - 1) w) (r ++ (n ∷ [])) v
 mark l₀ l r n v w before some fits new is q h = rw (elem-more (suc q) r n) (go (ℕ-discrete q (n - 1)))
   where
-    go : Dec (q ≡ n - 1) → getD (set l (n - 1) w) q 0 ≡ getD l₀ q 0 + cond (elem (suc q) r || eqb (suc q) n) v 0
+    go : Dec (q ≡ n - 1) → getD (set l (n - 1) w) q 0 ≡ getD l₀ q 0 + cond (elem (suc q) r || eqb (suc q) n) (v q) 0
     go (yes e) =
         let s : suc q ≡ n = omega arith in
         rw (s, new, eq-eqb n n refl, e) (getD-set-same l (n - 1) w 0 (omega arith) ∙ is)
@@ -42,12 +42,12 @@ mark l₀ l r n v w before some fits new is q h = rw (elem-more (suc q) r n) (go
 
 -- the same of the port at i of a sublist
 pub mark-next
-    : (l₀ l routes : List ℕ) (base i v w : ℕ)
+    : (l₀ l routes : List ℕ) (base i : ℕ) (v : ℕ → ℕ) (w : ℕ)
     → Marked l₀ l (sublist routes base i) v
     → 0 < getD routes (base + i) 0
     → getD routes (base + i) 0 ≤ length l
     → elem (getD routes (base + i) 0) (sublist routes base i) ≡ false
-    → w ≡ getD l₀ (getD routes (base + i) 0 - 1) 0 + v
+    → w ≡ getD l₀ (getD routes (base + i) 0 - 1) 0 + v (getD routes (base + i) 0 - 1)
     → Marked l₀ (set l (getD routes (base + i) 0 - 1) w) (sublist routes base (i + 1)) v
 mark-next l₀ l routes base i v w before some fits new is =
     rw (add-one i, sublist-more routes base i)
@@ -55,7 +55,7 @@ mark-next l₀ l routes base i v w before some fits new is =
 
 -- a port that is not on the route has what it had
 pub unmarked
-    : (l₀ l r : List ℕ) (n v : ℕ)
+    : (l₀ l r : List ℕ) (n : ℕ) (v : ℕ → ℕ)
     → Marked l₀ l r v
     → 0 < n
     → n ≤ portSlots
@@ -66,7 +66,7 @@ unmarked l₀ l r n v marked some fits new =
     marked (n - 1) (omega arith) ∙ (rw (s, new) (add-zero (getD l₀ (n - 1) 0)))
 
 -- whether a port of number n is marked, where each port of r has 1 and every other 0
-module _ (l r : List ℕ) (n : ℕ) (marked : Marked [] l r 1) (some : 0 < n) (fits : n ≤ portSlots) where
+module _ (l r : List ℕ) (n : ℕ) (marked : Marked [] l r (λ _. 1)) (some : 0 < n) (fits : n ≤ portSlots) where
   marked-at : getD l (n - 1) 0 ≡ cond (elem n r) 1 0
   marked-at =
       let s : suc (n - 1) ≡ n = omega arith in

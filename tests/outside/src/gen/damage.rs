@@ -23,6 +23,10 @@ fn is_port(piece: &Piece) -> bool {
     matches!(piece, Piece::Port { .. })
 }
 
+fn is_extra(piece: &Piece) -> bool {
+    matches!(piece, Piece::Extra { .. })
+}
+
 fn is_header(piece: &Piece) -> bool {
     matches!(piece, Piece::Header { .. })
 }
@@ -50,16 +54,22 @@ fn past_an_end(rng: &mut Rng, pieces: &mut [Piece]) {
                 route[hop] = rng.pick(&[0, 65, 256, 257, 320, u16::MAX]);
             }
         },
+        Piece::Extra { number, extra } => match rng.below(2) {
+            0 => *number = rng.pick(&[0, 65, 256, 257, u16::MAX]),
+            _ => *extra = rng.pick(&[65, 66, 128, 256, 257, 1 << 15, u16::MAX]),
+        },
         Piece::Raw(_) => {}
     }
 }
 
 fn again(rng: &mut Rng, pieces: &mut Vec<Piece>) {
-    let mut copy = pieces[rng.index(pieces.len())].clone();
+    let extra = any_of(rng, pieces, is_extra).filter(|_| rng.chance(1, 2));
+    let mut copy = pieces[extra.unwrap_or_else(|| rng.index(pieces.len()))].clone();
     match &mut copy {
         Piece::Header { top, .. } if rng.chance(1, 2) => *top = rng.range(1, 100_000_000) as u32,
         Piece::Port { rate, .. } if rng.chance(1, 2) => *rate = rng.range(1, 100_000) as u32,
         Piece::Flow { period, .. } if rng.chance(1, 2) => *period = rng.range(1_000, 100_000_000) as u32,
+        Piece::Extra { extra, .. } if rng.chance(1, 2) => *extra = rng.pick(&[0, 0, 1, 64]),
         _ => {}
     }
     let place = rng.index(pieces.len() + 1);
@@ -106,11 +116,20 @@ fn astray(rng: &mut Rng, pieces: &mut [Piece]) {
     }
 }
 
+/// Extra bytes of a port that the plan may lack, or a second time of one that has some.
+fn lost(rng: &mut Rng, pieces: &mut Vec<Piece>) {
+    for _ in 0..rng.range(1, 3) {
+        let extra = Piece::Extra { number: rng.range(1, 64) as u16, extra: rng.pick(&[0, 0, 1, 32, 64]) };
+        let place = rng.index(pieces.len() + 1);
+        pieces.insert(place, extra);
+    }
+}
+
 /// A field of unknown tag, or of a length that its tag does not allow.
 fn odd_field(rng: &mut Rng, pieces: &mut Vec<Piece>) {
     let known = rng.chance(1, 2);
-    let tag = if known { rng.range(1, 3) as u8 } else { rng.pick(&[0, 4, 5, 16, 0x81, 255]) };
-    let length = rng.pick(&[0, 1, 7, 8, 9, 10, 11, 12, 13, 41, 42, 43, 44, 64, 256, 264, 300]);
+    let tag = if known { rng.range(1, 4) as u8 } else { rng.pick(&[0, 7, 8, 16, 0x81, 255]) };
+    let length = rng.pick(&[0, 1, 3, 4, 5, 6, 7, 8, 9, 10, 11, 12, 13, 41, 42, 43, 44, 64, 256, 264, 300]);
     let mut raw = vec![tag, (length / 256) as u8, (length % 256) as u8];
     raw.extend((0..length).map(|_| rng.pick(&[0, 0, 1, 4, 200])));
     let place = rng.index(pieces.len() + 1);
@@ -137,7 +156,7 @@ fn flip(rng: &mut Rng, bytes: &mut [u8]) {
     bytes[place] = match rng.below(3) {
         0 => bytes[place] ^ (1 << rng.below(8)),
         1 => rng.next() as u8,
-        _ => rng.pick(&[0, 1, 2, 3, 4, 255]),
+        _ => rng.pick(&[0, 1, 2, 3, 4, 7, 255]),
     };
 }
 
@@ -145,7 +164,7 @@ fn flip(rng: &mut Rng, bytes: &mut [u8]) {
 pub fn damaged(rng: &mut Rng, good: &[Piece]) -> Vec<u8> {
     let mut pieces = good.to_vec();
     for _ in 0..rng.pick(&[1, 1, 1, 2, 2, 3]) {
-        match rng.below(10) {
+        match rng.below(11) {
             0..=2 => past_an_end(rng, &mut pieces),
             3 => again(rng, &mut pieces),
             4 => twice(rng, &mut pieces),
@@ -153,6 +172,7 @@ pub fn damaged(rng: &mut Rng, good: &[Piece]) -> Vec<u8> {
             6 => astray(rng, &mut pieces),
             7 => odd_field(rng, &mut pieces),
             8 => odd_length(rng, &mut pieces),
+            9 => lost(rng, &mut pieces),
             _ => rng.shuffle(&mut pieces),
         }
     }

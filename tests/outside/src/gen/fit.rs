@@ -1,6 +1,6 @@
 //! Rates made to fit, so that a plan has admissible durations, often by a hair.
 
-use super::Piece;
+use super::{wire_bits, Piece};
 use crate::rng::Rng;
 
 /// Bits that the flows of a port bring at a duration.
@@ -8,7 +8,7 @@ fn bits_at(pieces: &[Piece], port: u16, duration: u64) -> u64 {
     let of_flow = |piece: &Piece| match piece {
         Piece::Flow { period, count, length, route, .. } if route.contains(&port) => {
             let rounds = (duration + u64::from(*period) - 1) / u64::from(*period);
-            rounds * u64::from(*count) * 8 * (u64::from(*length) + 20)
+            rounds * u64::from(*count) * wire_bits(pieces, port, *length)
         }
         _ => 0,
     };
@@ -33,13 +33,13 @@ pub fn fit(rng: &mut Rng, pieces: &mut [Piece]) {
         *guard = (aim / 8) as u32;
     }
     let window = aim - 2 * u64::from(*guard);
-    let wholes: Vec<u64> = (0..=64).map(|port| bits_at(pieces, port, aim)).collect();
+    let given = pieces.to_vec();
     let spare = rng.pick(&[0, 0, 1, 2, 10, 200]);
     let short = rng.chance(1, 8);
     for piece in pieces {
         if let Piece::Port { number, rate, blocker } = piece {
-            let blocking = if *blocker == 0 { 0 } else { 8 * (u64::from(*blocker) + 20) };
-            let taken = 1000 * (wholes[usize::from(*number)] + blocking);
+            let blocking = if *blocker == 0 { 0 } else { wire_bits(&given, *number, *blocker) };
+            let taken = 1000 * (bits_at(&given, *number, aim) + blocking);
             let exact = (taken + window - 1) / window;
             let more = exact * rng.range(0, spare) / 1000;
             let less = u64::from(short && rng.chance(1, 4));

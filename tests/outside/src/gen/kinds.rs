@@ -1,6 +1,6 @@
 //! The kinds of good plans.
 
-use super::Piece;
+use super::{wire_bits, Piece};
 use crate::rng::Rng;
 
 struct Size {
@@ -24,13 +24,26 @@ fn blocker(rng: &mut Rng) -> u16 {
     }
 }
 
-/// Mbit/s that the flows bring to a port in the long run, times 1,000.
-pub fn load_of(flows: &[Piece], port: u16) -> u64 {
+/// Extra bytes for some of the ports, for none or for all, some of them 0.
+fn extras(rng: &mut Rng, ports: &[u16]) -> Vec<Piece> {
+    let share = rng.pick(&[0, 0, 1, 2, 4]);
+    let mut pieces = Vec::new();
+    for number in ports {
+        if rng.chance(share, 4) {
+            let extra = if rng.chance(1, 2) { rng.pick(&[0, 1, 32, 63, 64]) } else { rng.range(0, 64) as u16 };
+            pieces.push(Piece::Extra { number: *number, extra });
+        }
+    }
+    pieces
+}
+
+/// Mbit/s that the flows among the pieces bring to a port in the long run, times 1,000.
+pub fn load_of(pieces: &[Piece], port: u16) -> u64 {
     let mut sum = 0;
-    for piece in flows {
+    for piece in pieces {
         if let Piece::Flow { period, count, length, route, .. } = piece {
             if route.contains(&port) {
-                sum += u64::from(*count) * 8 * (u64::from(*length) + 20) * 1_000_000 / u64::from(*period);
+                sum += u64::from(*count) * wire_bits(pieces, port, *length) * 1_000_000 / u64::from(*period);
             }
         }
     }
@@ -52,6 +65,7 @@ fn ports_at(rng: &mut Rng, numbers: &[u16], flows: &[Piece], thousandths: u64) -
     pieces
 }
 
+/// Flows over some ports, and extra bytes of these.
 fn flows(rng: &mut Rng, size: &Size, ports: &[u16], periods: (u64, u64), lengths: (u64, u64), counts: u64) -> Vec<Piece> {
     let numbers = rng.numbers(size.flows, 256);
     let mut pieces = Vec::new();
@@ -64,6 +78,7 @@ fn flows(rng: &mut Rng, size: &Size, ports: &[u16], periods: (u64, u64), lengths
             route: route(rng, ports, size.hops),
         });
     }
+    pieces.extend(extras(rng, ports));
     pieces
 }
 
@@ -160,6 +175,7 @@ pub fn edges(rng: &mut Rng) -> Vec<Piece> {
             route: ports[..hops].to_vec(),
         });
     }
+    pieces.extend(extras(rng, &ports));
     pieces
 }
 

@@ -21,6 +21,19 @@ fn any_period(rng: &mut Rng, unit: u64, number: u16) -> Piece {
     Piece::Flow { number, period: period as u32, count: 1, length: length as u16, route: rng.numbers(16, 64) }
 }
 
+/// Extra bytes in whole units, so that loads stay whole; few enough for the highest rate.
+fn extras(rng: &mut Rng, unit: u64) -> Vec<Piece> {
+    let share = rng.pick(&[0, 1, 4]);
+    let mut pieces = Vec::new();
+    for number in 1..=64 {
+        if rng.chance(share, 4) {
+            let extra = unit * rng.range(0, (64 / unit).min(24));
+            pieces.push(Piece::Extra { number, extra: extra as u16 });
+        }
+    }
+    pieces
+}
+
 fn ports(rng: &mut Rng, flows: &[Piece], thousandths: u64) -> Vec<Piece> {
     let mut pieces = Vec::new();
     for number in rng.numbers(64, 64) {
@@ -43,7 +56,8 @@ pub fn plan(rng: &mut Rng) -> Vec<Piece> {
     };
     let numbers = rng.numbers(256, 256);
     let flow = if kind == 2 { any_period } else { dividing };
-    let flows: Vec<Piece> = numbers.into_iter().map(|number| flow(rng, unit, number)).collect();
+    let mut flows: Vec<Piece> = numbers.into_iter().map(|number| flow(rng, unit, number)).collect();
+    flows.extend(extras(rng, unit));
     let guard = if kind == 0 { 0 } else { rng.range(0, 20 * unit) as u32 };
     let top = unit * LONGEST * longest + rng.pick(&[0, 0, 1, unit * 700]);
     let mut pieces = vec![Piece::Header { guard, top: top as u32 }];

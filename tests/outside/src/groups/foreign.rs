@@ -1,6 +1,6 @@
 //! Planners that no call made: 20 to every question, unless the rules accept the plan in their tables.
 
-use super::{ask_all, loads::one_load};
+use super::{ask_all, known::K, loads::one_load};
 use crate::answers::{Planner, PLANNER_BYTES};
 use crate::ffi;
 use crate::gen::{self, damage, encode};
@@ -29,9 +29,10 @@ fn slot(rng: &mut Rng, used: &[usize], all: usize) -> usize {
 fn damage_port(rng: &mut Rng, tables: &mut Planner) {
     let used: Vec<usize> = (0..64).filter(|slot| tables.rates[*slot] != 0).collect();
     let slot = slot(rng, &used, 64);
-    match rng.below(2) {
+    match rng.below(3) {
         0 => tables.rates[slot] = rng.pick(&[0, 1, 2, 99_999, 100_000, 100_001, 1 << 31, u32::MAX]),
-        _ => tables.blockings[slot] = rng.pick(&[0, 1, 63, 64, 65, 1999, 2000, 2001, u16::MAX]),
+        1 => tables.blockings[slot] = rng.pick(&[0, 1, 63, 64, 65, 1999, 2000, 2001, u16::MAX]),
+        _ => tables.extras[slot] = rng.pick(&[0, 1, 32, 63, 64, 65, 128, 255]),
     }
 }
 
@@ -88,6 +89,22 @@ fn damage_one(rng: &mut Rng, tables: &mut Planner) {
     }
 }
 
+/// K's tables with each number of extra bytes at its port, and with some at each port that it lacks.
+fn extras_of_k(tally: &mut Tally, rng: &mut Rng) {
+    let k = ffi::load(&ffi::empty(), &K).0;
+    for slot in 0..64 {
+        for extra in if slot == 0 { 0..=255 } else { 1..=1 } {
+            let mut tables = k.clone();
+            tables.extras[slot] = extra;
+            tally.case(slot as u64, &tables.to_bytes());
+            let refusal = if slot == 0 && extra <= 64 { 0 } else { 20 };
+            let got = ffi::check(&tables, 1_000_000);
+            tally.same(format_args!("extra {extra} in slot {slot}: cp_check(top)"), got.refusal, refusal);
+            ask_all(tally, &tables, plan_of(&tables).as_ref(), rng);
+        }
+    }
+}
+
 /// Every question, and loads on top of such a planner.
 fn ask(tally: &mut Tally, case: u64, tables: &Planner, rng: &mut Rng) {
     tally.case(case, &tables.to_bytes());
@@ -113,6 +130,7 @@ pub fn run(tally: &mut Tally) {
     tally.same(format_args!("the empty planner tells no plan"), plan_of(&ffi::empty()).is_none(), true);
     ask(tally, 0, &Planner::zero(), &mut rng);
     ask(tally, 0, &Planner::from_bytes([255; PLANNER_BYTES]), &mut rng);
+    extras_of_k(tally, &mut rng);
     for case in 0..tally.cases {
         let mut rng = tally.rng(case);
         if rng.chance(1, 10) {

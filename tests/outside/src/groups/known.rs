@@ -1,5 +1,6 @@
-//! Plan K and its neighbours, with the numbers that document 01 gives.
+//! Plan K and its neighbours, with the numbers that the papers give.
 
+use super::extra;
 use crate::answers::{Answer, Planner, SlackAnswer};
 use crate::ffi;
 use crate::report::Tally;
@@ -12,8 +13,11 @@ pub const K: [u8; 52] = [
     0x03, 0x00, 0x0C, 0x00, 0x02, 0x00, 0x01, 0xAD, 0xB0, 0x00, 0x01, 0x02, 0x5D, 0x00, 0x01,
 ];
 
-/// Duration, refusal of the plain question, spare of port 1 where the paper names it.
-const ROWS: [(u64, u32, Option<i64>); 11] = [
+/// Duration, refusal of the plain question, spare of port 1 where it is named.
+pub type Row = (u64, u32, Option<i64>);
+
+/// The rows of document 01.
+pub const ROWS: [Row; 11] = [
     (71_999, 21, None),
     (72_000, 0, Some(0)),
     (100_000, 0, Some(2_800_000)),
@@ -39,9 +43,9 @@ pub fn with_port_2() -> Vec<u8> {
     bytes
 }
 
-/// The rows of K, whoever answers them.
-pub fn rows(tally: &mut Tally, check: impl Fn(u64) -> Answer, slack: impl Fn(u64) -> SlackAnswer) {
-    for (duration, refusal, spare) in ROWS {
+/// Rows, whoever answers them.
+pub fn rows(tally: &mut Tally, rows: [Row; 11], check: impl Fn(u64) -> Answer, slack: impl Fn(u64) -> SlackAnswer) {
+    for (duration, refusal, spare) in rows {
         let want = match refusal {
             21 => Answer::new(21, 1, 1),
             other => Answer::refused(other),
@@ -57,7 +61,7 @@ pub fn rows(tally: &mut Tally, check: impl Fn(u64) -> Answer, slack: impl Fn(u64
     }
 }
 
-fn found(tally: &mut Tally, planner: &Planner, least: u64, safe: u64, demands: [u64; 2]) {
+pub fn found(tally: &mut Tally, planner: &Planner, least: u64, safe: u64, demands: [u64; 2]) {
     let mut scratch = [7; 66];
     let answer = ffi::least(planner, &mut scratch);
     tally.same(format_args!("cp_least"), answer, Answer::new(0, least, 0));
@@ -76,7 +80,9 @@ fn refusals(tally: &mut Tally) {
     let empty = ffi::empty();
     for (bytes, refusal, place) in [
         (&[0x04, 0x00, 0x01][..], 2, 0),
-        (&[0x04, 0x00, 0x00][..], 3, 0),
+        (&[0x04, 0x00, 0x00][..], 4, 0),
+        (&[0x07, 0x00, 0x01][..], 2, 0),
+        (&[0x07, 0x00, 0x00][..], 3, 0),
         (&[][..], 1, 0),
         (&K[..51], 2, 37),
         (&K[..37], 0, 1),
@@ -98,7 +104,7 @@ pub fn run(tally: &mut Tally) {
     tally.case(0, &K);
     let (planner, answer) = ffi::load(&empty, &K);
     tally.same(format_args!("cp_load(K)"), answer, Answer::new(0, 1, 2));
-    rows(tally, |duration| ffi::check(&planner, duration), |duration| ffi::slack(&planner, 1, duration));
+    rows(tally, ROWS, |duration| ffi::check(&planner, duration), |duration| ffi::slack(&planner, 1, duration));
     found(tally, &planner, 72_000, 142_000, [7_000, 14_000]);
     for port in [0, 2, 64, 65, u64::MAX] {
         tally.same(format_args!("slack({port}, 72000)"), ffi::slack(&planner, port, 72_000), SlackAnswer::refused(24));
@@ -115,4 +121,5 @@ pub fn run(tally: &mut Tally) {
     found(tally, &wider, 72_000, 142_000, [7_000, 14_000]);
     tally.same(format_args!("slack(2, 72000)"), ffi::slack(&wider, 2, 72_000), SlackAnswer::refused(24));
     refusals(tally);
+    extra::run(tally, &planner);
 }

@@ -1,5 +1,6 @@
 //! Loads of good and damaged plans: answer, place, and the planner given back.
 
+use super::extra::with_extra;
 use super::known::K;
 use crate::answers::Planner;
 use crate::ffi;
@@ -54,7 +55,7 @@ fn sizes(tally: &mut Tally, planner: &Planner) {
             one_load(tally, planner, &plan);
         }
         for size in [16_383, 16_384, 16_385, 16_386] {
-            for tag in 1..=4 {
+            for tag in [1, 2, 3, 4, 7] {
                 let plan = damage::topped_up(&good, tag, size);
                 tally.case(case, &plan);
                 one_load(tally, planner, &plan);
@@ -79,13 +80,59 @@ fn pairs(tally: &mut Tally, planner: &Planner) {
     }
 }
 
+/// Every order of a few fields: extra bytes before and after their port, of absent ports, twice, and a route astray.
+fn orders(tally: &mut Tally, planner: &Planner) {
+    let flow = |number, port| Piece::Flow { number, period: 1_000, count: 1, length: 64, route: vec![port] };
+    let extra = |number, extra| Piece::Extra { number, extra };
+    let port = Piece::Port { number: 1, rate: 1, blocker: 0 };
+    for more in [
+        vec![extra(1, 32)],
+        vec![extra(1, 0), extra(1, 32)],
+        vec![extra(1, 64), extra(9, 0)],
+        vec![extra(9, 1), extra(64, 0)],
+        vec![flow(2, 9), extra(9, 1)],
+        vec![flow(2, 9), flow(3, 8), extra(9, 1)],
+        vec![flow(2, 9), extra(9, 1), extra(9, 0)],
+        vec![extra(65, 1), extra(9, 0)],
+    ] {
+        let mut rest = vec![Piece::Header { guard: 0, top: 1 }, port.clone(), flow(1, 1)];
+        rest.extend(more);
+        every_order(tally, planner, &mut Vec::new(), &rest);
+    }
+}
+
+fn every_order(tally: &mut Tally, planner: &Planner, taken: &mut Vec<Piece>, rest: &[Piece]) {
+    if rest.is_empty() {
+        let plan = encode(taken);
+        tally.case(0, &plan);
+        one_load(tally, planner, &plan);
+    }
+    for place in 0..rest.len() {
+        let mut others = rest.to_vec();
+        taken.push(others.remove(place));
+        every_order(tally, planner, taken, &others);
+        taken.pop();
+    }
+}
+
+/// Fields that say 0 extra bytes leave the planner as it is without them.
+fn without_zeros(tally: &mut Tally, planner: &Planner, good: &[Piece]) {
+    let says_zero = |piece: &Piece| matches!(piece, Piece::Extra { extra: 0, .. });
+    let fewer: Vec<Piece> = good.iter().filter(|piece| !says_zero(piece)).cloned().collect();
+    tally.saw("extra fields of 0, 1 for some", u32::from(fewer.len() < good.len()));
+    let (one, other) = (ffi::load(planner, &encode(good)).0, ffi::load(planner, &encode(&fewer)).0);
+    tally.same(format_args!("fields of 0 left out: first table and slot that differ"), one.differs(&other), None);
+}
+
 pub fn run(tally: &mut Tally) {
     let empty = ffi::empty();
     tally.same(format_args!("cp_empty: first table and slot that differ"), empty.differs(&Planner::zero()), None);
     let held = ffi::load(&empty, &K).0;
     sizes(tally, &held);
     pairs(tally, &held);
+    orders(tally, &held);
     every_byte(tally, 0, &K, &held);
+    every_byte(tally, 0, &with_extra(32, true), &held);
     for case in 0..tally.cases {
         let mut rng = tally.rng(case);
         let good = gen::plan(&mut rng);
@@ -93,6 +140,7 @@ pub fn run(tally: &mut Tally) {
         let plan = encode(&good);
         tally.case(case, &plan);
         one_load(tally, before, &plan);
+        without_zeros(tally, before, &good);
         if case % 50 == 0 && plan.len() < 300 {
             every_byte(tally, case, &plan, before);
         }
@@ -103,4 +151,5 @@ pub fn run(tally: &mut Tally) {
         }
     }
     tally.must_have_seen("load", &[0, 1, 2, 3, 4, 5, 6, 7, 8, 9]);
+    tally.must_have_seen("extra fields of 0, 1 for some", &[0, 1]);
 }

@@ -1,5 +1,6 @@
 //! The model against itself: K's rows, spans against a scan, tables against bytes.
 
+use super::extra::{with_extra, ROWS_WITH_EXTRA};
 use super::known;
 use crate::answers::Answer;
 use crate::gen::{self, encode};
@@ -20,12 +21,20 @@ fn finds(tally: &mut Tally, plan: &Plan, least: u64, safe: u64) {
 fn known_plans(tally: &mut Tally) {
     tally.case(0, &known::K);
     let plan = read(&known::K).expect("K is a plan");
-    known::rows(tally, |duration| check(Some(&plan), duration), |duration| slack(Some(&plan), 1, duration));
+    known::rows(tally, known::ROWS, |duration| check(Some(&plan), duration), |duration| slack(Some(&plan), 1, duration));
     finds(tally, &plan, 72_000, 142_000);
     finds(tally, &read(&known::with_blocker()).expect("a plan"), 422_000, 472_000);
     finds(tally, &read(&known::with_port_2()).expect("a plan"), 72_000, 142_000);
     tally.same(format_args!("model: K by a scan"), scanned(&plan), spans(&plan));
     tally.same(format_args!("model: 04 0001"), read(&[4, 0, 1]).err(), Some((2, 0)));
+    tally.same(format_args!("model: 07 0001"), read(&[7, 0, 1]).err(), Some((2, 0)));
+    for first in [false, true] {
+        let longer = read(&with_extra(32, first)).expect("a plan");
+        let (check, slack) = (|duration| check(Some(&longer), duration), |duration| slack(Some(&longer), 1, duration));
+        known::rows(tally, ROWS_WITH_EXTRA, check, slack);
+        finds(tally, &longer, 77_120, 227_360);
+        tally.same(format_args!("model: K with extra 0"), read(&with_extra(0, first)).as_ref(), Ok(&plan));
+    }
 }
 
 pub fn run(tally: &mut Tally) {

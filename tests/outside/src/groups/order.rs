@@ -12,6 +12,7 @@ pub fn run(tally: &mut Tally) {
         let mut pieces = gen::plan(&mut rng);
         let first = encode(&pieces);
         let plan = read(&first).expect("a good plan");
+        tally.saw("extra bytes, 1 for some", u32::from(gen::has_extra(&pieces)));
         let (one, counted) = ffi::load(&ffi::empty(), &first);
         let asked = durations(&plan, &mut rng);
         let ports = some_ports(&plan, &mut rng);
@@ -24,6 +25,7 @@ pub fn run(tally: &mut Tally) {
             tally.case(case, &bytes);
             let (other, answer) = ffi::load(&one, &bytes);
             tally.same(format_args!("cp_load in another order"), answer, counted);
+            tally.same(format_args!("planner in another order: first table that differs"), other.differs(&one), None);
             for duration in &asked {
                 let (got, want) = (ffi::check(&other, *duration), ffi::check(&one, *duration));
                 tally.same(format_args!("cp_check({duration}) in another order"), got, want);
@@ -40,4 +42,5 @@ pub fn run(tally: &mut Tally) {
             tally.same(format_args!("scratch after cp_margin_safe in another order"), scratches[0], scratches[1]);
         }
     }
+    tally.must_have_seen("extra bytes, 1 for some", &[0, 1]);
 }

@@ -1,6 +1,6 @@
 //! The plain question and the spare at boundary durations and at every port.
 
-use super::{ask_check, ask_slack, durations, known::K, some_ports, span_ends};
+use super::{ask_check, ask_slack, durations, extra::with_extra, known::K, some_ports, span_ends};
 use crate::answers::Planner;
 use crate::ffi;
 use crate::gen::{self, encode};
@@ -8,13 +8,13 @@ use crate::model::read::read;
 use crate::model::spans::spans;
 use crate::model::Plan;
 use crate::report::Tally;
+use std::ops::Range;
 
-/// K at every duration around its gaps, and at many others.
-fn all_of_k(tally: &mut Tally) {
-    tally.case(0, &K);
-    let plan = read(&K).expect("K is a plan");
-    let planner = ffi::load(&ffi::empty(), &K).0;
-    let near = 71_900..143_000;
+/// K, or K with extra bytes, at every duration around its gaps, and at many others.
+fn all_of(tally: &mut Tally, bytes: &[u8], near: Range<u64>) {
+    tally.case(0, bytes);
+    let plan = read(bytes).expect("a plan");
+    let planner = ffi::load(&ffi::empty(), bytes).0;
     for duration in near.clone().chain((0..1_000_100).step_by(97).filter(|duration| !near.contains(duration))) {
         ask_check(tally, &planner, Some(&plan), duration);
         ask_slack(tally, &planner, Some(&plan), 1, duration);
@@ -30,7 +30,8 @@ fn every_duration(tally: &mut Tally, planner: &Planner, plan: &Plan) {
 
 pub fn run(tally: &mut Tally) {
     let empty = ffi::empty();
-    all_of_k(tally);
+    all_of(tally, &K, 71_900..143_000);
+    all_of(tally, &with_extra(32, false), 77_000..228_000);
     for duration in [0, 1, 1_000, 100_000_000, 100_000_001, u64::MAX] {
         ask_check(tally, &empty, None, duration);
         for port in (0..=65).chain([u64::MAX]) {

@@ -89,6 +89,9 @@ pub fn run(tally: &mut Tally) {
         for duration in asked.into_iter().take(12) {
             let answer = ffi::check(&planner, duration);
             tally.saw("check", answer.refusal);
+            if gen::has_extra(&pieces) {
+                tally.saw("check with extra bytes", answer.refusal);
+            }
             match answer.refusal {
                 0 => accepted(tally, &plan, duration, &mut rng),
                 21 => refused(tally, &plan, &planner, duration, answer.first, answer.second),
@@ -97,4 +100,5 @@ pub fn run(tally: &mut Tally) {
         }
     }
     tally.must_have_seen("check", &[0, 21]);
+    tally.must_have_seen("check with extra bytes", &[0, 21]);
 }

@@ -79,6 +79,7 @@ pub fn run(tally: &mut Tally) {
         let mut pieces = gen::plan(&mut rng);
         let found = ask_lengths(tally, case, &pieces, &mut rng);
         tally.saw("spans, 2 for more", found.len().min(2) as u32);
+        tally.saw("extra bytes, 1 for some", u32::from(gen::has_extra(&pieces)));
         for duration in found.first().into_iter().chain(found.last()).map(|span| span.0) {
             if let Some(more) = with_side_port(&pieces, duration, &mut rng) {
                 ask_lengths(tally, case, &more, &mut rng);
@@ -91,6 +92,7 @@ pub fn run(tally: &mut Tally) {
     }
     at_full_load(tally);
     tally.must_have_seen("spans, 2 for more", &[0, 1, 2]);
+    tally.must_have_seen("extra bytes, 1 for some", &[0, 1]);
     tally.must_have_seen("least", &[0, 11, 20, 22]);
     tally.must_have_seen("margin_safe", &[0, 11, 20, 23]);
 }

@@ -7,8 +7,10 @@ use std::collections::{BTreeMap, BTreeSet};
 #[derive(Clone, Debug)]
 pub enum Field {
     Header { guard: u64, top: u64 },
-    Port { number: u64, port: Port },
+    Port { number: u64, rate: u64, blocker: u64 },
     Flow { number: u64, flow: Flow },
+    /// Bytes more per frame at the port of this number.
+    Extra { number: u64, bytes: u64 },
 }
 
 fn number(bytes: &[u8]) -> u64 {
@@ -18,6 +20,7 @@ fn number(bytes: &[u8]) -> u64 {
 fn length_allowed(tag: u8, length: usize) -> bool {
     match tag {
         1 | 2 => length == 8,
+        4 => length == 4,
         _ => (1..=16).any(|hops| length == 10 + 2 * hops),
     }
 }
@@ -36,7 +39,11 @@ fn numbers_of(tag: u8, value: &[u8]) -> Option<Field> {
         2 => {
             let (own, rate, blocker) = (number(&value[..2]), number(&value[2..6]), number(&value[6..]));
             let fits = (1..=64).contains(&own) && (1..=100_000).contains(&rate) && blocker_allowed(blocker);
-            (Field::Port { number: own, port: Port { rate, blocker } }, fits)
+            (Field::Port { number: own, rate, blocker }, fits)
+        }
+        4 => {
+            let (port, bytes) = (number(&value[..2]), number(&value[2..]));
+            (Field::Extra { number: port, bytes }, (1..=64).contains(&port) && bytes <= 64)
         }
         _ => {
             let own = number(&value[..2]);
@@ -66,7 +73,7 @@ pub fn field_at(plan: &[u8], offset: usize) -> Result<(Field, usize), u32> {
     let head = rest.get(..3).ok_or(2u32)?;
     let (tag, length) = (head[0], number(&head[1..]) as usize);
     let value = rest[3..].get(..length).ok_or(2u32)?;
-    if !(1..=3).contains(&tag) {
+    if !(1..=4).contains(&tag) {
         return Err(3);
     }
     if !length_allowed(tag, length) {
@@ -84,8 +91,9 @@ pub fn field_read(plan: &[u8], offset: usize) -> FieldRead {
     };
     let (tag, numbers) = match field {
         Field::Header { guard, top } => (1, [guard, top, 0, 0, 0]),
-        Field::Port { number, port } => (2, [number, port.rate, port.blocker, 0, 0]),
+        Field::Port { number, rate, blocker } => (2, [number, rate, blocker, 0, 0]),
         Field::Flow { number, flow } => (3, [number, flow.period, flow.count, flow.length, flow.route.len() as u64]),
+        Field::Extra { number, bytes } => (4, [number, bytes, 0, 0, 0]),
     };
     FieldRead { refusal: 0, tag, offset: after as u64, numbers }
 }
@@ -105,6 +113,8 @@ struct Gathered {
     header: Option<(u64, u64)>,
     ports: BTreeMap<u64, Port>,
     flows: BTreeMap<u64, Flow>,
+    /// Extra bytes by port, each with the offset of its tag.
+    extras: BTreeMap<u64, (u64, usize)>,
     tags: BTreeMap<usize, u64>,
 }
 
@@ -115,14 +125,18 @@ impl Gathered {
             Field::Header { .. } => self.header.is_some(),
             Field::Port { number, .. } => self.ports.contains_key(number),
             Field::Flow { number, .. } => self.flows.contains_key(number),
+            Field::Extra { number, .. } => self.extras.contains_key(number),
         };
         if again {
             return Err(6);
         }
         match field {
             Field::Header { guard, top } => self.header = Some((guard, top)),
-            Field::Port { number, port } => {
-                self.ports.insert(number, port);
+            Field::Port { number, rate, blocker } => {
+                self.ports.insert(number, Port { rate, blocker, extra: 0 });
+            }
+            Field::Extra { number, bytes } => {
+                self.extras.insert(number, (bytes, offset));
             }
             Field::Flow { flow, .. } if repeats(&flow.route) => return Err(7),
             Field::Flow { number, flow } => {
@@ -133,8 +147,8 @@ impl Gathered {
         Ok(())
     }
 
-    /// Tests 8 and 9.
-    fn close(self, plan_length: usize) -> Result<Plan, (u32, usize)> {
+    /// Tests 8 and 9, routes before extra bytes; then each port gets its own.
+    fn close(mut self, plan_length: usize) -> Result<Plan, (u32, usize)> {
         let (guard, top) = self.header.ok_or((8, plan_length))?;
         if self.flows.is_empty() {
             return Err((8, plan_length));
@@ -142,6 +156,13 @@ impl Gathered {
         let astray = |flow: &Flow| flow.route.iter().any(|port| !self.ports.contains_key(port));
         if let Some((offset, _)) = self.tags.iter().find(|(_, number)| astray(&self.flows[number])) {
             return Err((9, *offset));
+        }
+        let lost = self.extras.iter().filter(|(port, _)| !self.ports.contains_key(port));
+        if let Some(offset) = lost.map(|(_, (_, offset))| *offset).min() {
+            return Err((9, offset));
+        }
+        for (port, (bytes, _)) in self.extras {
+            self.ports.get_mut(&port).expect("a known port").extra = bytes;
         }
         Ok(Plan { guard, top, ports: self.ports, flows: self.flows })
     }

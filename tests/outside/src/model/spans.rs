@@ -1,6 +1,6 @@
 //! The admissible durations as spans, found by walking the points where a demand rises.
 
-use super::{blocker_bits, Plan, Port};
+use super::Plan;
 use crate::answers::Answer;
 use std::collections::BTreeMap;
 
@@ -22,9 +22,9 @@ struct Walk {
 impl Walk {
     fn new(plan: &Plan) -> Walk {
         let mut columns = BTreeMap::new();
-        for (number, Port { rate, blocker }) in &plan.ports {
+        for (number, port) in &plan.ports {
             if plan.crossed(*number) {
-                let column = Column { rate: *rate, blocking: blocker_bits(*blocker), demand: 0, from: 0 };
+                let column = Column { rate: port.rate, blocking: port.blocker_bits(), demand: 0, from: 0 };
                 columns.insert(*number, column);
             }
         }
@@ -62,7 +62,7 @@ pub fn spans(plan: &Plan) -> Vec<Span> {
         for number in rises.remove(&start).unwrap_or_default() {
             let flow = &plan.flows[&number];
             for port in &flow.route {
-                walk.rise(*port, flow.burst_bits());
+                walk.rise(*port, flow.count * plan.ports[port].wire_bits(flow.length));
             }
             let next = start + flow.period;
             if next <= plan.top {

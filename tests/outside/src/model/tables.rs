@@ -8,14 +8,15 @@ fn ports_of(tables: &Planner) -> Option<BTreeMap<u64, Port>> {
     let mut ports = BTreeMap::new();
     for slot in 0..64 {
         let (rate, blocker) = (u64::from(tables.rates[slot]), u64::from(tables.blockings[slot]));
-        if (rate, blocker) == (0, 0) {
+        let extra = u64::from(tables.extras[slot]);
+        if (rate, blocker, extra) == (0, 0, 0) {
             continue;
         }
-        let fits = (1..=100_000).contains(&rate) && (blocker == 0 || (64..=2000).contains(&blocker));
+        let fits = (1..=100_000).contains(&rate) && (blocker == 0 || (64..=2000).contains(&blocker)) && extra <= 64;
         if !fits {
             return None;
         }
-        ports.insert(slot as u64 + 1, Port { rate, blocker });
+        ports.insert(slot as u64 + 1, Port { rate, blocker, extra });
     }
     Some(ports)
 }
@@ -64,6 +65,7 @@ pub fn tables_of(plan: &Plan) -> Planner {
     for (number, port) in &plan.ports {
         tables.rates[*number as usize - 1] = port.rate as u32;
         tables.blockings[*number as usize - 1] = port.blocker as u16;
+        tables.extras[*number as usize - 1] = port.extra as u8;
     }
     for (number, flow) in &plan.flows {
         let slot = *number as usize - 1;

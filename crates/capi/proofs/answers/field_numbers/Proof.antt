@@ -9,8 +9,8 @@ enum-known-reading c = search needs
 fault-number-requires : tie.Need-fault-number-requires
 fault-number-requires c κs = search needs
 
-cast-t11 : tie.Need-cast-t11
-cast-t11 c = search needs
+cast-t12 : tie.Need-cast-t12
+cast-t12 c = search needs
 
 enum-known-reading-2 : tie.Need-enum-known-reading-2
 enum-known-reading-2 c = search needs
@@ -18,17 +18,14 @@ enum-known-reading-2 c = search needs
 enum-known-field : tie.Need-enum-known-field
 enum-known-field c = search needs
 
-cast-t16 : tie.Need-cast-t16
-cast-t16 c = search needs
-
 cast-t17 : tie.Need-cast-t17
 cast-t17 c = search needs
 
+cast-t18 : tie.Need-cast-t18
+cast-t18 c = search needs
+
 enum-known-field-2 : tie.Need-enum-known-field-2
 enum-known-field-2 c = search needs
-
-cast-t20 : tie.Need-cast-t20
-cast-t20 c = search needs
 
 cast-t21 : tie.Need-cast-t21
 cast-t21 c = search needs
@@ -36,11 +33,11 @@ cast-t21 c = search needs
 cast-t22 : tie.Need-cast-t22
 cast-t22 c = search needs
 
+cast-t23 : tie.Need-cast-t23
+cast-t23 c = search needs
+
 enum-known-field-3 : tie.Need-enum-known-field-3
 enum-known-field-3 c = search needs
-
-cast-t25 : tie.Need-cast-t25
-cast-t25 c = search needs
 
 cast-t26 : tie.Need-cast-t26
 cast-t26 c = search needs
@@ -54,6 +51,18 @@ cast-t28 c = search needs
 cast-t29 : tie.Need-cast-t29
 cast-t29 c = search needs
 
+cast-t30 : tie.Need-cast-t30
+cast-t30 c = search needs
+
+enum-known-field-4 : tie.Need-enum-known-field-4
+enum-known-field-4 c = search needs
+
+cast-t33 : tie.Need-cast-t33
+cast-t33 c = search needs
+
+cast-t34 : tie.Need-cast-t34
+cast-t34 c = search needs
+
 returns : tie.Need-returns
 returns c = rw (c .before .before .reading .given .1, c .fault-number .ensures)
 
@@ -66,28 +75,35 @@ returns-3 c = rw (c .before .before .before .before .before .before .before .rea
 returns-4 : tie.Need-returns-4
 returns-4 c = rw (c .before .before .before .before .before .before .before .before .before .reading2 .given .1, c .before .before .before .before .before .before .field3 .given .1)
 
+returns-5 : tie.Need-returns-5
+returns-5 c = rw (c .before .before .before .before .before .before .reading2 .given .1, c .before .before .before .field4 .given .1)
+
 pub field-numbers-spec : {M : Type 1} → statement M
 field-numbers-spec =
     tie.close
     (tie.spec
     enum-known-reading
     fault-number-requires
-    cast-t11
+    cast-t12
     enum-known-reading-2
     enum-known-field
-    cast-t16
     cast-t17
+    cast-t18
     enum-known-field-2
-    cast-t20
     cast-t21
     cast-t22
+    cast-t23
     enum-known-field-3
-    cast-t25
     cast-t26
     cast-t27
     cast-t28
     cast-t29
+    cast-t30
+    enum-known-field-4
+    cast-t33
+    cast-t34
     returns
     returns-2
     returns-3
-    returns-4)
+    returns-4
+    returns-5)

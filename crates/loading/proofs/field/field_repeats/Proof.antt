@@ -15,6 +15,9 @@ enum-told-3 c = search needs
 route-repeats-requires : tie.Need-route-repeats-requires
 route-repeats-requires c κs = search needs
 
+enum-told-4 : tie.Need-enum-told-4
+enum-told-4 c = search needs
+
 returns : tie.Need-returns
 returns c = search needs
 
@@ -24,7 +27,19 @@ returns-2 c = search needs
 returns-3 : tie.Need-returns-3
 returns-3 c = rw (c .before .enum-told3 .given .1) (c .route-repeats .ensures)
 
+returns-4 : tie.Need-returns-4
+returns-4 c = search needs
+
 pub field-repeats-spec : {M : Type 1} → statement M
 field-repeats-spec =
     tie.close
-    (tie.spec enum-told enum-told-2 enum-told-3 route-repeats-requires returns returns-2 returns-3)
+    (tie.spec
+    enum-told
+    enum-told-2
+    enum-told-3
+    route-repeats-requires
+    enum-told-4
+    returns
+    returns-2
+    returns-3
+    returns-4)

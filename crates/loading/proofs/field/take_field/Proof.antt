@@ -21,7 +21,7 @@ use Rattle.loading.proofs.field.take_field.Tie as tie
 -- the draft that the function is lent
 abbrev held : tie.Start → Draft
 held c =
-    draftOf (c .args .totals) (now (c .args .rates)) (now (c .args .blockings)) (now (c .args .periods)) (now (c .args .counts))
+    draftOf (c .args .totals) (now (c .args .rates)) (now (c .args .blockings)) (now (c .args .extras)) (now (c .args .periods)) (now (c .args .counts))
     (now (c .args .lengths)) (now (c .args .hops)) (now (c .args .routes)) (now (c .args .seen))
 
 -- the key was free
@@ -69,16 +69,16 @@ returns-2 c =
 
 store-field-requires : tie.Need-store-field-requires
 store-field-requires c κs =
-    let a = c .before .before .before .before .before .before .before .before .before .before .before .before .before .before .before .before in
-    (a .pre .0, a .pre .1, found-numbers _ _ _ _ (a .pre .2), rw (route-read (c .before .before .before .before .before .before .before .before .before .before)) (found-route _ _ _ _ (a .pre .2)))
+    let a = c .before .before .before .before .before .before .before .before .before .before .before .before .before .before .before .before .before in
+    (a .pre .0, a .pre .1, found-numbers _ _ _ _ (a .pre .2), rw (route-read (c .before .before .before .before .before .before .before .before .before .before .before)) (found-route _ _ _ _ (a .pre .2)))
 
 returns-3 : tie.Need-returns-3
 returns-3 c =
-    let a = c .before .before .before .before .before .before .before .before .before .before .before .before .before .before .before .before .before in
-    rw (c .store-field .ensures, route-read (c .before .before .before .before .before .before .before .before .before .before .before))
+    let a = c .before .before .before .before .before .before .before .before .before .before .before .before .before .before .before .before .before .before in
+    rw (c .store-field .ensures, route-read (c .before .before .before .before .before .before .before .before .before .before .before .before))
     (sym (step-added loose _ _ (held a) (fieldOf (a .args .x)) (a .args .next) (a .pre .2)
-    (free (c .before .before .before .before .before .before .before .before .before .before .before .before .before))
-    (sym (repeats-read (c .before .before .before .before .before .before .before .before .before .before)) ∙ c .before .before .before .before .before .before .before .before .before .if2 .left)))
+    (free (c .before .before .before .before .before .before .before .before .before .before .before .before .before .before))
+    (sym (repeats-read (c .before .before .before .before .before .before .before .before .before .before .before)) ∙ c .before .before .before .before .before .before .before .before .before .before .if2 .left)))
 
 pub take-field-spec : {M : Type 1} → statement M
 take-field-spec =

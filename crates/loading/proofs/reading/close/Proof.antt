@@ -10,7 +10,7 @@ use denote.Ref.{now}
 use Rattle.cqf.specs.Plan.{Plan}
 use Rattle.plan.specs.Key.{headerKey}
 use Rattle.plan.specs.Draft.{Draft, hasKey}
-use Rattle.plan.specs.Reading.{firstField, namesAbsent}
+use Rattle.plan.specs.Reading.{firstAbsent}
 use Rattle.plan.specs.laws.Closing.{close-headless, close-flowless, close-absent, close-accepted}
 use borrow.Author.Needs.{needs}
 use Rattle.loading.proofs.reading.close.Statement.{statement}
@@ -23,12 +23,12 @@ closed c p = record { tables = p; seen = now (c .args .seen); ports = c .args .p
 headed : (c : tie.Else1) (p : Plan) → hasKey (closed (c .before .before .before) p) headerKey ≡ true
 headed c p = lt-ltb 0 (getD (now (c .before .before .before .args .seen)) headerKey 0) (omega (arith, c .if1 .left))
 
--- what was found is the first flow that names a port not in these tables
-found : (c : tie.After-first-field) (p : Plan)
+-- what was found is the first field that names a port not in these tables
+found : (c : tie.After-first-absent) (p : Plan)
     → p .rates ≡ now (c .before .before .before .before .before .args .rates)
-    → c .first-field .result ≡ firstField (namesAbsent (p .rates)) (now (c .before .before .before .before .before .args .plan))
+    → c .first-absent .result ≡ firstAbsent (p .rates) (now (c .before .before .before .before .before .args .plan))
 found c p e =
-    c .first-field .ensures ∙ ap (λ (l : List ℕ). firstField (namesAbsent l) (now (c .before .before .before .before .before .args .plan))) (sym e)
+    c .first-absent .ensures ∙ ap (λ (l : List ℕ). firstAbsent l (now (c .before .before .before .before .before .args .plan))) (sym e)
 
 element-copy-out-if1 : tie.Need-element-copy-out-if1
 element-copy-out-if1 c = search needs
@@ -39,8 +39,8 @@ returns c = λ p e. sym (close-headless (now (c .before .before .before .args .p
 returns-2 : tie.Need-returns-2
 returns-2 c = λ p e. sym (close-flowless (now (c .before .before .before .before .args .plan)) (closed (c .before .before .before .before) p) (c .if2 .taken))
 
-first-field-requires : tie.Need-first-field-requires
-first-field-requires c κs = search needs
+first-absent-requires : tie.Need-first-absent-requires
+first-absent-requires c κs = search needs
 
 returns-3 : tie.Need-returns-3
 returns-3 c = λ p e.
@@ -55,4 +55,4 @@ returns-4 c = λ p e.
 pub close-spec : {M : Type 1} → statement M
 close-spec =
     tie.close
-    (tie.spec element-copy-out-if1 returns returns-2 first-field-requires returns-3 returns-4)
+    (tie.spec element-copy-out-if1 returns returns-2 first-absent-requires returns-3 returns-4)

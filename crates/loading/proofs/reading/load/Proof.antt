@@ -30,11 +30,11 @@ record Reached (s : List ℕ) (d : Draft) (at : ℕ) : Type 0 where
   rest : readFrom loose (length s) s 0 blank ≡ readFrom loose (length s) s at d
 
 abbrev Inv-loop : tie.InvT-loop
-Inv-loop planner plan rates₀ blockings₀ periods₀ counts₀ lengths₀ hops₀ routes₀ seen₀ totals₀ at₀ rates blockings periods counts lengths hops routes seen totals at =
-    Reached plan (draftOf totals rates blockings periods counts lengths hops routes seen) at
+Inv-loop planner plan rates₀ blockings₀ extras₀ periods₀ counts₀ lengths₀ hops₀ routes₀ seen₀ totals₀ at₀ rates blockings extras periods counts lengths hops routes seen totals at =
+    Reached plan (draftOf totals rates blockings extras periods counts lengths hops routes seen) at
 
 abbrev μ-loop : tie.MeasureT-loop
-μ-loop planner plan rates₀ blockings₀ periods₀ counts₀ lengths₀ hops₀ routes₀ seen₀ totals₀ at₀ rates blockings periods counts lengths hops routes seen totals at =
+μ-loop planner plan rates₀ blockings₀ extras₀ periods₀ counts₀ lengths₀ hops₀ routes₀ seen₀ totals₀ at₀ rates blockings extras periods counts lengths hops routes seen totals at =
     length plan - at
 
 -- where a turn begins: the plan's bytes, the offset and the draft so far
@@ -47,7 +47,7 @@ module _ (c : tie.At-loop Inv-loop μ-loop) where
 
   abbrev held : Draft
   held =
-      draftOf (c .loop .totals) (c .loop .rates) (c .loop .blockings) (c .loop .periods) (c .loop .counts) (c .loop .lengths)
+      draftOf (c .loop .totals) (c .loop .rates) (c .loop .blockings) (c .loop .extras) (c .loop .periods) (c .loop .counts) (c .loop .lengths)
       (c .loop .hops) (c .loop .routes) (c .loop .seen)
 
   -- test 1 was passed
@@ -64,12 +64,12 @@ abbrev stepped-as : tie.After-step Inv-loop μ-loop → Progress → Step
 stepped-as c r =
     let l = c .step .last .1 .1 .1 in
     progressOf r (l .0) (l .1 .0) (l .1 .1 .0) (l .1 .1 .1 .0) (l .1 .1 .1 .1 .0) (l .1 .1 .1 .1 .1 .0) (l .1 .1 .1 .1 .1 .1 .0)
-    (l .1 .1 .1 .1 .1 .1 .1 .0)
+    (l .1 .1 .1 .1 .1 .1 .1 .0) (l .1 .1 .1 .1 .1 .1 .1 .1 .0)
 
 -- a turn that goes on, as the definition steps
 module _ (c : tie.After-known-told Inv-loop μ-loop) where
   abbrev turn : tie.At-loop Inv-loop μ-loop
-  turn = c .before .before .before .before .before .before .before .before .before .before .before .before .before
+  turn = c .before .before .before .before .before .before .before .before .before .before .before .before .before .before
 
   abbrev next : ℕ
   next = c .before .next .given .0 .0
@@ -78,7 +78,7 @@ module _ (c : tie.After-known-told Inv-loop μ-loop) where
   read =
       let l = c .before .before .before .step .last .1 .1 .1 in
       draftOf (c .before .next .given .0 .1 .0) (l .0) (l .1 .0) (l .1 .1 .0) (l .1 .1 .1 .0) (l .1 .1 .1 .1 .0) (l .1 .1 .1 .1 .1 .0)
-      (l .1 .1 .1 .1 .1 .1 .0) (l .1 .1 .1 .1 .1 .1 .1 .0)
+      (l .1 .1 .1 .1 .1 .1 .0) (l .1 .1 .1 .1 .1 .1 .1 .0) (l .1 .1 .1 .1 .1 .1 .1 .1 .0)
 
   stepped : stepAt loose (bytes turn) (here turn) (held turn) ≡ more next read
   stepped = sym (c .before .before .before .step .ensures) ∙ ap (stepped-as (c .before .before .before)) (c .before .next .given .1)
@@ -109,7 +109,7 @@ loop-holds c = record { inside = omega arith; ports = omega arith; flows = omega
 
 step-requires : tie.Need-step-requires Inv-loop μ-loop
 step-requires c κs =
-    let l = c .before .before .before .before .before .before .before .before .before in
+    let l = c .before .before .before .before .before .before .before .before .before .before in
     let i = l .loop .inv in
     let most = within-high 1 maxBytes (length (bytes l)) (sized l) in
     (omega (arith, i .inside, i .ports, most), omega (arith, i .inside, i .flows, most))
@@ -128,7 +128,7 @@ loop-again c =
       inside = goes-on c .inside;
       ports = omega (arith, i .ports, goes-on c .ports, goes-on c .forward);
       flows = omega (arith, i .flows, goes-on c .flows, goes-on c .forward);
-      rest = i .rest ∙ read-more loose (bytes l) (here l) (held l) (c .before .before .before .before .before .before .before .before .before .before .before .before .loop-test .taken) (next c) (read c) (stepped c);
+      rest = i .rest ∙ read-more loose (bytes l) (here l) (held l) (c .before .before .before .before .before .before .before .before .before .before .before .before .before .loop-test .taken) (next c) (read c) (stepped c);
     }
 
 enum-known-fault : tie.Need-enum-known-fault Inv-loop μ-loop
@@ -136,10 +136,10 @@ enum-known-fault c = search needs
 
 returns-2 : tie.Need-returns-2 Inv-loop μ-loop
 returns-2 c =
-    let l = c .before .before .before .before .before .before .before .before .before .before .before .before .before in
+    let l = c .before .before .before .before .before .before .before .before .before .before .before .before .before .before in
     let e =
     rest-read l
-    ∙ read-stop loose (bytes l) (here l) (held l) (c .before .before .before .before .before .before .before .before .before .before .before .before .loop-test .taken) _ _
+    ∙ read-stop loose (bytes l) (here l) (held l) (c .before .before .before .before .before .before .before .before .before .before .before .before .before .loop-test .taken) _ _
     (sym (c .before .before .before .step .ensures) ∙ ap (stepped-as (c .before .before .before)) (c .before .fault .given .1)) in
     record { leaves = sym (refused-leaves _ (bytes l) _ _ e); answers = sym (refused-answer (bytes l) _ _ e) }
 

@@ -24,6 +24,18 @@ cast-result-2 c = search needs
 add-result-2 : tie.Need-add-result-2
 add-result-2 c = search needs
 
+enum-known-field-3 : tie.Need-enum-known-field-3
+enum-known-field-3 c = search needs
+
+add-result-3 : tie.Need-add-result-3
+add-result-3 c = search needs
+
+cast-result-3 : tie.Need-cast-result-3
+cast-result-3 c = search needs
+
+add-result-4 : tie.Need-add-result-4
+add-result-4 c = search needs
+
 returns : tie.Need-returns
 returns c = search needs
 
@@ -32,6 +44,9 @@ returns-2 c = rw (c .before .before .field .given .1)
 
 returns-3 : tie.Need-returns-3
 returns-3 c = rw (c .before .before .field2 .given .1)
+
+returns-4 : tie.Need-returns-4
+returns-4 c = rw (c .before .before .field3 .given .1)
 
 pub key-of-spec : {M : Type 1} → statement M
 key-of-spec =
@@ -44,6 +59,11 @@ key-of-spec =
     enum-known-field-2
     cast-result-2
     add-result-2
+    enum-known-field-3
+    add-result-3
+    cast-result-3
+    add-result-4
     returns
     returns-2
-    returns-3)
+    returns-3
+    returns-4)

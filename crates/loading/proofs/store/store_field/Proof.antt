@@ -36,6 +36,12 @@ store-flow-requires c κs = (rw (c .before .before .before .before .before .befo
 add-sums-2 : tie.Need-add-sums-2
 add-sums-2 c = search needs
 
+enum-known-field-4 : tie.Need-enum-known-field-4
+enum-known-field-4 c = search needs
+
+store-extra-requires : tie.Need-store-extra-requires
+store-extra-requires c κs = rw (c .before .before .field4 .given .1) at (c .before .before .before .before .before .before .pre .2)
+
 returns : tie.Need-returns
 unfolding added store
 returns c = rw (c .before .before .before .key-of .ensures, c .before .field .given .1, add-zero (c .before .before .before .before .before .args .totals .ports), add-zero (c .before .before .before .before .before .args .totals .flows))
@@ -47,6 +53,10 @@ returns-2 c = rw (c .before .before .before .before .before .before .before .key
 returns-3 : tie.Need-returns-3
 unfolding added store
 returns-3 c = rw (c .before .before .before .before .before .before .before .before .before .before .key-of .ensures, c .before .before .before .before .before .before .before .before .field3 .given .1, c .before .store-flow .ensures .0, c .before .store-flow .ensures .1, c .before .store-flow .ensures .2, c .before .store-flow .ensures .3, c .before .store-flow .ensures .4, add-zero (c .before .before .before .before .before .before .before .before .before .before .before .before .args .totals .ports))
+
+returns-4 : tie.Need-returns-4
+unfolding added store
+returns-4 c = rw (c .before .before .before .before .before .key-of .ensures, c .before .before .before .field4 .given .1, c .store-extra .ensures, add-zero (c .before .before .before .before .before .before .before .args .totals .ports), add-zero (c .before .before .before .before .before .before .before .args .totals .flows))
 
 pub store-field-spec : {M : Type 1} → statement M
 store-field-spec =
@@ -61,6 +71,9 @@ store-field-spec =
     enum-known-field-3
     store-flow-requires
     add-sums-2
+    enum-known-field-4
+    store-extra-requires
     returns
     returns-2
-    returns-3)
+    returns-3
+    returns-4)

@@ -8,6 +8,9 @@ use Rattle.numbers.proofs.frame.wire_bits.Tie as tie
 add-result : tie.Need-add-result
 add-result c = omega arith
 
+add-result-2 : tie.Need-add-result-2
+add-result-2 c = omega arith
+
 mul-result : tie.Need-mul-result
 mul-result c = omega arith
 
@@ -15,4 +18,4 @@ returns : tie.Need-returns
 returns c = refl
 
 pub wire-bits-spec : {M : Type 1} → statement M
-wire-bits-spec = tie.close (tie.spec add-result mul-result returns)
+wire-bits-spec = tie.close (tie.spec add-result add-result-2 mul-result returns)

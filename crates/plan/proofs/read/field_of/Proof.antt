@@ -1,7 +1,7 @@
 -- `field_of` meets its contract: test 3, and the field by its tag.
 use mathlib.Core.Path.{sym, _∙_}
 use borrow.Author.Needs.{needs}
-use Rattle.plan.specs.laws.Tested.{tag-header, tag-port, tag-flow, tag-unknown}
+use Rattle.plan.specs.laws.Tested.{tag-header, tag-port, tag-flow, tag-extra, tag-unknown}
 use Rattle.plan.proofs.read.field_of.Statement.{statement}
 use Rattle.plan.proofs.read.field_of.Tie as tie
 
@@ -23,8 +23,15 @@ flow-of-requires c κs = search needs
 returns-3 : tie.Need-returns-3
 returns-3 c = c .flow-of .ensures ∙ sym (tag-flow _ _ _ _ (c .before .if3 .taken))
 
+extra-of-requires : tie.Need-extra-of-requires
+extra-of-requires c κs = search needs
+
 returns-4 : tie.Need-returns-4
-returns-4 c = sym (tag-unknown _ _ _ _ (c .before .before .if1 .left) (c .before .if2 .left) (c .if3 .left))
+returns-4 c = c .extra-of .ensures ∙ sym (tag-extra _ _ _ _ (c .before .if4 .taken))
+
+returns-5 : tie.Need-returns-5
+returns-5 c =
+    sym (tag-unknown _ _ _ _ (c .before .before .before .if1 .left) (c .before .before .if2 .left) (c .before .if3 .left) (c .if4 .left))
 
 pub field-of-spec : {M : Type 1} → statement M
 field-of-spec =
@@ -36,4 +43,6 @@ field-of-spec =
     returns-2
     flow-of-requires
     returns-3
-    returns-4)
+    extra-of-requires
+    returns-4
+    returns-5)

@@ -9,7 +9,7 @@ use lib.ListN.{length}
 use Rattle.cqf.specs.Limits.{portSlots}
 use Rattle.cqf.specs.Plan.{Plan}
 use Rattle.cqf.specs.Condition.{windowOf, largestNeed}
-use Rattle.cqf.specs.laws.Ranges.{top-most}
+use Rattle.cqf.specs.laws.Ranges.{top-most, extra-most}
 use Rattle.cqf.specs.laws.Search.{Climbed, climb-start, climb-next, climb-over}
 use Rattle.tables.specs.Columns.{planBy}
 use Rattle.planner.specs.laws.Sums.{slot-in-range}
@@ -19,24 +19,24 @@ use Rattle.planner.proofs.climb.climb.Statement.{statement}
 use Rattle.planner.proofs.climb.climb.Tie as tie
 
 abbrev Inv-ports : tie.InvT-ports
-Inv-ports guard top rates blockings periods counts lengths hops routes out limit t available q₀ q =
-    Passed (planBy guard top rates blockings periods counts lengths hops routes) out t q × (available ≡ windowOf guard t)
+Inv-ports guard top rates blockings extras periods counts lengths hops routes out limit t available q₀ q =
+    Passed (planBy guard top rates blockings extras periods counts lengths hops routes) out t q × (available ≡ windowOf guard t)
 
 abbrev μ-ports : tie.MeasureT-ports
-μ-ports guard top rates blockings periods counts lengths hops routes out limit t available q₀ q = portSlots - q
+μ-ports guard top rates blockings extras periods counts lengths hops routes out limit t available q₀ q = portSlots - q
 
 abbrev Inv-loop : tie.InvT-loop
-Inv-loop guard top rates blockings periods counts lengths hops routes out₀ limit t₀ out t =
-    (length out ≡ portSlots) × Climbed (planBy guard top rates blockings periods counts lengths hops routes) t
+Inv-loop guard top rates blockings extras periods counts lengths hops routes out₀ limit t₀ out t =
+    (length out ≡ portSlots) × Climbed (planBy guard top rates blockings extras periods counts lengths hops routes) t
 
 abbrev μ-loop : tie.MeasureT-loop
-μ-loop guard top rates blockings periods counts lengths hops routes out₀ limit t₀ out t = suc top - t
+μ-loop guard top rates blockings extras periods counts lengths hops routes out₀ limit t₀ out t = suc top - t
 
 -- the plan of the tables
 abbrev plan : tie.Start Inv-ports μ-ports Inv-loop μ-loop → Plan
 plan s =
     let a = s .args in
-    planBy (a .guard) (a .top) (a .rates .now) (a .blockings .now) (a .periods .now) (a .counts .now) (a .lengths .now) (a .hops .now) (a .routes .now)
+    planBy (a .guard) (a .top) (a .rates .now) (a .blockings .now) (a .extras .now) (a .periods .now) (a .counts .now) (a .lengths .now) (a .hops .now) (a .routes .now)
 
 -- where the function starts, a round of the search, and the demands in it
 abbrev start : tie.At-loop Inv-ports μ-ports Inv-loop μ-loop → tie.Start Inv-ports μ-ports Inv-loop μ-loop
@@ -56,7 +56,7 @@ left-ports c =
     let v = c .before .ports .inv in
     ⊎-elim
     (λ w. passed-all (v .0) (w .left))
-    (λ w. passed-until (v .0) (w .0 .taken) (sym (port-tested (v .0) (w .0 .taken) (v .1) (w .4 .ensures)) ∙ w .5 .taken))
+    (λ w. passed-until (v .0) (w .0 .taken) (sym (port-tested (v .0) (w .0 .taken) (v .1) (w .5 .ensures)) ∙ w .6 .taken))
     (c .ports-test .came)
 
 -- the most that a port needs: a port fails, so it is above t
@@ -80,7 +80,7 @@ demands-requires : tie.Need-demands-requires Inv-ports μ-ports Inv-loop μ-loop
 demands-requires c κs =
     let l = c .before in
     let s = start l in
-    (record { slot = slot-in-range (plan s) (s .pre .0) }, (omega (arith, top-most (plan s) (s .pre .0), l .loop .inv .1 .within), l .loop .inv .0))
+    ((record { slot = slot-in-range (plan s) (s .pre .0) }, extra-most (plan s) (s .pre .0)), (omega (arith, top-most (plan s) (s .pre .0), l .loop .inv .1 .within), l .loop .inv .0))
 
 window-requires : tie.Need-window-requires Inv-ports μ-ports Inv-loop μ-loop
 window-requires c κs = tt
@@ -104,17 +104,20 @@ mul-port-fails-2 c = omega arith
 element-copy-out-port-fails-2 : tie.Need-element-copy-out-port-fails-2 Inv-ports μ-ports Inv-loop μ-loop
 element-copy-out-port-fails-2 c = c .before .ports-test .taken
 
+element-copy-out-port-fails-3 : tie.Need-element-copy-out-port-fails-3 Inv-ports μ-ports Inv-loop μ-loop
+element-copy-out-port-fails-3 c = c .before .before .ports-test .taken
+
 mul-port-fails-3 : tie.Need-mul-port-fails-3 Inv-ports μ-ports Inv-loop μ-loop
 mul-port-fails-3 c = omega arith
 
 slice-read-port-fails : tie.Need-slice-read-port-fails Inv-ports μ-ports Inv-loop μ-loop
 slice-read-port-fails c =
-    let i = c .before .before .before in
+    let i = c .before .before .before .before in
     omega (arith, filled-length (i .before .ports .inv .0 .filled), i .ports-test .taken)
 
 port-fails-requires : tie.Need-port-fails-requires Inv-ports μ-ports Inv-loop μ-loop
 port-fails-requires c κs =
-    let i = c .before .before .before in
+    let i = c .before .before .before .before in
     let v = i .before .ports .inv in
     (omega (arith, filled-short (v .0 .filled), v .1), filled-most (v .0 .filled) _ (i .ports-test .taken))
 
@@ -126,7 +129,7 @@ ports-less c = omega arith
 
 ports-again : tie.Need-ports-again Inv-ports μ-ports Inv-loop μ-loop
 ports-again c =
-    let i = c .before .before .before .before .before in
+    let i = c .before .before .before .before .before .before in
     let v = i .before .ports .inv in
     let l = i .ports-test .taken in
     (passed-next (v .0) l (sym (port-tested (v .0) l (v .1) (c .before .port-fails .ensures)) ∙ c .if1 .left), v .1)
@@ -190,6 +193,7 @@ climb-spec =
     element-copy-out-port-fails
     mul-port-fails-2
     element-copy-out-port-fails-2
+    element-copy-out-port-fails-3
     mul-port-fails-3
     slice-read-port-fails
     port-fails-requires

@@ -11,11 +11,11 @@ use Rattle.planner.proofs.failing.failing_set.Statement.{statement}
 use Rattle.planner.proofs.failing.failing_set.Tie as tie
 
 abbrev Inv-loop : tie.InvT-loop
-Inv-loop rates blockings window demands set₀ q₀ set q =
-    (q ≤ portSlots) × (set ≡ setTo q (failsIn rates blockings window demands))
+Inv-loop rates blockings extras window demands set₀ q₀ set q =
+    (q ≤ portSlots) × (set ≡ setTo q (failsIn rates blockings extras window demands))
 
 abbrev μ-loop : tie.MeasureT-loop
-μ-loop rates blockings window demands set₀ q₀ set q = portSlots - q
+μ-loop rates blockings extras window demands set₀ q₀ set q = portSlots - q
 
 loop-holds : tie.Need-loop-holds Inv-loop μ-loop
 unfolding setTo
@@ -33,6 +33,9 @@ mul-port-fails-2 c = search needs
 element-copy-out-port-fails-2 : tie.Need-element-copy-out-port-fails-2 Inv-loop μ-loop
 element-copy-out-port-fails-2 c = search needs
 
+element-copy-out-port-fails-3 : tie.Need-element-copy-out-port-fails-3 Inv-loop μ-loop
+element-copy-out-port-fails-3 c = search needs
+
 mul-port-fails-3 : tie.Need-mul-port-fails-3 Inv-loop μ-loop
 mul-port-fails-3 c = search needs
 
@@ -41,7 +44,7 @@ shared-slice-read-port-fails c = search needs
 
 port-fails-requires : tie.Need-port-fails-requires Inv-loop μ-loop
 port-fails-requires c κs =
-    let at = c .before .before .before in
+    let at = c .before .before .before .before in
     let start = at .before .before .before in
     (start .pre .1, start .pre .2 (at .before .loop .q) (at .loop-test .taken))
 
@@ -56,7 +59,7 @@ loop-less c = search needs
 
 loop-again : tie.Need-loop-again Inv-loop μ-loop
 loop-again c =
-    let at = c .before .before .before .before .before in
+    let at = c .before .before .before .before .before .before in
     let q = at .before .loop .q in
     ⊎-elim
     (λ w. (omega arith, w .1 ∙ set-or q _ (at .loop-test .taken) (at .before .loop .inv .1) (sym (c .before .port-fails .ensures) ∙ w .0 .taken)))
@@ -79,6 +82,7 @@ failing-set-spec =
     element-copy-out-port-fails
     mul-port-fails-2
     element-copy-out-port-fails-2
+    element-copy-out-port-fails-3
     mul-port-fails-3
     shared-slice-read-port-fails
     port-fails-requires

@@ -12,12 +12,12 @@ blocking-bits-requires c κs = tt
 add-result : tie.Need-add-result
 add-result c =
     let a = c .before .args in
-    omega (arith, blocking-most (a .blocking) (omega arith), c .blocking-bits .ensures, c .before .pre)
+    omega (arith, blocking-most (a .blocking) (a .extra) (omega arith) (omega arith), c .blocking-bits .ensures, c .before .pre)
 
 mul-result : tie.Need-mul-result
 mul-result c =
     let a = c .before .args in
-    omega (arith, blocking-most (a .blocking) (omega arith), c .blocking-bits .ensures, c .before .pre)
+    omega (arith, blocking-most (a .blocking) (a .extra) (omega arith) (omega arith), c .blocking-bits .ensures, c .before .pre)
 
 returns : tie.Need-returns
 returns c = ap (λ (n : ℕ). 1000 * (c .before .args .bits + n)) (c .blocking-bits .ensures)

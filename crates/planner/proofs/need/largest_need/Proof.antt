@@ -13,15 +13,15 @@ use Rattle.planner.proofs.need.largest_need.Statement.{statement}
 use Rattle.planner.proofs.need.largest_need.Tie as tie
 
 -- what the port in slot q needs, by the columns
-abbrev needIn : (guard : ℕ) (rates blockings demands : List ℕ) → ℕ → ℕ
-needIn guard rates blockings demands q = needBy guard (getD rates q 0) (getD blockings q 0) (getD demands q 0)
+abbrev needIn : (guard : ℕ) (rates blockings extras demands : List ℕ) → ℕ → ℕ
+needIn guard rates blockings extras demands q = needBy guard (getD rates q 0) (getD blockings q 0) (getD extras q 0) (getD demands q 0)
 
 abbrev Inv-loop : tie.InvT-loop
-Inv-loop guard rates blockings demands most₀ q₀ most q =
-    (q ≤ portSlots) × (most ≡ maxTo q (needIn guard rates blockings demands))
+Inv-loop guard rates blockings extras demands most₀ q₀ most q =
+    (q ≤ portSlots) × (most ≡ maxTo q (needIn guard rates blockings extras demands))
 
 abbrev μ-loop : tie.MeasureT-loop
-μ-loop guard rates blockings demands most₀ q₀ most q = portSlots - q
+μ-loop guard rates blockings extras demands most₀ q₀ most q = portSlots - q
 
 loop-holds : tie.Need-loop-holds Inv-loop μ-loop
 unfolding maxTo
@@ -39,6 +39,9 @@ mul-need-2 c = search needs
 element-copy-out-need-2 : tie.Need-element-copy-out-need-2 Inv-loop μ-loop
 element-copy-out-need-2 c = search needs
 
+element-copy-out-need-3 : tie.Need-element-copy-out-need-3 Inv-loop μ-loop
+element-copy-out-need-3 c = search needs
+
 mul-need-3 : tie.Need-mul-need-3 Inv-loop μ-loop
 mul-need-3 c = search needs
 
@@ -47,7 +50,7 @@ shared-slice-read-need c = search needs
 
 need-requires : tie.Need-need-requires Inv-loop μ-loop
 need-requires c κs =
-    let at = c .before .before .before in
+    let at = c .before .before .before .before in
     at .before .before .before .pre .1 (at .before .loop .q) (at .loop-test .taken)
 
 larger-requires : tie.Need-larger-requires Inv-loop μ-loop
@@ -61,7 +64,7 @@ loop-less c = search needs
 
 loop-again : tie.Need-loop-again Inv-loop μ-loop
 loop-again c =
-    let at = c .before .before .before .before .before in
+    let at = c .before .before .before .before .before .before in
     (omega arith, c .larger .ensures ∙ ap₂ max (at .before .loop .inv .1) (c .before .need .ensures) ∙ sym (maxTo-next (at .before .loop .q) _))
 
 returns : tie.Need-returns Inv-loop μ-loop
@@ -80,6 +83,7 @@ largest-need-spec =
     element-copy-out-need
     mul-need-2
     element-copy-out-need-2
+    element-copy-out-need-3
     mul-need-3
     shared-slice-read-need
     need-requires

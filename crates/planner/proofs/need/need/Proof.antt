@@ -25,7 +25,7 @@ sub-result c = omega (arith, served c)
 add-result : tie.Need-add-result
 add-result c =
     let a = c .before .before .args in
-    omega (arith, work-fits (a .blocking) (a .bits) (omega arith) (c .before .before .pre .0), c .workload .ensures)
+    omega (arith, work-fits (a .blocking) (a .extra) (a .bits) (omega arith) (omega arith) (c .before .before .pre .0), c .workload .ensures)
 
 div-result : tie.Need-div-result
 div-result c = served c
@@ -33,14 +33,14 @@ div-result c = served c
 add-result-2 : tie.Need-add-result-2
 add-result-2 c =
     let a = c .before .before .args in
-    let few = work-fits (a .blocking) (a .bits) (omega arith) (c .before .before .pre .0) in
+    let few = work-fits (a .blocking) (a .extra) (a .bits) (omega arith) (omega arith) (c .before .before .pre .0) in
     record { fits = quotient-fits _ _ _ (omega arith) (omega (arith, few, c .workload .ensures)) }
 
 returns-2 : tie.Need-returns-2
 returns-2 c =
     let a = c .before .before .args in
     let some : 0 < a .bits = omega (arith, c .before .if1 .left) in
-    need-rounded (a .guard) (a .rate) (a .blocking) (a .bits) _ some (served c) (omega (arith, served c, c .workload .ensures))
+    need-rounded (a .guard) (a .rate) (a .blocking) (a .extra) (a .bits) _ some (served c) (omega (arith, served c, c .workload .ensures))
 
 pub need-spec : {M : Type 1} → statement M
 need-spec =

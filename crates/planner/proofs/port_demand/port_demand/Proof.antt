@@ -16,16 +16,16 @@ use Rattle.planner.proofs.port_demand.port_demand.Statement.{statement}
 use Rattle.planner.proofs.port_demand.port_demand.Tie as tie
 
 abbrev Inv-loop : tie.InvT-loop
-Inv-loop periods counts lengths hops routes duration q at bits₀ f₀ bits f =
-    (f ≤ flowSlots) × (bits ≡ sumTo f (share (columns [] [] periods counts lengths hops routes) q duration))
+Inv-loop extras periods counts lengths hops routes duration q at bits₀ f₀ bits f =
+    (f ≤ flowSlots) × (bits ≡ sumTo f (share (columns [] [] extras periods counts lengths hops routes) q duration))
 
 abbrev μ-loop : tie.MeasureT-loop
-μ-loop periods counts lengths hops routes duration q at bits₀ f₀ bits f = flowSlots - f
+μ-loop extras periods counts lengths hops routes duration q at bits₀ f₀ bits f = flowSlots - f
 
 -- the plan of the columns
 abbrev plan : tie.Start Inv-loop μ-loop → Plan
 plan s =
-    columns [] [] (s .args .periods .now) (s .args .counts .now) (s .args .lengths .now) (s .args .hops .now) (s .args .routes .now)
+    columns [] [] (s .args .extras .now) (s .args .periods .now) (s .args .counts .now) (s .args .lengths .now) (s .args .hops .now) (s .args .routes .now)
 
 -- the slot of the flow at hand
 module _ (c : tie.In-loop Inv-loop μ-loop) where
@@ -36,7 +36,7 @@ module _ (c : tie.In-loop Inv-loop μ-loop) where
       : (let f = c .before .loop .f in
       let p = plan start in
       FlowInRange (periodOf p f) (countOf p f) (lengthOf p f) (hopsOf p f) (routeOf p f))
-  slot = start .pre .0 .slot (c .before .loop .f) (c .loop-test .taken)
+  slot = start .pre .0 .0 .slot (c .before .loop .f) (c .loop-test .taken)
 
 -- the flow crosses the port
 abbrev inside : tie.Then1 Inv-loop μ-loop → tie.In-loop Inv-loop μ-loop
@@ -82,25 +82,28 @@ mul-flow-bits-3 c = search needs
 element-copy-out-flow-bits-3 : tie.Need-element-copy-out-flow-bits-3 Inv-loop μ-loop
 element-copy-out-flow-bits-3 c = search needs
 
+element-copy-out-flow-bits-4 : tie.Need-element-copy-out-flow-bits-4 Inv-loop μ-loop
+element-copy-out-flow-bits-4 c = search needs
+
 flow-bits-requires : tie.Need-flow-bits-requires Inv-loop μ-loop
 flow-bits-requires c κs =
-    let branch = c .before .before .before in
+    let branch = c .before .before .before .before in
     let at = inside branch in
     let s = start at in
     let r = slot at in
-    let least = crossing-period (plan s) (s .pre .0 .slot) (s .args .q) (at .before .loop .f) (at .loop-test .taken) (crossing branch) in
-    (least, r .period-most, r .count-most, r .bytes-most, s .pre .1 .0)
+    let least = crossing-period (plan s) (s .pre .0 .0 .slot) (s .args .q) (at .before .loop .f) (at .loop-test .taken) (crossing branch) in
+    (least, r .period-most, r .count-most, r .bytes-most, s .pre .0 .1 (s .args .q) (s .pre .1 .1), s .pre .1 .0)
 
 add-bits : tie.Need-add-bits Inv-loop μ-loop
 add-bits c =
-    let branch = c .before .before .before .before in
+    let branch = c .before .before .before .before .before in
     let at = inside branch in
     let s = start at in
     let p = plan s in
     let f = at .before .loop .f in
     let next : f + 1 ≤ flowSlots = omega (arith, at .loop-test .taken) in
     omega
-    (arith, sum-crossing p (s .args .q) (s .args .duration) f (at .before .loop .inv .1) (crossing branch) (c .flow-bits .ensures), sum-most p (s .pre .0 .slot) (s .args .duration) (s .pre .1 .0) (s .args .q) (f + 1) next)
+    (arith, sum-crossing p (s .args .q) (s .args .duration) f (at .before .loop .inv .1) (crossing branch) (c .flow-bits .ensures), sum-most p (s .pre .0 .0 .slot) (s .pre .0 .1) (s .args .duration) (s .pre .1 .0) (s .args .q) (f + 1) (s .pre .1 .1) next)
 
 add-f : tie.Need-add-f Inv-loop μ-loop
 add-f c = search needs
@@ -119,7 +122,7 @@ loop-again c =
     let sum = at .before .loop .inv .1 in
     let holds = c .before .route-holds .ensures in
     ⊎-elim
-    (λ w. (omega arith, w .5 ∙ sum-crossing p q T f sum (sym holds ∙ w .0 .taken) (w .4 .ensures)))
+    (λ w. (omega arith, w .6 ∙ sum-crossing p q T f sum (sym holds ∙ w .0 .taken) (w .5 .ensures)))
     (λ w. (omega arith, w .1 ∙ sum-apart p q T f sum (sym holds ∙ w .0 .left)))
     (c .if1 .came)
 
@@ -147,6 +150,7 @@ port-demand-spec =
     element-copy-out-flow-bits-2
     mul-flow-bits-3
     element-copy-out-flow-bits-3
+    element-copy-out-flow-bits-4
     flow-bits-requires
     add-bits
     add-f

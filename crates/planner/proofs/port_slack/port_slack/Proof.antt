@@ -22,7 +22,7 @@ capacity-most c =
 workload-most : (c : tie.After-workload) → c .workload .result < 2 ^ 63
 workload-most c = rw (c .workload .ensures) (go (eqb (c .before .args .blocking) 0))
   where
-    go : (x : Bool) → nsPerBit * (c .before .args .bits + cond x 0 (bitsOf (c .before .args .blocking))) < 2 ^ 63
+    go : (x : Bool) → nsPerBit * (c .before .args .bits + cond x 0 (bitsOf (c .before .args .blocking) (c .before .args .extra))) < 2 ^ 63
     go true = omega arith
     go false = omega arith
 

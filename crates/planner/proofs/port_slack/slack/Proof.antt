@@ -11,9 +11,9 @@ use mir.Syntax.{w64}
 use mir.ValLaws.{toZ-ofZ}
 use Rattle.cqf.specs.Bounded.{within}
 use Rattle.cqf.specs.Limits.{portSlots, maxTop, portOk}
-use Rattle.cqf.specs.Plan.{Plan, rateOf, blockingOf, validPlan}
+use Rattle.cqf.specs.Plan.{Plan, rateOf, blockingOf, extraOf, validPlan}
 use Rattle.cqf.specs.Condition.{demand}
-use Rattle.cqf.specs.laws.Ranges.{top-most}
+use Rattle.cqf.specs.laws.Ranges.{top-most, extra-most}
 use Rattle.plan.specs.laws.Within.{within-low, within-high, slot-below}
 use Rattle.tables.specs.Tables.{planOf}
 use Rattle.loading.specs.Outcome.{result}
@@ -30,7 +30,7 @@ held s = planOf (s .args .t1)
 
 -- where the function starts, from past the test of the tables
 abbrev start : tie.After-valid-tables → tie.Start
-start c = c .before .before .before .before .before .before .before .before .before
+start c = c .before .before .before .before .before .before .before .before .before .before
 
 -- past the refusals: the plan is valid, the duration from 1 to top, and the port from 1 to 64
 valid : (c : tie.Else1) → validPlan (held (start (c .before))) ≡ true
@@ -67,7 +67,7 @@ module _ (c : tie.Else3) where
   small = slot-below portSlots (asked .args .port) (number c)
 
 abbrev past : tie.After-port-demand → tie.Else3
-past c = c .before .before .before .before .before .before .before
+past c = c .before .before .before .before .before .before .before .before
 
 module _ (c : tie.After-port-demand) where
   bits-are : c .port-demand .result ≡ demand (held (asked (past c))) (slot (past c)) (asked (past c) .args .duration)
@@ -77,7 +77,7 @@ module _ (c : tie.After-port-demand) where
   bits-most =
       let p = held (asked (past c)) in
       let at = second (past c) in
-      omega (arith, bits-are, demand-most p (slot-in-range p (valid (first at))) (asked (past c) .args .duration) (fits at) (slot (past c)))
+      omega (arith, bits-are, demand-most p (slot-in-range p (valid (first at))) (extra-most p (valid (first at))) (asked (past c) .args .duration) (fits at) (slot (past c)) (small (past c)))
 
 valid-tables-requires : tie.Need-valid-tables-requires
 valid-tables-requires c κs = tt
@@ -113,9 +113,9 @@ sub-q c = within-low 1 portSlots _ (number c)
 
 port-demand-requires : tie.Need-port-demand-requires
 port-demand-requires c κs =
-    let e = c .before .before .before .before .before .before in
+    let e = c .before .before .before .before .before .before .before in
     let at = second e in
-    (record { slot = slot-in-range (held (asked e)) (valid (first at)) }, (fits at, small e))
+    ((record { slot = slot-in-range (held (asked e)) (valid (first at)) }, extra-most (held (asked e)) (valid (first at))), (fits at, small e))
 
 window-requires : tie.Need-window-requires
 window-requires c κs = tt
@@ -132,10 +132,13 @@ mul-port-slack-2 c = omega (arith, small (past (c .before .before .before)))
 element-copy-out-port-slack-2 : tie.Need-element-copy-out-port-slack-2
 element-copy-out-port-slack-2 c = small (past (c .before .before .before))
 
+element-copy-out-port-slack-3 : tie.Need-element-copy-out-port-slack-3
+element-copy-out-port-slack-3 c = small (past (c .before .before .before .before))
+
 port-slack-requires : tie.Need-port-slack-requires
 port-slack-requires c κs =
-    let demands = c .before .before .before .before in
-    (omega (arith, c .before .before .window .ensures, fits (second (past demands))), bits-most demands)
+    let demands = c .before .before .before .before .before in
+    (omega (arith, c .before .before .before .window .ensures, fits (second (past demands))), bits-most demands)
 
 returns-4 : tie.Need-returns-4
 returns-4 c =
@@ -148,15 +151,15 @@ returns-4 c =
 
 returns-5 : tie.Need-returns-5
 returns-5 c =
-    let demands = c .before .before .before .before .before in
+    let demands = c .before .before .before .before .before .before in
     let at = second (past demands) in
     let p = held (begin at) in
     let T = begin at .args .duration in
     let q = slot (past demands) in
-    let some : 0 < demand p q T = omega (arith, bits-are demands, c .before .before .before .before .if4 .left) in
+    let some : 0 < demand p q T = omega (arith, bits-are demands, c .before .before .before .before .before .if4 .left) in
     let yes = crossed-demand p (valid (first at)) T (within-low _ _ _ (ranged at)) q ∙ lt-ltb 0 (demand p q T) some in
     let products =
-    ap₂ (λ (w bits : ℕ). subℕ (rateOf p q * w) (workloadOf (blockingOf p q) bits)) (c .before .before .before .window .ensures) (bits-are demands) in
+    ap₂ (λ (w bits : ℕ). subℕ (rateOf p q * w) (workloadOf (blockingOf p q) (extraOf p q) bits)) (c .before .before .before .before .window .ensures) (bits-are demands) in
     ap result (toZ-ofZ w64 (c .port-slack .result) (record { sfits = c .port-slack .ok }))
     ∙ sym
     (slack-crossed p (begin at .args .port) T (valid (first at)) (ranged at) (number (past demands)) yes
@@ -180,6 +183,7 @@ slack-spec =
     element-copy-out-port-slack
     mul-port-slack-2
     element-copy-out-port-slack-2
+    element-copy-out-port-slack-3
     port-slack-requires
     returns-4
     returns-5)

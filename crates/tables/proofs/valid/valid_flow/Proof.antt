@@ -21,7 +21,7 @@ few : (c : tie.Else4) → getD (start c .args .hops .now) (start c .args .f) 0 �
 few c =
     let a = start c .args in
     ranged-hops
-    (columns (a .rates .now) [] (a .periods .now) (a .counts .now) (a .lengths .now) (a .hops .now) (a .routes .now))
+    (columns (a .rates .now) [] [] (a .periods .now) (a .counts .now) (a .lengths .now) (a .hops .now) (a .routes .now))
     (a .f)
     (sym (c .before .flow-in-range .ensures) ∙ not-false _ (c .if4 .left))
 

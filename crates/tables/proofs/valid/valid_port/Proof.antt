@@ -1,31 +1,58 @@
 -- `tables::valid::valid_port` meets its contract: each way out has decided the tests of a port's slot.
 use mathlib.Core.Path.{sym, _∙_}
-use mathlib.Core.Bool.{or-false}
+use mathlib.Core.Bool.{or-false, and-false}
 use borrow.Author.Needs.{needs}
 use borrow.Author.Tests.{ne-eqb, not-true, not-false}
 use Rattle.tables.proofs.valid.valid_port.Statement.{statement}
 use Rattle.tables.proofs.valid.valid_port.Tie as tie
 
 returns : tie.Need-returns
-returns c = simp (c .if1 .taken, or-false)
+returns c = simp (c .before .if1 .taken, ne-eqb _ _ (c .if2 .taken))
+
+returns-2 : tie.Need-returns-2
+returns-2 c = simp (c .before .if1 .taken, c .if2 .left, or-false)
 
 rate-ok-requires : tie.Need-rate-ok-requires
 rate-ok-requires c κs = search needs
 
-returns-2 : tie.Need-returns-2
-returns-2 c = simp (ne-eqb _ _ (c .before .before .if1 .left), sym (c .before .rate-ok .ensures) ∙ not-true _ (c .if2 .taken))
+returns-3 : tie.Need-returns-3
+returns-3 c = simp (ne-eqb _ _ (c .before .before .if1 .left), sym (c .before .rate-ok .ensures) ∙ not-true _ (c .if3 .taken))
 
 blocking-ok-requires : tie.Need-blocking-ok-requires
 blocking-ok-requires c κs = search needs
 
-returns-3 : tie.Need-returns-3
-returns-3 c =
-    let ranged = c .before .before in
+returns-4 : tie.Need-returns-4
+returns-4 c =
+    let ranged = c .before .before .before in
     simp (
       ne-eqb _ _ (ranged .before .if1 .left),
-      sym (ranged .rate-ok .ensures) ∙ not-false _ (c .before .if2 .left),
-      c .blocking-ok .ensures,
+      sym (c .before .blocking-ok .ensures) ∙ not-true _ (c .if4 .taken),
+      and-false,
+    )
+
+extra-ok-requires : tie.Need-extra-ok-requires
+extra-ok-requires c κs = search needs
+
+returns-5 : tie.Need-returns-5
+returns-5 c =
+    let blocked = c .before .before in
+    let ranged = blocked .before .before in
+    simp (
+      ne-eqb _ _ (ranged .before .if1 .left),
+      sym (ranged .rate-ok .ensures) ∙ not-false _ (blocked .before .if3 .left),
+      sym (blocked .blocking-ok .ensures) ∙ not-false _ (c .before .if4 .left),
+      c .extra-ok .ensures,
     )
 
 pub valid-port-spec : {M : Type 1} → statement M
-valid-port-spec = tie.close (tie.spec returns rate-ok-requires returns-2 blocking-ok-requires returns-3)
+valid-port-spec =
+    tie.close
+    (tie.spec
+    returns
+    returns-2
+    rate-ok-requires
+    returns-3
+    blocking-ok-requires
+    returns-4
+    extra-ok-requires
+    returns-5)

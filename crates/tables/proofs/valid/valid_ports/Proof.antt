@@ -15,10 +15,10 @@ use Rattle.tables.proofs.valid.valid_ports.Statement.{statement}
 use Rattle.tables.proofs.valid.valid_ports.Tie as tie
 
 abbrev Inv-loop : tie.InvT-loop
-Inv-loop rates blockings q₀ q = (q ≤ portSlots) × (allTo q (validPort (columns rates blockings [] [] [] [] [])) ≡ true)
+Inv-loop rates blockings extras q₀ q = (q ≤ portSlots) × (allTo q (validPort (columns rates blockings extras [] [] [] [] [])) ≡ true)
 
 abbrev μ-loop : tie.MeasureT-loop
-μ-loop rates blockings q₀ q = portSlots - q
+μ-loop rates blockings extras q₀ q = portSlots - q
 
 loop-holds : tie.Need-loop-holds Inv-loop μ-loop
 unfolding allTo
@@ -36,13 +36,16 @@ mul-valid-port-2 c = search needs
 element-copy-out-valid-port-2 : tie.Need-element-copy-out-valid-port-2 Inv-loop μ-loop
 element-copy-out-valid-port-2 c = search needs
 
+element-copy-out-valid-port-3 : tie.Need-element-copy-out-valid-port-3 Inv-loop μ-loop
+element-copy-out-valid-port-3 c = search needs
+
 valid-port-requires : tie.Need-valid-port-requires Inv-loop μ-loop
 valid-port-requires c κs = search needs
 
 returns : tie.Need-returns Inv-loop μ-loop
 unfolding validPort
 returns c =
-    let q = c .before .before .before .before .before .loop .q in
+    let q = c .before .before .before .before .before .before .loop .q in
     sym (allTo-false portSlots _ q (omega arith) (sym (c .before .valid-port .ensures) ∙ not-true _ (c .if1 .taken)))
 
 add-q : tie.Need-add-q Inv-loop μ-loop
@@ -54,7 +57,7 @@ loop-less c = search needs
 loop-again : tie.Need-loop-again Inv-loop μ-loop
 unfolding validPort
 loop-again c =
-    let at = c .before .before .before .before .before in (
+    let at = c .before .before .before .before .before .before in (
       omega arith,
       allTo-next (at .loop .q) _ (at .loop .inv .1) (sym (c .before .valid-port .ensures) ∙ not-false _ (c .if1 .left)),
     )
@@ -75,6 +78,7 @@ valid-ports-spec =
     element-copy-out-valid-port
     mul-valid-port-2
     element-copy-out-valid-port-2
+    element-copy-out-valid-port-3
     valid-port-requires
     returns
     add-q

@@ -27,7 +27,7 @@ Inv-loop rates routes base hops seen₀ i₀ seen i =
     (i ≤ hops)
     × (length seen ≡ portSlots)
     × (allTo i (passes rates routes base) ≡ true)
-    × Marked [] seen (sublist routes base i) 1
+    × Marked [] seen (sublist routes base i) (λ _. 1)
 
 abbrev μ-loop : tie.MeasureT-loop
 μ-loop rates routes base hops seen₀ i₀ seen i = hops - i
@@ -121,7 +121,7 @@ loop-again c =
       omega arith,
       simp length-set (at .loop .inv .1),
       allTo-next (at .loop .i) (passes (a .rates .now) (a .routes .now) (a .base)) (at .loop .inv .2) (rw (there, new)),
-      mark-next [] (at .loop .seen) (a .routes .now) (a .base) (at .loop .i) 1 1 (at .loop .inv .3) (omega arith) (omega arith) new refl,
+      mark-next [] (at .loop .seen) (a .routes .now) (a .base) (at .loop .i) (λ _. 1) 1 (at .loop .inv .3) (omega arith) (omega arith) new refl,
     )
 
 returns-5 : tie.Need-returns-5 Inv-loop μ-loop

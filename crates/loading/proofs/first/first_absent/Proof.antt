@@ -1,0 +1,30 @@
+-- `first_absent` meets its contract: routes first, then extra bytes.
+use mathlib.Core.Path.{sym, _∙_}
+use borrow.Author.Needs.{needs}
+use denote.Ref.{now}
+use Rattle.plan.specs.laws.Absent.{first-route, first-extra}
+use Rattle.loading.proofs.first.first_absent.Statement.{statement}
+use Rattle.loading.proofs.first.first_absent.Tie as tie
+
+first-field-requires : tie.Need-first-field-requires
+first-field-requires c κs = search needs
+
+returns : tie.Need-returns
+returns c =
+    let a = c .before .before .before .args in
+    let f = c .before .first-field .ensures in
+    f ∙ sym (first-route (now (a .rates)) (now (a .plan)) (rw f at (c .if1 .taken)))
+
+first-field-requires-2 : tie.Need-first-field-requires-2
+first-field-requires-2 c κs = search needs
+
+returns-2 : tie.Need-returns-2
+returns-2 c =
+    let a = c .before .before .before .before .args in
+    let f = c .before .before .first-field .ensures in
+    c .first-field2 .ensures ∙ sym (first-extra (now (a .rates)) (now (a .plan)) (rw f at (c .before .if1 .left)))
+
+pub first-absent-spec : {M : Type 1} → statement M
+first-absent-spec =
+    tie.close
+    (tie.spec first-field-requires returns first-field-requires-2 returns-2)
