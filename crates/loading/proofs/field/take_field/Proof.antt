@@ -24,19 +24,27 @@ held c =
     draftOf (c .args .totals) (now (c .args .rates)) (now (c .args .blockings)) (now (c .args .extras)) (now (c .args .periods)) (now (c .args .counts))
     (now (c .args .lengths)) (now (c .args .hops)) (now (c .args .routes)) (now (c .args .seen))
 
+-- the states on the way, each named once: past test 7, and the start from past test 6
+abbrev past-7 : tie.After-store-field-arg9 → tie.Else2
+past-7 c = c .before .before .before .before .before .before .before .before .before
+
+abbrev entry : tie.Else1 → tie.Start
+entry c = c .before .before .before .before
+
 -- the key was free
-free : (c : tie.Else1) → taken (held (c .before .before .before .before)) (fieldOf (c .before .before .before .before .args .x)) ≡ false
+free : (c : tie.Else1) → taken (held (entry c)) (fieldOf (entry c .args .x)) ≡ false
 free c = rw (← c .before .before .key-of .ensures) (le-ltb _ _ (c .if1 .left))
 
 -- the route's bytes that were split off are those of the field that was read
-route-read : (c : tie.After-route-bytes) → routePorts (now (c .route-bytes .result)) ≡ routeAt (now (c .before .before .before .before .before .before .args .plan)) (c .before .before .before .before .before .before .args .at)
+route-read : (c : tie.After-route-bytes) → routePorts (now (c .route-bytes .result)) ≡ routeAt (now (entry (c .before .before) .args .plan)) (entry (c .before .before) .args .at)
 unfolding routeIn
 route-read c =
-    let a = c .before .before .before .before .before .before in
+    let a = entry (c .before .before) in
     rw (c .route-bytes .ensures, c .before .field-value .ensures, part-whole _ _ (field-is-whole _ _ (fieldOf (a .args .x)) (a .args .next) (a .pre .2)))
 
 repeats-read : (c : tie.After-field-repeats) →
-    c .field-repeats .result ≡ fieldRepeats (fieldOf (c .before .before .before .before .before .before .before .args .x)) (routeAt (now (c .before .before .before .before .before .before .before .args .plan)) (c .before .before .before .before .before .before .before .args .at))
+    let a = entry (c .before .before .before) in
+    c .field-repeats .result ≡ fieldRepeats (fieldOf (a .args .x)) (routeAt (now (a .args .plan)) (a .args .at))
 repeats-read c = c .field-repeats .ensures ∙ rw (route-read (c .before))
 
 key-of-requires : tie.Need-key-of-requires
@@ -62,23 +70,28 @@ field-repeats-requires c κs = search needs
 
 returns-2 : tie.Need-returns-2
 returns-2 c =
-    let a = c .before .before .before .before .before .before .before .before in
+    let six = c .before .before .before .before in
+    let a = entry six in
     sym (step-repeats loose _ _ (held a) (fieldOf (a .args .x)) (a .args .next) (a .pre .2)
-    (free (c .before .before .before .before))
+    (free six)
     (sym (repeats-read (c .before)) ∙ c .if2 .taken))
 
 store-field-requires : tie.Need-store-field-requires
 store-field-requires c κs =
-    let a = c .before .before .before .before .before .before .before .before .before .before .before .before .before .before .before .before .before in
-    (a .pre .0, a .pre .1, found-numbers _ _ _ _ (a .pre .2), rw (route-read (c .before .before .before .before .before .before .before .before .before .before .before)) (found-route _ _ _ _ (a .pre .2)))
+    let route = past-7 c .before .before in
+    let a = entry (route .before .before) in
+    (a .pre .0, a .pre .1, found-numbers _ _ _ _ (a .pre .2), rw (route-read route) (found-route _ _ _ _ (a .pre .2)))
 
 returns-3 : tie.Need-returns-3
 returns-3 c =
-    let a = c .before .before .before .before .before .before .before .before .before .before .before .before .before .before .before .before .before .before in
-    rw (c .store-field .ensures, route-read (c .before .before .before .before .before .before .before .before .before .before .before .before))
+    let seven = past-7 (c .before) in
+    let route = seven .before .before in
+    let six = route .before .before in
+    let a = entry six in
+    rw (c .store-field .ensures, route-read route)
     (sym (step-added loose _ _ (held a) (fieldOf (a .args .x)) (a .args .next) (a .pre .2)
-    (free (c .before .before .before .before .before .before .before .before .before .before .before .before .before .before))
-    (sym (repeats-read (c .before .before .before .before .before .before .before .before .before .before .before)) ∙ c .before .before .before .before .before .before .before .before .before .before .if2 .left)))
+    (free six)
+    (sym (repeats-read (seven .before)) ∙ seven .if2 .left)))
 
 pub take-field-spec : {M : Type 1} → statement M
 take-field-spec =

@@ -37,10 +37,20 @@ abbrev μ-loop : tie.MeasureT-loop
 μ-loop planner plan rates₀ blockings₀ extras₀ periods₀ counts₀ lengths₀ hops₀ routes₀ seen₀ totals₀ at₀ rates blockings extras periods counts lengths hops routes seen totals at =
     length plan - at
 
+-- the states on the way, each named once: in a turn from where its columns are lent, the loop's from its end, and the start
+abbrev in-turn : tie.After-seen Inv-loop μ-loop → tie.In-loop Inv-loop μ-loop
+in-turn c = c .before .before .before .before .before .before .before .before .before
+
+abbrev at-last : tie.After-close Inv-loop μ-loop → tie.At-loop Inv-loop μ-loop
+at-last c = c .before .before .before .before
+
+abbrev entry : tie.At-loop Inv-loop μ-loop → tie.Start Inv-loop μ-loop
+entry c = c .before .before .before .before
+
 -- where a turn begins: the plan's bytes, the offset and the draft so far
 module _ (c : tie.At-loop Inv-loop μ-loop) where
   abbrev bytes : List ℕ
-  bytes = now (c .before .before .before .before .args .plan)
+  bytes = now (entry c .args .plan)
 
   abbrev here : ℕ
   here = c .loop .at
@@ -68,8 +78,11 @@ stepped-as c r =
 
 -- a turn that goes on, as the definition steps
 module _ (c : tie.After-known-told Inv-loop μ-loop) where
+  abbrev tested : tie.In-loop Inv-loop μ-loop
+  tested = in-turn (c .before .before .before .before)
+
   abbrev turn : tie.At-loop Inv-loop μ-loop
-  turn = c .before .before .before .before .before .before .before .before .before .before .before .before .before .before
+  turn = tested .before
 
   abbrev next : ℕ
   next = c .before .next .given .0 .0
@@ -87,9 +100,9 @@ module _ (c : tie.After-known-told Inv-loop μ-loop) where
   goes-on = onward loose (bytes turn) (here turn) (held turn) next read stepped
 
 -- all fields are read
-at-end : (c : tie.After-close Inv-loop μ-loop) → readPlan (bytes (c .before .before .before .before)) ≡ answerOf (held (c .before .before .before .before) .tables) (c .close .result)
+at-end : (c : tie.After-close Inv-loop μ-loop) → readPlan (bytes (at-last c)) ≡ answerOf (held (at-last c) .tables) (c .close .result)
 at-end c =
-    let l = c .before .before .before .before in
+    let l = at-last c in
     rest-read l
     ∙ read-end loose (bytes l) (here l) (held l) _ (c .before .before .before .loop-test .left)
     ∙ sym (c .close .ensures (held l .tables) refl)
@@ -109,7 +122,7 @@ loop-holds c = record { inside = omega arith; ports = omega arith; flows = omega
 
 step-requires : tie.Need-step-requires Inv-loop μ-loop
 step-requires c κs =
-    let l = c .before .before .before .before .before .before .before .before .before .before in
+    let l = in-turn c .before in
     let i = l .loop .inv in
     let most = within-high 1 maxBytes (length (bytes l)) (sized l) in
     (omega (arith, i .inside, i .ports, most), omega (arith, i .inside, i .flows, most))
@@ -128,7 +141,7 @@ loop-again c =
       inside = goes-on c .inside;
       ports = omega (arith, i .ports, goes-on c .ports, goes-on c .forward);
       flows = omega (arith, i .flows, goes-on c .flows, goes-on c .forward);
-      rest = i .rest ∙ read-more loose (bytes l) (here l) (held l) (c .before .before .before .before .before .before .before .before .before .before .before .before .before .loop-test .taken) (next c) (read c) (stepped c);
+      rest = i .rest ∙ read-more loose (bytes l) (here l) (held l) (tested c .loop-test .taken) (next c) (read c) (stepped c);
     }
 
 enum-known-fault : tie.Need-enum-known-fault Inv-loop μ-loop
@@ -136,10 +149,11 @@ enum-known-fault c = search needs
 
 returns-2 : tie.Need-returns-2 Inv-loop μ-loop
 returns-2 c =
-    let l = c .before .before .before .before .before .before .before .before .before .before .before .before .before .before in
+    let test = in-turn (c .before .before .before .before) in
+    let l = test .before in
     let e =
     rest-read l
-    ∙ read-stop loose (bytes l) (here l) (held l) (c .before .before .before .before .before .before .before .before .before .before .before .before .before .loop-test .taken) _ _
+    ∙ read-stop loose (bytes l) (here l) (held l) (test .loop-test .taken) _ _
     (sym (c .before .before .before .step .ensures) ∙ ap (stepped-as (c .before .before .before)) (c .before .fault .given .1)) in
     record { leaves = sym (refused-leaves _ (bytes l) _ _ e); answers = sym (refused-answer (bytes l) _ _ e) }
 
@@ -154,19 +168,21 @@ enum-told-2 c = search needs
 
 returns-3 : tie.Need-returns-3 Inv-loop μ-loop
 returns-3 c =
-    let s = bytes (c .before .before .before .before .before .before) in
+    let l = at-last (c .before .before) in
+    let s = bytes l in
     let e = at-end (c .before .before) ∙ ap (answerOf _) (c .enum-told .given .1) in
     record {
-      leaves = sym (accepted-leaves (planOf (c .before .before .before .before .before .before .before .before .before .before .args .planner)) s _ _ _ e);
+      leaves = sym (accepted-leaves (planOf (entry l .args .planner)) s _ _ _ e);
       answers = rw (c .enum-told .given .1) (sym (accepted-answer s _ _ _ e));
     }
 
 returns-4 : tie.Need-returns-4 Inv-loop μ-loop
 returns-4 c =
-    let s = bytes (c .before .before .before .before .before .before) in
+    let l = at-last (c .before .before) in
+    let s = bytes l in
     let e = at-end (c .before .before) ∙ ap (answerOf _) (c .enum-told2 .given .1) in
     record {
-      leaves = sym (refused-leaves (planOf (c .before .before .before .before .before .before .before .before .before .before .args .planner)) s _ _ e);
+      leaves = sym (refused-leaves (planOf (entry l .args .planner)) s _ _ e);
       answers = rw (c .enum-told2 .given .1) (sym (refused-answer s _ _ e));
     }
 
