@@ -11,6 +11,8 @@ pub const FLOWS: usize = numbers::limits::MAX_FLOW as usize;
 pub const STRIDE: usize = 16;
 
 mod valid; // valid.rt: whether the tables hold a plan that the rules accept
+mod ports; // ports.rt: the slots of the ports
+mod flows; // flows.rt: the slots of the flows
 
 pub use valid::valid_plan;
 pub use valid::valid_tables;

@@ -1,4 +1,4 @@
--- `tables::valid::valid_ports` meets its contract. The loop's invariant: every slot passed is valid.
+-- `tables::ports::valid_ports` meets its contract. The loop's invariant: every slot passed is valid.
 use mathlib.Core.Path.{_≡_, sym, _∙_}
 use mathlib.Core.Bool.{true}
 use mathlib.Core.List.{[]}
@@ -11,8 +11,8 @@ use Rattle.cqf.specs.Limits.{portSlots}
 use Rattle.cqf.specs.Plan.{validPort}
 use Rattle.cqf.specs.laws.Bounds.{allTo-next, allTo-false}
 use Rattle.tables.specs.Columns.{columns}
-use Rattle.tables.proofs.valid.valid_ports.Statement.{statement}
-use Rattle.tables.proofs.valid.valid_ports.Tie as tie
+use Rattle.tables.proofs.ports.valid_ports.Statement.{statement}
+use Rattle.tables.proofs.ports.valid_ports.Tie as tie
 
 abbrev Inv-loop : tie.InvT-loop
 Inv-loop rates blockings extras q₀ q = (q ≤ portSlots) × (allTo q (validPort (columns rates blockings extras [] [] [] [] [])) ≡ true)

@@ -1,4 +1,4 @@
--- `tables::valid::valid_route` meets its contract. The loop's invariant: every port passed is in the plan and new, and `seen`
+-- `tables::flows::valid_route` meets its contract. The loop's invariant: every port passed is in the plan and new, and `seen`
 -- has 1 for each of them.
 use mathlib.Core.Path.{_≡_, refl, sym, _∙_}
 use mathlib.Core.Bool.{Bool, true, false, not, _&&_, and-false}
@@ -14,8 +14,8 @@ use Rattle.cqf.specs.laws.Bounds.{allTo-next, allTo-false}
 use Rattle.cqf.specs.laws.Route.{route-test, portIn-low, portIn-high, portIn-absent, portIn-there}
 use Rattle.tables.specs.Columns.{Marked}
 use Rattle.tables.specs.laws.Marks.{mark-next, marked-new, marked-again}
-use Rattle.tables.proofs.valid.valid_route.Statement.{statement}
-use Rattle.tables.proofs.valid.valid_route.Tie as tie
+use Rattle.tables.proofs.flows.valid_route.Statement.{statement}
+use Rattle.tables.proofs.flows.valid_route.Tie as tie
 
 -- the test of the port at i of a route: it is in the plan, and stands nowhere before
 abbrev passes : List ℕ → List ℕ → ℕ → ℕ → Bool

@@ -1,4 +1,4 @@
--- `tables::valid::valid_flows` meets its contract. The loop's invariant: every slot passed is valid.
+-- `tables::flows::valid_flows` meets its contract. The loop's invariant: every slot passed is valid.
 use mathlib.Core.Path.{_≡_, sym, _∙_}
 use mathlib.Core.Bool.{true}
 use mathlib.Core.List.{[]}
@@ -11,8 +11,8 @@ use Rattle.cqf.specs.Limits.{flowSlots}
 use Rattle.cqf.specs.Plan.{validFlow}
 use Rattle.cqf.specs.laws.Bounds.{allTo-next, allTo-false}
 use Rattle.tables.specs.Columns.{columns}
-use Rattle.tables.proofs.valid.valid_flows.Statement.{statement}
-use Rattle.tables.proofs.valid.valid_flows.Tie as tie
+use Rattle.tables.proofs.flows.valid_flows.Statement.{statement}
+use Rattle.tables.proofs.flows.valid_flows.Tie as tie
 
 abbrev Inv-loop : tie.InvT-loop
 Inv-loop rates periods counts lengths hops routes f₀ f = (f ≤ flowSlots) × (allTo f (validFlow (columns rates [] [] periods counts lengths hops routes)) ≡ true)

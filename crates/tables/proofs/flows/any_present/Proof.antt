@@ -1,4 +1,4 @@
--- `tables::valid::any_present` meets its contract. The loop's invariant: no slot passed holds a flow.
+-- `tables::flows::any_present` meets its contract. The loop's invariant: no slot passed holds a flow.
 use mathlib.Core.Path.{_≡_, sym}
 use mathlib.Core.Bool.{false, and-false}
 use mathlib.Core.List.{[]}
@@ -14,8 +14,8 @@ use Rattle.cqf.specs.Plan.{present}
 use Rattle.cqf.specs.laws.Bounded.{anyTo-some}
 use Rattle.cqf.specs.laws.Bounds.{anyTo-next}
 use Rattle.tables.specs.Columns.{columns}
-use Rattle.tables.proofs.valid.any_present.Statement.{statement}
-use Rattle.tables.proofs.valid.any_present.Tie as tie
+use Rattle.tables.proofs.flows.any_present.Statement.{statement}
+use Rattle.tables.proofs.flows.any_present.Tie as tie
 
 abbrev Inv-loop : tie.InvT-loop
 Inv-loop periods f₀ f = (f ≤ flowSlots) × (anyTo f (present (columns [] [] [] periods [] [] [] [])) ≡ false)

@@ -1,10 +1,10 @@
--- `tables::valid::valid_port` meets its contract: each way out has decided the tests of a port's slot.
+-- `tables::ports::valid_port` meets its contract: each way out has decided the tests of a port's slot.
 use mathlib.Core.Path.{sym, _∙_}
 use mathlib.Core.Bool.{or-false, and-false}
 use borrow.Author.Needs.{needs}
 use borrow.Author.Tests.{ne-eqb, not-true, not-false}
-use Rattle.tables.proofs.valid.valid_port.Statement.{statement}
-use Rattle.tables.proofs.valid.valid_port.Tie as tie
+use Rattle.tables.proofs.ports.valid_port.Statement.{statement}
+use Rattle.tables.proofs.ports.valid_port.Tie as tie
 
 returns : tie.Need-returns
 returns c = simp (c .before .if1 .taken, ne-eqb _ _ (c .if2 .taken))

@@ -1,10 +1,10 @@
--- `tables::valid::flow_in_range` meets its contract: each way out has decided the tests before it.
+-- `tables::flows::flow_in_range` meets its contract: each way out has decided the tests before it.
 use mathlib.Core.Path.{_≡_, sym, _∙_}
 use mathlib.Core.Bool.{Bool, true, _&&_, and-false}
 use borrow.Author.Needs.{needs}
 use borrow.Author.Tests.{not-true, not-false}
-use Rattle.tables.proofs.valid.flow_in_range.Statement.{statement}
-use Rattle.tables.proofs.valid.flow_in_range.Tie as tie
+use Rattle.tables.proofs.flows.flow_in_range.Statement.{statement}
+use Rattle.tables.proofs.flows.flow_in_range.Tie as tie
 
 period-ok-requires : tie.Need-period-ok-requires
 period-ok-requires c κs = search needs

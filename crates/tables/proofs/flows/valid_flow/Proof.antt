@@ -1,4 +1,4 @@
--- `tables::valid::valid_flow` meets its contract: each way out has decided the tests of a flow's slot.
+-- `tables::flows::valid_flow` meets its contract: each way out has decided the tests of a flow's slot.
 use mathlib.Core.Path.{sym, _∙_}
 use mathlib.Core.List.{[]}
 use Prim.Native.Nat.{_≤_}
@@ -9,8 +9,8 @@ use borrow.Author.Needs.{needs}
 use Rattle.cqf.specs.Limits.{maxHops}
 use Rattle.cqf.specs.laws.Slot.{slot-count, slot-length, slot-hops, slot-range, slot-route, ranged-hops}
 use Rattle.tables.specs.Columns.{columns}
-use Rattle.tables.proofs.valid.valid_flow.Statement.{statement}
-use Rattle.tables.proofs.valid.valid_flow.Tie as tie
+use Rattle.tables.proofs.flows.valid_flow.Statement.{statement}
+use Rattle.tables.proofs.flows.valid_flow.Tie as tie
 
 -- where the function starts, from past the test of the ranges
 abbrev start : tie.Else4 → tie.Start
