@@ -14,6 +14,7 @@ pub mod Puts
 pub mod Tables
 pub mod Slots
 pub mod Drafts
+pub mod Optional
 pub mod Valid
 pub mod Commute
 pub mod Stored

@@ -6,6 +6,8 @@ ghost use Rattle.plan.specs.Answer.{faultNumber, headNumber};
 pub mod number; // number.rt: numbers of several bytes, high byte first
 pub mod split; // split.rt: a field's head, and its value as a part of the plan
 pub mod route; // route.rt: a flow's route
+pub mod ranges; // ranges.rt: the numbers of a field in their ranges, test 5
+pub mod optional; // optional.rt: fields that a plan may leave out
 pub mod read; // read.rt: a whole field, tests 2 to 5
 
 pub use number::first_number;

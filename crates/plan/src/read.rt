@@ -1,6 +1,5 @@
 // A whole field: tests 2 to 5.
 
-use crate::Extra;
 use crate::Fault;
 use crate::Field;
 use crate::FieldRead;
@@ -10,26 +9,18 @@ use crate::Header;
 use crate::Port;
 use crate::number::be16;
 use crate::number::be32;
+use crate::optional::extra_of;
+use crate::ranges::flow_in_range;
+use crate::ranges::header_in_range;
+use crate::ranges::port_in_range;
 use crate::route::hops_by_length;
 use crate::route::route_bytes;
 use crate::route::route_in_range;
 use crate::split::HEAD_SIZE;
 use crate::split::field_value;
 use crate::split::split_head;
-use numbers::limits::blocking_ok;
-use numbers::limits::count_ok;
-use numbers::limits::extra_ok;
-use numbers::limits::flow_ok;
-use numbers::limits::guard_ok;
-use numbers::limits::length_ok;
-use numbers::limits::period_ok;
-use numbers::limits::port_ok;
-use numbers::limits::rate_ok;
-use numbers::limits::top_ok;
 ghost use mathlib.Core.Path.{_≡_};
-ghost use mathlib.Core.Bool.{_&&_};
-ghost use Rattle.cqf.specs.Limits.{guardOk, topOk, portOk, rateOk, lengthOk, blockingOk, extraOk, flowOk, periodOk, countOk};
-ghost use Rattle.plan.specs.Field.{headerIn, portInValue, flowIn, extraIn, fieldIn, fieldAt};
+ghost use Rattle.plan.specs.Field.{headerIn, portInValue, flowIn, fieldIn, fieldAt};
 ghost use Rattle.plan.specs.Answer.{fieldReadOf};
 
 pub const HEADER_TAG: u8 = 1;
@@ -43,54 +34,6 @@ pub const EXTRA_TAG: u8 = 4;
 const HEADER_SIZE: usize = 8;
 
 const PORT_SIZE: usize = 8;
-
-const EXTRA_SIZE: usize = 4;
-
-fn header_in_range(x: Header) -> bool
-    ensures { λ r. ⌜ r ≡ (guardOk (x .guard) && topOk (x .top)) ⌝ }
-{
-    if !guard_ok(x.guard) {
-        return false;
-    }
-    top_ok(x.top)
-}
-
-fn port_in_range(x: Port) -> bool
-    ensures { λ r. ⌜ r ≡ (portOk (x .number) && rateOk (x .rate) && blockingOk (x .blocking)) ⌝ }
-{
-    if !port_ok(x.number) {
-        return false;
-    }
-    if !rate_ok(x.rate) {
-        return false;
-    }
-    blocking_ok(x.blocking)
-}
-
-// The numbers of a flow, without its route.
-fn flow_in_range(x: Flow) -> bool
-    ensures { λ r. ⌜ r ≡ (flowOk (x .number) && periodOk (x .period) && countOk (x .count) && lengthOk (x .length)) ⌝ }
-{
-    if !flow_ok(x.number) {
-        return false;
-    }
-    if !period_ok(x.period) {
-        return false;
-    }
-    if !count_ok(x.count) {
-        return false;
-    }
-    length_ok(x.length)
-}
-
-fn extra_in_range(x: Extra) -> bool
-    ensures { λ r. ⌜ r ≡ (portOk (x .number) && extraOk (x .extra)) ⌝ }
-{
-    if !port_ok(x.number) {
-        return false;
-    }
-    extra_ok(x.extra)
-}
 
 fn header_of(value: &[u8], at: usize, next: usize) -> FieldRead
     ensures { λ r. ⌜ fieldReadOf r ≡ headerIn (now (value .entry)) at next ⌝ }
@@ -175,31 +118,6 @@ fn flow_of(value: &[u8], at: usize, next: usize) -> FieldRead
     }
     FieldRead::Field {
         field: Field::Flow(x),
-        next,
-    }
-}
-
-fn extra_of(value: &[u8], at: usize, next: usize) -> FieldRead
-    ensures { λ r. ⌜ fieldReadOf r ≡ extraIn (now (value .entry)) at next ⌝ }
-{
-    if value.len() != EXTRA_SIZE {
-        return FieldRead::Refused {
-            fault: Fault::WrongLength,
-            offset: at,
-        };
-    }
-    let x = Extra {
-        number: be16(value, 0),
-        extra: be16(value, 2),
-    };
-    if !extra_in_range(x) {
-        return FieldRead::Refused {
-            fault: Fault::OutOfRange,
-            offset: at,
-        };
-    }
-    FieldRead::Field {
-        field: Field::Extra(x),
         next,
     }
 }

@@ -1,9 +1,9 @@
--- A draft stays valid with each field that is added to it.
-use mathlib.Core.Path.{_≡_, refl, sym, ap, _∙_}
+-- A draft stays valid with each header, port and flow that is added to it.
+use mathlib.Core.Path.{_≡_, refl, sym, _∙_}
 use mathlib.Core.Logic.{_≢_, _⊎_, inl, inr}
 use mathlib.Core.List.{List}
 use mathlib.Core.Bool.{true, true≢false}
-use Prim.Native.Nat.{ℕ, suc, _-_, _≤_, _<_}
+use Prim.Native.Nat.{ℕ, _-_, _≤_, _<_}
 use native.Mathlib.Nat.{add-zero}
 use native.Mathlib.Omega.{arith}
 use native.Mathlib.Decide.{ℕ-discrete}
@@ -12,14 +12,14 @@ use lib.Seq.{getD-set-same, getD-set-other}
 use borrow.Author.Tests.{lt-ltb}
 use Rattle.cqf.specs.Bounded.{every, distinct}
 use Rattle.cqf.specs.Limits.{portSlots, flowSlots, maxHops, guardOk, topOk}
-use Rattle.cqf.specs.Plan.{Plan, noPlan, periodOf, routeOf, extraOf, present, portIn}
-use Rattle.plan.specs.Field.{Field, header, port, flow, extra}
+use Rattle.cqf.specs.Plan.{Plan, noPlan, periodOf, routeOf, present, portIn}
+use Rattle.plan.specs.Field.{Field, header, port, flow}
 use Rattle.plan.specs.Key.{headerKey, keyOf}
 use Rattle.plan.specs.Store.{store}
 use Rattle.plan.specs.Draft.{Draft, blank, hasKey, added}
-use Rattle.plan.specs.Ranges.{HeaderOk, PortOk, FlowOk, ExtraOk, RouteOk}
+use Rattle.plan.specs.Ranges.{HeaderOk, PortOk, FlowOk, RouteOk}
 use Rattle.plan.specs.laws.Within.{within-low, within-high, slot-below}
-use Rattle.plan.specs.laws.Slots.{validRate, validExtra, validIn, valid-hops, rate-kept, extra-kept, flow-kept, rate-filled, extra-filled, flow-filled}
+use Rattle.plan.specs.laws.Slots.{validRate, validExtra, validIn, valid-hops, rate-kept, flow-kept, rate-filled, flow-filled}
 use Rattle.plan.specs.laws.Tables
 use Rattle.plan.specs.laws.Tables.{Sized, sized-none, sized-store}
 
@@ -47,7 +47,7 @@ blank-valid rates =
     }
 
 -- a field of another key leaves the header's flag
-header-flag : (d : Draft) (x : Field) (r : List ℕ) → keyOf x ≢ headerKey → hasKey (added d x r) headerKey ≡ hasKey d headerKey
+pub header-flag : (d : Draft) (x : Field) (r : List ℕ) → keyOf x ≢ headerKey → hasKey (added d x r) headerKey ≡ hasKey d headerKey
 unfolding added
 header-flag d x r ne = rw (getD-set-other (d .seen) (keyOf x) headerKey 1 0 (λ e. ne (sym e)))
 
@@ -106,40 +106,6 @@ port-valid rates d n rate b r ok s =
         (getD-set-other (p .rates) (n - 1) q rate 0 ne)
         (getD-set-other (p .blockings) (n - 1) q b 0 ne)
         (s .ports q l)
-
--- extra bytes of a port of the plan
-pub extra-valid
-    : (rates : List ℕ) (d : Draft) (n b : ℕ) (r : List ℕ)
-    → ExtraOk n b
-    → portIn rates n ≡ true
-    → ValidDraft rates d
-    → ValidDraft rates (added d (extra n b) r)
-unfolding added store validRate validIn
-extra-valid rates d n b r ok named s =
-    record {
-      sized = sized-store (d .tables) (extra n b) r (s .sized);
-      guard = s .guard;
-      top = λ e. s .top (sym (header-flag d (extra n b) r (omega arith)) ∙ e);
-      ports = s .ports;
-      extras = λ q l. slot q l (ℕ-discrete q (n - 1));
-      flows = s .flows;
-      some = rw add-zero (s .some);
-    }
-  where
-    o : Plan
-    o = store (d .tables) (extra n b) r
-
-    new : validExtra rates o (n - 1) ≡ true
-    new =
-        let fits : n - 1 < portSlots = slot-below portSlots n (ok .number) in
-        let own : suc (n - 1) ≡ n = omega (arith, within-low 1 portSlots n (ok .number)) in
-        extra-filled rates o (n - 1)
-        (rw (getD-set-same (d .tables .extras) (n - 1) b 0 (rw (s .sized .extras) fits)) (ok .bytes))
-        (ap (portIn rates) own ∙ named)
-
-    slot : (q : ℕ) → q < portSlots → Dec (q ≡ n - 1) → validExtra rates o q ≡ true
-    slot q l (yes e) = rw e new
-    slot q l (no ne) = extra-kept rates (d .tables) o q (getD-set-other (d .tables .extras) (n - 1) q b 0 ne) (s .extras q l)
 
 -- and a flow over distinct ports of the plan
 pub flow-valid

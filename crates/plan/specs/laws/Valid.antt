@@ -19,7 +19,8 @@ use Rattle.plan.specs.laws.Passes.{Passes, field-is-whole, field-passes,
 use Rattle.plan.specs.laws.Slots.{validIn, port-whole}
 use Rattle.plan.specs.laws.Walk.{Reads, done, one, accepted-reads, closing-accepted}
 use Rattle.plan.specs.laws.Absent.{PortsThere, AllThere, all-there, there-front, there-route, there-extra}
-use Rattle.plan.specs.laws.Drafts.{ValidDraft, blank-valid, header-valid, port-valid, extra-valid, flow-valid}
+use Rattle.plan.specs.laws.Drafts.{ValidDraft, blank-valid, header-valid, port-valid, flow-valid}
+use Rattle.plan.specs.laws.Optional.{extra-valid}
 
 -- a field of the walk keeps the draft valid
 field-valid

@@ -7,8 +7,8 @@ use denote.Ref.{now}
 use Rattle.cqf.specs.Limits.{portOk, extraOk}
 use Rattle.plan.specs.Bytes.{number2}
 use Rattle.plan.specs.laws.Tested.{extra-length, extra-range, extra-read}
-use Rattle.plan.proofs.read.extra_of.Statement.{statement}
-use Rattle.plan.proofs.read.extra_of.Tie as tie
+use Rattle.plan.proofs.optional.extra_of.Statement.{statement}
+use Rattle.plan.proofs.optional.extra_of.Tie as tie
 
 -- the numbers that were tested are those in the value
 tested : (c : tie.After-extra-in-range) →

@@ -2,8 +2,8 @@
 use mathlib.Core.Path.{sym, _∙_}
 use borrow.Author.Needs.{needs}
 use borrow.Author.Tests.{not-true, not-false}
-use Rattle.plan.proofs.read.extra_in_range.Statement.{statement}
-use Rattle.plan.proofs.read.extra_in_range.Tie as tie
+use Rattle.plan.proofs.ranges.extra_in_range.Statement.{statement}
+use Rattle.plan.proofs.ranges.extra_in_range.Tie as tie
 
 port-ok-requires : tie.Need-port-ok-requires
 port-ok-requires c κs = search needs
