@@ -12,7 +12,7 @@
 extern "C" {
 #endif
 
-/* Plain data, 6,856 bytes. Keep it as the last call left it; do not look inside. */
+/* Plain data, 7,880 bytes. Keep it as the last call left it; do not look inside. */
 typedef struct {
   uint32_t guard, top;
   uint32_t rates[64];
@@ -20,6 +20,7 @@ typedef struct {
   uint8_t extras[64];
   uint32_t periods[256];
   uint16_t counts[256], lengths[256];
+  uint32_t jitters[256];
   uint8_t hops[256], routes[4096];
 } cp_planner;
 
@@ -47,9 +48,9 @@ cp_slack_answer cp_slack(cp_planner planner, uint64_t port, uint64_t duration);
 cp_answer cp_least(cp_planner planner, uint64_t *scratch, size_t length);
 cp_answer cp_margin_safe(cp_planner planner, uint64_t *scratch, size_t length);
 
-/* The field at an offset of a plan, by tests 2 to 5. Result: tag 1 to 4; offset = the one after the field; numbers:
+/* The field at an offset of a plan, by tests 2 to 5. Result: tag 1 to 5; offset = the one after the field; numbers:
  * 1, header: guard, top; 2, port: number, rate, blocker; 3, flow: number, period, count, length, hops; 4, extra bytes per
- * frame at a port: port number, extra bytes; 0 in the others.
+ * frame at a port: port number, extra bytes; 5, release jitter of a flow: flow number, jitter; 0 in the others.
  * Refusal 2 to 5: offset = the one asked, tag and numbers 0. */
 cp_field_read cp_field(const uint8_t *plan, size_t length, size_t offset);
 

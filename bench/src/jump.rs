@@ -39,7 +39,7 @@ pub fn demands<const CHECKED: bool>(planner: &Planner, duration: u64, out: &mut 
     for slot in 0..FLOWS {
         let period = planner.periods[slot];
         if period != 0 {
-            let begun = (at + (period - 1)) / period;
+            let begun = (at + planner.jitters[slot] + (period - 1)) / period;
             let frames = planner.counts[slot] as u64 * begun as u64;
             add_route::<CHECKED>(planner, slot, frames, out);
         }

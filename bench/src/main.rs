@@ -6,6 +6,7 @@ mod answers;
 #[allow(dead_code)]
 #[path = "../../tests/outside/src/ffi.rs"]
 mod ffi;
+mod bytes;
 mod found;
 mod jump;
 mod plans;

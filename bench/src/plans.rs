@@ -36,6 +36,18 @@ fn flow(plan: &mut Vec<u8>, number: u16, period: u32, length: u16, route: &[u16]
     plan.extend(route.iter().flat_map(|port| port.to_be_bytes()));
 }
 
+fn extra(plan: &mut Vec<u8>, number: u16, extra: u16) {
+    plan.extend([4, 0, 4]);
+    plan.extend(number.to_be_bytes());
+    plan.extend(extra.to_be_bytes());
+}
+
+fn jitter(plan: &mut Vec<u8>, number: u16, jitter: u32) {
+    plan.extend([5, 0, 6]);
+    plan.extend(number.to_be_bytes());
+    plan.extend(jitter.to_be_bytes());
+}
+
 pub fn k() -> Vec<u8> {
     let mut plan = Vec::new();
     header(&mut plan, 1_000, 1_000_000);
@@ -69,6 +81,15 @@ fn large(load: f64) -> Vec<u8> {
         port(&mut plan, number, rate as u32, if number % 2 == 0 { 1_500 } else { 0 });
     }
     plan.extend(flows);
+    plan
+}
+
+/// A large plan whose flows all have jitter, up to 20,000 ns.
+fn late(load: f64) -> Vec<u8> {
+    let mut plan = large(load);
+    for number in 1..=256 {
+        jitter(&mut plan, number, u32::from(number) * 7_919 % 20_001);
+    }
     plan
 }
 
@@ -136,6 +157,7 @@ pub fn searches() -> Vec<Case> {
         case("large-60", large(0.6), 2_000, BOTH),
         case("large-90", large(0.9), 2_000, BOTH),
         case("large-99.9", large(0.999), 2_000, BOTH),
+        case("late-90", late(0.9), 2_000, BOTH),
         case("one-flow", one_flow(), 20_000, &["least"]),
         case("149-flows", spread(), 5_000, &["least"]),
         case("up-one-port", found_ports(1, found::UP), 5_000, &["least"]),
@@ -146,10 +168,13 @@ pub fn searches() -> Vec<Case> {
     ]
 }
 
-/// The plans whose load is measured: the last two differ in the field of port 64, which the last lacks (refusal 9).
+/// The plans whose load is measured. The second and third differ in the field of port 64, which the third lacks (refusal 9); the
+/// last has jitter for every flow and extra bytes for every port too.
 pub fn loads() -> Vec<(&'static str, Vec<u8>)> {
     let longest = large(0.6);
     let port_64 = 11 + 63 * 11;
     let lacking = [&longest[..port_64], &longest[port_64 + 11..]].concat();
-    vec![("K", k()), ("longest", longest), ("longest-lacking", lacking)]
+    let mut every_field = late(0.6);
+    (1..=64).for_each(|number| extra(&mut every_field, number, number));
+    vec![("K", k()), ("longest", longest), ("longest-lacking", lacking), ("every-field", every_field)]
 }

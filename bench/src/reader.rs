@@ -1,53 +1,20 @@
 //! The load in safe Rust: a plan's bytes read into fresh tables, by tests 1 to 9 of the papers in their order. SETS says whether
 //! sets of ports are bits of a number, so that test 7 looks at each port of a route once and test 9 walks the fields again only
-//! where it refuses; otherwise both tests go port by port.
+//! where it refuses; otherwise both tests go port by port. Which flows have a field of jitter is a set of bits either way.
 
 use crate::answers::{Answer, Planner};
-use crate::jump::{FLOWS, MAX_HOPS, PORTS};
-use std::ops::Range;
+use crate::bytes::{be16, be32, bit, in_range, ports, repeats, slot_of, split, FlowSet, HEAD};
+use crate::jump::{FLOWS, MAX_HOPS};
 
 const MAX_BYTES: usize = 16_384;
-const HEAD: usize = 3;
 const FLOW_NUMBERS: usize = 10;
+const MAX_JITTER: u32 = 10_000_000;
 
 /// Laid out as the C header says.
 #[repr(C)]
 pub struct Loaded {
     pub planner: Planner,
     pub answer: Answer,
-}
-
-fn be16(bytes: &[u8], at: usize) -> u16 {
-    u16::from_be_bytes([bytes[at], bytes[at + 1]])
-}
-
-fn be32(bytes: &[u8], at: usize) -> u32 {
-    u32::from_be_bytes([bytes[at], bytes[at + 1], bytes[at + 2], bytes[at + 3]])
-}
-
-/// The tag and the value of the field at an offset; none where it is cut short (test 2).
-fn split(plan: &[u8], offset: usize) -> Option<(u8, &[u8])> {
-    let rest = &plan[offset..];
-    let head = rest.get(..HEAD)?;
-    Some((head[0], rest[HEAD..].get(..be16(head, 1) as usize)?))
-}
-
-/// A port's bit in a set of ports.
-fn bit(port: u16) -> u64 {
-    1 << (port - 1)
-}
-
-fn ports(route: &[u8]) -> impl Iterator<Item = u16> + '_ {
-    route.chunks_exact(2).map(|bytes| be16(bytes, 0))
-}
-
-fn in_range(port: u16) -> bool {
-    (1..=PORTS as u16).contains(&port)
-}
-
-/// Test 7 port by port.
-fn repeats(route: &[u8]) -> bool {
-    ports(route).enumerate().any(|(at, port)| ports(&route[2 * at + 2..]).any(|later| later == port))
 }
 
 struct Draft<'a> {
@@ -59,6 +26,9 @@ struct Draft<'a> {
     named: u64,
     /// Ports that have a field of extra bytes.
     lengthened: u64,
+    /// Flows that have a field of jitter, and flows that have a field of their own.
+    delayed: FlowSet,
+    emitting: FlowSet,
 }
 
 impl Draft<'_> {
@@ -109,6 +79,20 @@ impl Draft<'_> {
         Ok(())
     }
 
+    fn jitter(&mut self, value: &[u8]) -> Result<(), u32> {
+        let value: &[u8; 6] = value.try_into().map_err(|_| 4u32)?;
+        let (number, jitter) = (be16(value, 0), be32(value, 2));
+        if !(1..=FLOWS as u16).contains(&number) || jitter > MAX_JITTER {
+            return Err(5);
+        }
+        if self.delayed.has(slot_of(number)) {
+            return Err(6);
+        }
+        self.delayed.add(slot_of(number));
+        self.tables.jitters[slot_of(number)] = jitter;
+        Ok(())
+    }
+
     fn flow<const SETS: bool>(&mut self, value: &[u8]) -> Result<(), u32> {
         let route = value.get(FLOW_NUMBERS..).ok_or(4u32)?;
         let hops = route.len() / 2;
@@ -124,7 +108,7 @@ impl Draft<'_> {
         {
             return Err(5);
         }
-        let slot = number as usize - 1;
+        let slot = slot_of(number);
         let (mut seen, mut repeated) = (0, false);
         let stored = &mut self.tables.routes[slot * MAX_HOPS..][..hops];
         for (stored, port) in stored.iter_mut().zip(ports(route)) {
@@ -135,7 +119,7 @@ impl Draft<'_> {
             seen |= bit(port);
             *stored = port as u8;
         }
-        if self.tables.periods[slot] != 0 {
+        if self.emitting.has(slot) {
             return Err(6);
         }
         let repeated = if SETS { repeated } else { repeats(route) };
@@ -144,6 +128,7 @@ impl Draft<'_> {
         }
         self.named |= seen;
         self.flows += 1;
+        self.emitting.add(slot);
         self.tables.periods[slot] = period;
         self.tables.counts[slot] = count;
         self.tables.lengths[slot] = length;
@@ -152,13 +137,12 @@ impl Draft<'_> {
     }
 }
 
-/// The first field of a tag that names a port not among those present, in the numbers of 2 bytes from a place in its value on.
-fn first_absent(plan: &[u8], present: u64, wanted: u8, named: Range<usize>) -> Option<usize> {
+/// The first field of a tag whose value is as sought.
+fn first_field(plan: &[u8], wanted: u8, sought: impl Fn(&[u8]) -> bool) -> Option<usize> {
     let mut offset = 0;
     while offset < plan.len() {
         let (tag, value) = split(plan, offset)?;
-        let named = named.start..named.end.min(value.len());
-        if tag == wanted && ports(&value[named]).any(|port| present & bit(port) == 0) {
+        if tag == wanted && sought(value) {
             return Some(offset);
         }
         offset += HEAD + value.len();
@@ -166,12 +150,21 @@ fn first_absent(plan: &[u8], present: u64, wanted: u8, named: Range<usize>) -> O
     None
 }
 
+/// Test 9: the first field that names an absent port or flow, routes before jitter before extra bytes.
+fn first_absent(plan: &[u8], draft: &Draft) -> Option<usize> {
+    let absent = |port: u16| draft.present & bit(port) == 0;
+    first_field(plan, 3, |value| ports(&value[FLOW_NUMBERS..]).any(absent))
+        .or_else(|| first_field(plan, 5, |value| !draft.emitting.has(slot_of(be16(value, 0)))))
+        .or_else(|| first_field(plan, 4, |value| absent(be16(value, 0))))
+}
+
 /// The numbers of port and flow fields, or the refusal and its offset. A refusal leaves the tables half filled.
 fn read<const SETS: bool>(plan: &[u8], tables: &mut Planner) -> Result<(u64, u64), (u32, usize)> {
     if plan.is_empty() || plan.len() > MAX_BYTES {
         return Err((1, 0));
     }
-    let mut draft = Draft { tables, ports: 0, flows: 0, present: 0, named: 0, lengthened: 0 };
+    let (delayed, emitting) = Default::default();
+    let mut draft = Draft { tables, ports: 0, flows: 0, present: 0, named: 0, lengthened: 0, delayed, emitting };
     let mut offset = 0;
     while offset < plan.len() {
         let (tag, value) = split(plan, offset).ok_or((2, offset))?;
@@ -180,6 +173,7 @@ fn read<const SETS: bool>(plan: &[u8], tables: &mut Planner) -> Result<(u64, u64
             2 => draft.port(value),
             3 => draft.flow::<SETS>(value),
             4 => draft.extra(value),
+            5 => draft.jitter(value),
             _ => Err(3),
         };
         taken.map_err(|refusal| (refusal, offset))?;
@@ -188,9 +182,9 @@ fn read<const SETS: bool>(plan: &[u8], tables: &mut Planner) -> Result<(u64, u64
     if draft.tables.top == 0 || draft.flows == 0 {
         return Err((8, plan.len()));
     }
-    if !SETS || (draft.named | draft.lengthened) & !draft.present != 0 {
-        let astray = first_absent(plan, draft.present, 3, FLOW_NUMBERS..usize::MAX);
-        if let Some(offset) = astray.or_else(|| first_absent(plan, draft.present, 4, 0..2)) {
+    let ports_known = (draft.named | draft.lengthened) & !draft.present == 0;
+    if !SETS || !ports_known || !draft.delayed.within(&draft.emitting) {
+        if let Some(offset) = first_absent(plan, &draft) {
             return Err((9, offset));
         }
     }

@@ -25,13 +25,15 @@ fn valid_route(planner: &Planner, slot: usize, hops: usize) -> bool {
 
 fn valid_flow(planner: &Planner, slot: usize) -> bool {
     let (period, count) = (planner.periods[slot], planner.counts[slot]);
-    let (length, hops) = (planner.lengths[slot], planner.hops[slot] as usize);
+    let (length, jitter) = (planner.lengths[slot], planner.jitters[slot]);
+    let hops = planner.hops[slot] as usize;
     if period == 0 {
-        return count == 0 && length == 0 && hops == 0;
+        return count == 0 && length == 0 && jitter == 0 && hops == 0;
     }
     (1_000..=100_000_000).contains(&period)
         && (1..=64).contains(&count)
         && (64..=2_000).contains(&length)
+        && jitter <= 10_000_000
         && (1..=MAX_HOPS).contains(&hops)
         && valid_route(planner, slot, hops)
 }

@@ -1,62 +1,12 @@
 /* Every function of the header on plan K (document 01, "Plan K and its neighbours"): each field of each struct that comes back, and
  * each number of the lent scratch, against its expected value. Prints what differs; exit status 1 where something does. */
-#include "same.h"
-#include <string.h>
+#include "k.h"
+#include "later.h"
 
-_Static_assert(sizeof(cp_planner) == 6856, "a planner has 6,856 bytes");
+_Static_assert(sizeof(cp_planner) == 7880, "a planner has 7,880 bytes");
 _Static_assert(offsetof(cp_planner, extras) == 392, "extra bytes come after the blockers");
-_Static_assert(offsetof(cp_load_outcome, answer) == 6856, "a load's answer comes after the planner");
-
-static const uint8_t K[52] = {
-    0x01, 0x00, 0x08, 0x00, 0x00, 0x03, 0xE8, 0x00, 0x0F, 0x42, 0x40,
-    0x02, 0x00, 0x08, 0x00, 0x01, 0x00, 0x00, 0x00, 0x64, 0x00, 0x00,
-    0x03, 0x00, 0x0C, 0x00, 0x01, 0x00, 0x01, 0x86, 0xA0, 0x00, 0x01, 0x00, 0xE6, 0x00, 0x01,
-    0x03, 0x00, 0x0C, 0x00, 0x02, 0x00, 0x01, 0xAD, 0xB0, 0x00, 0x01, 0x02, 0x5D, 0x00, 0x01,
-};
-/* Offsets in K: its top, the port's blocker, the fields after the header. */
-enum { TOP_AT = 7, PORT_AT = 11, BLOCKER_AT = 20, FLOW_1_AT = 22, FLOW_2_AT = 37 };
-/* Length of a scratch, 3 numbers more than a search writes. */
-enum { SCRATCH = 67 };
-
-/* What a planner holds after K: port 1 in slot 0, flows 1 and 2 in slots 0 and 1, routes 16 apart. */
-static cp_planner planner_of_k(void) {
-  cp_planner k;
-  memset(&k, 0, sizeof k);
-  k.guard = 1000;
-  k.top = 1000000;
-  k.rates[0] = 100;
-  k.periods[0] = 100000;
-  k.periods[1] = 110000;
-  k.counts[0] = k.counts[1] = 1;
-  k.lengths[0] = 230;
-  k.lengths[1] = 605;
-  k.hops[0] = k.hops[1] = 1;
-  k.routes[0] = k.routes[16] = 1;
-  return k;
-}
-
-/* A load's answer and the planner that it gives back. */
-static cp_planner loaded(const char *call, cp_planner before, const uint8_t *plan, size_t length, cp_answer want, cp_planner left) {
-  cp_load_outcome got = cp_load(before, plan, length);
-  same_answer(call, got.answer, want);
-  same_planner(call, got.planner, left);
-  return got.planner;
-}
-
-/* A duration with the plain question's refusal and the spare of port 1. */
-typedef struct { uint64_t duration; uint32_t refusal; int64_t slack; } row;
-
-static void rows(const char *plan, cp_planner planner, const row *table, size_t count) {
-  for (; count > 0; table++, count--) {
-    char call[64];
-    uint64_t fails = table->refusal == 21;
-    snprintf(call, sizeof call, "cp_check of %s at %" PRIu64, plan, table->duration);
-    same_answer(call, cp_check(planner, table->duration), answer(table->refusal, fails, fails));
-    snprintf(call, sizeof call, "cp_slack of %s, port 1 at %" PRIu64, plan, table->duration);
-    same_slack(call, cp_slack(planner, 1, table->duration), table->refusal == 10 ? 10 : 0, table->slack);
-  }
-  same_slack("cp_slack of a port not in K", cp_slack(planner, 2, 72000), 24, 0);
-}
+_Static_assert(offsetof(cp_planner, jitters) == 2504, "jitters come after the frame lengths");
+_Static_assert(offsetof(cp_load_outcome, answer) == 7880, "a load's answer comes after the planner");
 
 /* The rows of K's table. */
 static void rows_of_k(cp_planner k) {
@@ -66,20 +16,6 @@ static void rows_of_k(cp_planner k) {
       {1000, 21, -7000000},   {0, 10, 0},             {1000001, 10, 0},
   };
   rows("K", k, table, sizeof table / sizeof table[0]);
-}
-
-typedef cp_answer (*search)(cp_planner planner, uint64_t *scratch, size_t length);
-
-/* A search on a scratch whose numbers were 1000 + position: the first 64 become port 1's demand and 0s, or nothing changes. */
-static void searched(const char *call, search ask, cp_planner planner, size_t length, cp_answer want, uint64_t demand) {
-  uint64_t scratch[SCRATCH];
-  int writes = want.refusal != 11 && want.refusal != 20;
-  for (size_t slot = 0; slot < SCRATCH; slot++) scratch[slot] = 1000 + slot;
-  same_answer(call, ask(planner, scratch, length), want);
-  for (size_t slot = 0; slot < SCRATCH; slot++) {
-    uint64_t expected = !writes || slot >= 64 ? 1000 + slot : slot == 0 ? demand : 0;
-    same_slot(call, "scratch", slot, scratch[slot], expected);
-  }
 }
 
 static void searches(cp_planner empty, cp_planner k) {
@@ -130,37 +66,6 @@ static void uncrossed_port(cp_planner k) {
   same_slack("cp_slack of port 2, not crossed", cp_slack(k, 2, 72000), 24, 0);
 }
 
-/* K and then so many bytes of a field for extra bytes at port 1 (tag 4). */
-static cp_planner lengthened(const char *call, cp_planner before, uint8_t extra, size_t bytes, cp_answer want, cp_planner left) {
-  const uint8_t field[] = {0x04, 0x00, 0x04, 0x00, 0x01, 0x00, extra};
-  uint8_t plan[sizeof K + sizeof field];
-  memcpy(plan, K, sizeof K);
-  memcpy(plan + sizeof K, field, sizeof field);
-  return loaded(call, before, plan, sizeof K + bytes, want, left);
-}
-
-static void extra_bytes(cp_planner k) {
-  static const row table[] = {
-      {77119, 21, -100},      {77120, 0, 0},         {110000, 0, 1032000},   {110001, 21, -4223900}, {152239, 21, -100},
-      {152240, 0, 0},         {220000, 0, 4520000},  {220001, 21, -735900},  {227359, 21, -100},     {227360, 0, 0},
-      {1000000, 0, 24680000}, {1000, 21, -7512000},  {0, 10, 0},             {1000001, 10, 0},
-  };
-  cp_planner left = planner_of_k();
-  left.extras[0] = 32;
-  k = lengthened("cp_load of K with 32 extra bytes", k, 32, 7, answer(0, 1, 2), left);
-  rows("K with 32 extra bytes", k, table, sizeof table / sizeof table[0]);
-  searched("cp_least of K with 32 extra bytes", cp_least, k, SCRATCH, answer(0, 77120, 0), 7512);
-  searched("cp_margin_safe of K with 32 extra bytes", cp_margin_safe, k, SCRATCH, answer(0, 227360, 0), 22536);
-  k = lengthened("cp_load of K with 65 extra bytes", k, 65, 7, answer(5, sizeof K, 0), left);
-  k = lengthened("cp_load of K with extra bytes cut short", k, 32, 6, answer(2, sizeof K, 0), left);
-  lengthened("cp_load of K with 0 extra bytes", k, 0, 7, answer(0, 1, 2), planner_of_k());
-  left.extras[1] = 1;
-  same_answer("cp_check, extra bytes at an absent port", cp_check(left, 77120), answer(20, 0, 0));
-  left = planner_of_k();
-  left.extras[0] = 65;
-  same_answer("cp_check, 65 extra bytes", cp_check(left, 1000000), answer(20, 0, 0));
-}
-
 static void field_of(const char *call, const uint8_t *plan, size_t length, size_t offset, cp_field_read want) {
   cp_field_read got = cp_field(plan, length, offset);
   same(call, "refusal", got.refusal, want.refusal);
@@ -175,6 +80,7 @@ static void field(const char *call, size_t length, size_t offset, cp_field_read 
 
 static void fields(void) {
   static const uint8_t extra[] = {0x04, 0x00, 0x04, 0x00, 0x40, 0x00, 0x20};
+  static const uint8_t jitter_256[] = {0x05, 0x00, 0x06, 0x01, 0x00, 0x00, 0x98, 0x96, 0x80};
   static const uint8_t twice[] = {0, 1, 0, 1, 0x86, 0xA0, 0, 1, 0, 0xE6, 0, 1, 0, 2, 0, 1};
   field("cp_field of K's header", sizeof K, 0, (cp_field_read){.tag = 1, .offset = PORT_AT, .numbers = {1000, 1000000}});
   field("cp_field of K's port", sizeof K, PORT_AT, (cp_field_read){.tag = 2, .offset = FLOW_1_AT, .numbers = {1, 100}});
@@ -186,6 +92,8 @@ static void fields(void) {
   field("cp_field at byte 2 of K", sizeof K, 2, (cp_field_read){.refusal = 3, .offset = 2});
   field_of("cp_field of 32 extra bytes at port 64", extra, sizeof extra, 0,
            (cp_field_read){.tag = 4, .offset = sizeof extra, .numbers = {64, 32}});
+  field_of("cp_field of jitter 10,000,000 of flow 256", jitter_256, sizeof jitter_256, 0,
+           (cp_field_read){.tag = 5, .offset = sizeof jitter_256, .numbers = {256, 10000000}});
   same("cp_repeats of ports 1, 2, 1", "the answer", cp_repeats(twice, sizeof twice), 1);
   same("cp_repeats of ports 1, 2", "the answer", cp_repeats(twice, sizeof twice - 2), 0);
   same("cp_repeats of K's flow 2", "the answer", cp_repeats(K + FLOW_2_AT + 3, 12), 0);
@@ -208,6 +116,7 @@ int main(void) {
   neighbours(k);
   uncrossed_port(k);
   extra_bytes(k);
+  jitter(k);
   fields();
   printf("header: %u passed, %u failed\n", passed, failed);
   return failed != 0;

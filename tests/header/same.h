@@ -34,6 +34,7 @@ static void same_planner(const char *call, cp_planner got, cp_planner want) {
   SAME_TABLE(call, periods, got, want);
   SAME_TABLE(call, counts, got, want);
   SAME_TABLE(call, lengths, got, want);
+  SAME_TABLE(call, jitters, got, want);
   SAME_TABLE(call, hops, got, want);
   SAME_TABLE(call, routes, got, want);
 }

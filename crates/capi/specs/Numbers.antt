@@ -3,7 +3,7 @@ use Prim.Native.Nat.{ℕ}
 use mathlib.Core.List.{List, [], _∷_}
 use lib.IntN.{ℤ, pos}
 use Rattle.loading.specs.Outcome.{Answer, result, refusal, Fields}
-use Rattle.plan.specs.Field.{header, port, flow, extra, FieldRead, field, refused, headerTag, portTag, flowTag, extraTag}
+use Rattle.plan.specs.Field.{header, port, flow, extra, jitter, FieldRead, field, refused, headerTag, portTag, flowTag, extraTag, jitterTag}
 use Rattle.capi.specs.declared.AnswerNumbers.{AnswerNumbers}
 use Rattle.capi.specs.declared.SlackAnswerNumbers.{SlackAnswerNumbers}
 use Rattle.capi.specs.declared.FieldReadNumbers.{FieldReadNumbers}
@@ -42,4 +42,5 @@ fieldNumbers (field (header g t) next) = record { refusal = 0; tag = headerTag; 
 fieldNumbers (field (port n r b) next) = record { refusal = 0; tag = portTag; offset = next; numbers = n ∷ r ∷ b ∷ 0 ∷ 0 ∷ [] }
 fieldNumbers (field (flow n p c l h) next) = record { refusal = 0; tag = flowTag; offset = next; numbers = n ∷ p ∷ c ∷ l ∷ h ∷ [] }
 fieldNumbers (field (extra n b) next) = record { refusal = 0; tag = extraTag; offset = next; numbers = n ∷ b ∷ 0 ∷ 0 ∷ 0 ∷ [] }
+fieldNumbers (field (jitter n j) next) = record { refusal = 0; tag = jitterTag; offset = next; numbers = n ∷ j ∷ 0 ∷ 0 ∷ 0 ∷ [] }
 fieldNumbers (refused number offset) = record { refusal = number; tag = 0; offset = offset; numbers = 0 ∷ 0 ∷ 0 ∷ 0 ∷ 0 ∷ [] }

@@ -30,6 +30,8 @@ const FLOW: u32 = plan::read::FLOW_TAG as u32;
 
 const EXTRA: u32 = plan::read::EXTRA_TAG as u32;
 
+const JITTER: u32 = plan::read::JITTER_TAG as u32;
+
 fn numbered(refusal: u32, first: u64, second: u64) -> AnswerNumbers
     ensures { λ r. ⌜ r ≡ (record { refusal = refusal; first = first; second = second }) ⌝ }
 {
@@ -138,6 +140,12 @@ pub(crate) fn field_numbers(reading: FieldRead) -> FieldReadNumbers
                 tag: EXTRA,
                 offset: next as u64,
                 numbers: [e.number as u64, e.extra as u64, 0, 0, 0],
+            },
+            Field::Jitter(j) => FieldReadNumbers {
+                refusal: 0,
+                tag: JITTER,
+                offset: next as u64,
+                numbers: [j.number as u64, j.jitter as u64, 0, 0, 0],
             },
         },
     }

@@ -6,7 +6,7 @@ use lib.Dec.{eqb, ltb, leb}
 use lib.IntN.{ℤ, subℕ}
 use Rattle.cqf.specs.Bounded.{sumTo, maxTo, countTo, anyTo, lowest}
 use Rattle.cqf.specs.Limits.{portSlots, flowSlots, maxCount, maxLength, maxExtra, mostBegun}
-use Rattle.cqf.specs.Plan.{Plan, rateOf, blockingOf, extraOf, periodOf, countOf, lengthOf, crosses}
+use Rattle.cqf.specs.Plan.{Plan, rateOf, blockingOf, extraOf, periodOf, countOf, lengthOf, jitterOf, crosses}
 
 -- preamble and start delimiter 8, gap 12
 abbrev pub overhead : ℕ
@@ -51,6 +51,14 @@ failsBy rate blocking extra window bits = ltb 0 bits && exceeds (workloadOf bloc
 abbrev pub needBy : (guard rate blocking extra bits : ℕ) → ℕ
 needBy guard rate blocking extra bits = cond (ltb 0 bits) (2 * guard + ceilDiv (workloadOf blocking extra bits) rate) 0
 
+-- One flow, from its numbers. The periods that begin in a stretch of this many ns, or within its jitter before it, and the frames
+-- that it then brings.
+abbrev pub begunBy : (stretch jitter period : ℕ) → ℕ
+begunBy stretch jitter period = ceilDiv (stretch + jitter) period
+
+abbrev pub framesBy : (count stretch jitter period : ℕ) → ℕ
+framesBy count stretch jitter period = count * begunBy stretch jitter period
+
 -- The same of a plan. The wire bits of one frame of flow f at the port in slot q.
 unfoldable pub wireBits : Plan → ℕ → ℕ → ℕ
 wireBits p f q = bitsOf (lengthOf p f) (extraOf p q)
@@ -59,10 +67,10 @@ wireBits p f q = bitsOf (lengthOf p f) (extraOf p q)
 unfoldable pub stretch : Plan → ℕ → ℕ
 stretch p T = T
 
--- the periods of flow f that begin in it
+-- the periods of flow f that begin in it or within its jitter before it
 unfoldable pub begun : Plan → ℕ → ℕ → ℕ
 unfolding ceilDiv stretch
-begun p f T = ceilDiv (stretch p T) (periodOf p f)
+begun p f T = begunBy (stretch p T) (jitterOf p f) (periodOf p f)
 
 -- the frames that flow f brings at T
 unfoldable pub frames : Plan → ℕ → ℕ → ℕ

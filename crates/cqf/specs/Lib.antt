@@ -7,5 +7,6 @@ pub mod Emission
 pub mod Run
 pub mod LargeEnough
 pub mod Worked
+pub mod WorkedJitter
 pub mod laws
 pub mod Theorem

@@ -34,9 +34,13 @@ maxCount = 64
 abbrev pub maxLength : ℕ
 maxLength = 2000
 
--- the most periods that begin in a duration
+-- the most that a frame is released after its nominal instant, in ns
+abbrev pub maxJitter : ℕ
+maxJitter = 10000000
+
+-- the most periods that begin in a duration and the jitter before it
 abbrev pub mostBegun : ℕ
-mostBegun = (maxTop + pred minPeriod) / minPeriod
+mostBegun = (maxTop + maxJitter + pred minPeriod) / minPeriod
 
 -- guard band S in ns
 abbrev pub guardOk : ℕ → Bool
@@ -80,6 +84,10 @@ periodOk n = within minPeriod maxPeriod n
 -- frames in a period
 abbrev pub countOk : ℕ → Bool
 countOk n = within 1 maxCount n
+
+-- release jitter in ns
+abbrev pub jitterOk : ℕ → Bool
+jitterOk n = within 0 maxJitter n
 
 -- ports on a route
 abbrev pub hopsOk : ℕ → Bool

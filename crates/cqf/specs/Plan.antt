@@ -6,7 +6,7 @@ use mathlib.Core.Bool.{Bool, _&&_, _||_}
 use lib.ListN.{getD, replicate}
 use lib.Dec.{eqb, ltb}
 use Rattle.cqf.specs.Bounded.{anyTo, allTo, elem, distinct, every, sublist}
-use Rattle.cqf.specs.Limits.{portSlots, flowSlots, routeStride, guardOk, topOk, portOk, rateOk, lengthOk, blockingOk, extraOk, periodOk, countOk, hopsOk}
+use Rattle.cqf.specs.Limits.{portSlots, flowSlots, routeStride, guardOk, topOk, portOk, rateOk, lengthOk, blockingOk, extraOk, periodOk, countOk, jitterOk, hopsOk}
 
 pub record Plan : Type 0 where
   pub guard : ℕ
@@ -17,6 +17,7 @@ pub record Plan : Type 0 where
   pub periods : List ℕ
   pub counts : List ℕ
   pub lengths : List ℕ
+  pub jitters : List ℕ
   pub hops : List ℕ
   pub routes : List ℕ
 
@@ -32,6 +33,7 @@ noPlan =
       periods = replicate flowSlots 0;
       counts = replicate flowSlots 0;
       lengths = replicate flowSlots 0;
+      jitters = replicate flowSlots 0;
       hops = replicate flowSlots 0;
       routes = replicate (flowSlots * routeStride) 0;
     }
@@ -56,6 +58,10 @@ countOf p f = getD (p .counts) f 0
 
 abbrev pub lengthOf : Plan → ℕ → ℕ
 lengthOf p f = getD (p .lengths) f 0
+
+-- the most ns that its frames are released after their nominal instants
+abbrev pub jitterOf : Plan → ℕ → ℕ
+jitterOf p f = getD (p .jitters) f 0
 
 abbrev pub hopsOf : Plan → ℕ → ℕ
 hopsOf p f = getD (p .hops) f 0
@@ -85,10 +91,11 @@ validPort p q =
 -- whether slot f is empty, or holds a flow in range over distinct ports of the plan
 unfoldable pub validFlow : Plan → ℕ → Bool
 validFlow p f =
-    (eqb (periodOf p f) 0 && eqb (countOf p f) 0 && eqb (lengthOf p f) 0 && eqb (hopsOf p f) 0)
+    (eqb (periodOf p f) 0 && eqb (countOf p f) 0 && eqb (lengthOf p f) 0 && eqb (jitterOf p f) 0 && eqb (hopsOf p f) 0)
     || (periodOk (periodOf p f)
     && countOk (countOf p f)
     && lengthOk (lengthOf p f)
+    && jitterOk (jitterOf p f)
     && hopsOk (hopsOf p f)
     && every (portIn (p .rates)) (routeOf p f)
     && distinct (routeOf p f))

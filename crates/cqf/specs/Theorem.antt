@@ -9,7 +9,8 @@ use Rattle.cqf.specs.Condition.{admissible}
 use Rattle.cqf.specs.LargeEnough.{Counterexample, LargeEnough}
 use Rattle.cqf.specs.laws.Places.{running≢stopped}
 use Rattle.cqf.specs.laws.Accepted.{goes-on, on-time}
-use Rattle.cqf.specs.laws.Refused.{counterexample}
+use Rattle.cqf.specs.Emission.{InOrder}
+use Rattle.cqf.specs.laws.Refused.{counterexample, counterexample-ordered}
 
 -- a duration with a counterexample is not admissible: the run of its emission would never stop
 counterexample-refused : (p : Plan) → validPlan p ≡ true → (T : ℕ) → 0 < T → Counterexample p T → admissible p T ≡ false
@@ -26,3 +27,15 @@ large-enough p valid T long =
       refused = (counterexample p valid T long, counterexample-refused p valid T long);
       accepted = λ good e keeps f k _. on-time p valid T long good e keeps f k;
     }
+
+-- Where a duration is refused, some such emission has nominal instants that never fall. So the theorem holds also of a contract that
+-- asks that order: fewer emissions keep it, and one of these still leaves a frame unsent.
+pub refused-in-order
+    : (p : Plan)
+    → validPlan p ≡ true
+    → (T : ℕ)
+    → 0 < T
+    → admissible p T ≡ false
+    → (bad : Counterexample p T) × InOrder (bad .keeps)
+refused-in-order p valid T long refused =
+    (counterexample p valid T long refused, counterexample-ordered p valid T long refused)

@@ -26,6 +26,7 @@ planK =
       periods = set (set (noPlan .periods) 0 100000) 1 110000;
       counts = set (set (noPlan .counts) 0 1) 1 1;
       lengths = set (set (noPlan .lengths) 0 230) 1 605;
+      jitters = noPlan .jitters;
       hops = set (set (noPlan .hops) 0 1) 1 1;
       routes = set (set (noPlan .routes) 0 1) routeStride 1;
     }
@@ -43,6 +44,7 @@ planK2 =
       periods = planK .periods;
       counts = planK .counts;
       lengths = planK .lengths;
+      jitters = planK .jitters;
       hops = planK .hops;
       routes = planK .routes;
     }
@@ -106,7 +108,14 @@ early-spaced (suc zero) (suc k) h = absurd (omega arith)
 early-spaced (suc (suc f)) k h = absurd (omega arith)
 
 early-keeps : Keeps planK early
-early-keeps = record { absent = early-absent; rising = early-rising; spaced = early-spaced }
+early-keeps =
+    record {
+      absent = early-absent;
+      rising = early-rising;
+      nominal = λ f k. getD (early f) k 0;
+      released = λ f k _. (omega arith, omega arith);
+      spaced = early-spaced;
+    }
 
 -- at 120,000 all four frames fall into cycle 0, and port 1 cannot send them in cycle 1
 broken : Counterexample planK 120000

@@ -8,6 +8,7 @@ pub mod Slot
 pub mod Tabulate
 pub mod Ceil
 pub mod Begun
+pub mod Jitter
 pub mod Arrivals
 pub mod Burst
 pub mod Condition

@@ -6,15 +6,15 @@ use mathlib.Core.List.{List}
 use Rattle.cqf.specs.Plan.{Plan}
 use Rattle.plan.specs.Answer.{faultNumber}
 use Rattle.plan.specs.Draft.{Draft}
-use Rattle.plan.specs.Reading.{PlanRead, accepted, rejected, Step, stop, more, namesAbsent, extraAbsent, closing}
+use Rattle.plan.specs.Reading.{PlanRead, accepted, rejected, Step, stop, more, namesAbsent, jitterAbsent, extraAbsent, closing}
 use Rattle.loading.specs.declared.LoadAnswer.{LoadAnswer}
 use Rattle.loading.specs.declared.first.Sought.{Sought}
 use Rattle.loading.specs.declared.store.Totals.{Totals}
 use Rattle.loading.specs.declared.field.Progress.{Progress}
 
 -- the draft in the columns so far
-abbrev pub draftOf : Totals → (rates blockings extras periods counts lengths hops routes seen : List ℕ) → Draft
-draftOf t rates blockings extras periods counts lengths hops routes seen =
+abbrev pub draftOf : Totals → (rates blockings extras periods counts lengths jitters hops routes seen : List ℕ) → Draft
+draftOf t rates blockings extras periods counts lengths jitters hops routes seen =
     record {
       tables = record {
         guard = t .guard;
@@ -25,6 +25,7 @@ draftOf t rates blockings extras periods counts lengths hops routes seen =
         periods = periods;
         counts = counts;
         lengths = lengths;
+        jitters = jitters;
         hops = hops;
         routes = routes;
       };
@@ -34,24 +35,26 @@ draftOf t rates blockings extras periods counts lengths hops routes seen =
     }
 
 -- one field read
-abbrev pub progressOf : Progress → (rates blockings extras periods counts lengths hops routes seen : List ℕ) → Step
-progressOf (Progress.More next totals) rates blockings extras periods counts lengths hops routes seen =
-    more next (draftOf totals rates blockings extras periods counts lengths hops routes seen)
-progressOf (Progress.Stop fault offset) rates blockings extras periods counts lengths hops routes seen = stop (faultNumber fault) offset
+abbrev pub progressOf : Progress → (rates blockings extras periods counts lengths jitters hops routes seen : List ℕ) → Step
+progressOf (Progress.More next totals) rates blockings extras periods counts lengths jitters hops routes seen =
+    more next (draftOf totals rates blockings extras periods counts lengths jitters hops routes seen)
+progressOf (Progress.Stop fault offset) rates blockings extras periods counts lengths jitters hops routes seen = stop (faultNumber fault) offset
 
--- what is sought in a field, in a plan with these rates
-abbrev pub soughtIn : Sought → List ℕ → List ℕ → ℕ → Bool
-soughtIn Sought.AbsentPort rates = namesAbsent rates
-soughtIn Sought.AbsentExtraPort rates = extraAbsent rates
+-- what is sought in a field, in a plan with these rates and periods
+abbrev pub soughtIn : Sought → (rates periods : List ℕ) → List ℕ → ℕ → Bool
+soughtIn Sought.AbsentPort rates periods = namesAbsent rates
+soughtIn Sought.AbsentJitterFlow rates periods = jitterAbsent periods
+soughtIn Sought.AbsentExtraPort rates periods = extraAbsent rates
 
 -- a whole plan read into these tables
 abbrev pub answerOf : Plan → LoadAnswer → PlanRead
 answerOf p (LoadAnswer.Held ports flows) = accepted p ports flows
 answerOf p (LoadAnswer.Refused fault offset) = rejected (faultNumber fault) offset
 
--- the answer of the tests 8 and 9, for any tables with these rates
-abbrev pub Closes : (bytes rates seen : List ℕ) (ports flows : ℕ) → LoadAnswer → Type 0
-Closes bytes rates seen ports flows answer =
+-- the answer of the tests 8 and 9, for any tables with these rates and periods
+abbrev pub Closes : (bytes rates periods seen : List ℕ) (ports flows : ℕ) → LoadAnswer → Type 0
+Closes bytes rates periods seen ports flows answer =
     (p : Plan)
     → p .rates ≡ rates
+    → p .periods ≡ periods
     → answerOf p answer ≡ closing bytes (record { tables = p; seen = seen; ports = ports; flows = flows })

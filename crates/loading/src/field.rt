@@ -34,6 +34,7 @@ fn field_repeats(field: Field, route: &[u8]) -> bool
         Field::Port(_) => false,
         Field::Flow(_) => route_repeats(route),
         Field::Extra(_) => false,
+        Field::Jitter(_) => false,
     }
 }
 
@@ -50,12 +51,13 @@ fn take_field(
     periods: &mut [u32; 256],
     counts: &mut [u16; 256],
     lengths: &mut [u16; 256],
+    jitters: &mut [u32; 256],
     hops: &mut [u8; 256],
     routes: &mut [u8; 4096],
     seen: &mut [u8; KEYS],
 ) -> Progress
     requires { ⌜ (totals .ports ≤ maxBytes) × (totals .flows ≤ maxBytes) × (fieldAt (now plan) at ≡ field (fieldOf x) next) ⌝ }
-    ensures { λ r. ⌜ progressOf r (now (rates .exit)) (now (blockings .exit)) (now (extras .exit)) (now (periods .exit)) (now (counts .exit)) (now (lengths .exit)) (now (hops .exit)) (now (routes .exit)) (now (seen .exit)) ≡ stepAt loose (now (plan .entry)) at (draftOf totals (now (rates .entry)) (now (blockings .entry)) (now (extras .entry)) (now (periods .entry)) (now (counts .entry)) (now (lengths .entry)) (now (hops .entry)) (now (routes .entry)) (now (seen .entry))) ⌝ }
+    ensures { λ r. ⌜ progressOf r (now (rates .exit)) (now (blockings .exit)) (now (extras .exit)) (now (periods .exit)) (now (counts .exit)) (now (lengths .exit)) (now (jitters .exit)) (now (hops .exit)) (now (routes .exit)) (now (seen .exit)) ≡ stepAt loose (now (plan .entry)) at (draftOf totals (now (rates .entry)) (now (blockings .entry)) (now (extras .entry)) (now (periods .entry)) (now (counts .entry)) (now (lengths .entry)) (now (jitters .entry)) (now (hops .entry)) (now (routes .entry)) (now (seen .entry))) ⌝ }
 {
     let key = key_of(x);
     if 0 < seen[key] {
@@ -81,6 +83,7 @@ fn take_field(
         periods,
         counts,
         lengths,
+        jitters,
         hops,
         routes,
         seen,
@@ -99,12 +102,13 @@ pub(crate) fn step(
     periods: &mut [u32; 256],
     counts: &mut [u16; 256],
     lengths: &mut [u16; 256],
+    jitters: &mut [u32; 256],
     hops: &mut [u8; 256],
     routes: &mut [u8; 4096],
     seen: &mut [u8; KEYS],
 ) -> Progress
     requires { ⌜ (totals .ports ≤ maxBytes) × (totals .flows ≤ maxBytes) ⌝ }
-    ensures { λ r. ⌜ progressOf r (now (rates .exit)) (now (blockings .exit)) (now (extras .exit)) (now (periods .exit)) (now (counts .exit)) (now (lengths .exit)) (now (hops .exit)) (now (routes .exit)) (now (seen .exit)) ≡ stepAt loose (now (plan .entry)) at (draftOf totals (now (rates .entry)) (now (blockings .entry)) (now (extras .entry)) (now (periods .entry)) (now (counts .entry)) (now (lengths .entry)) (now (hops .entry)) (now (routes .entry)) (now (seen .entry))) ⌝ }
+    ensures { λ r. ⌜ progressOf r (now (rates .exit)) (now (blockings .exit)) (now (extras .exit)) (now (periods .exit)) (now (counts .exit)) (now (lengths .exit)) (now (jitters .exit)) (now (hops .exit)) (now (routes .exit)) (now (seen .exit)) ≡ stepAt loose (now (plan .entry)) at (draftOf totals (now (rates .entry)) (now (blockings .entry)) (now (extras .entry)) (now (periods .entry)) (now (counts .entry)) (now (lengths .entry)) (now (jitters .entry)) (now (hops .entry)) (now (routes .entry)) (now (seen .entry))) ⌝ }
 {
     match read_field(plan, at) {
         FieldRead::Field { field, next } => take_field(
@@ -119,6 +123,7 @@ pub(crate) fn step(
             periods,
             counts,
             lengths,
+            jitters,
             hops,
             routes,
             seen,

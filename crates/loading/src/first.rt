@@ -1,10 +1,12 @@
 // The first field in the bytes that is sought, as test 9 wants it.
 
+use numbers::limits::flow_ok;
 use numbers::limits::port_ok;
 use plan::Head;
 use plan::number::first_number;
 use plan::read::EXTRA_TAG;
 use plan::read::FLOW_TAG;
+use plan::read::JITTER_TAG;
 use plan::route::route_bytes;
 use plan::route::route_len;
 use plan::route::route_port;
@@ -17,12 +19,14 @@ ghost use Rattle.cqf.specs.Bounded.{every};
 ghost use Rattle.cqf.specs.Plan.{portIn};
 ghost use Rattle.plan.specs.Bytes.{tagAt, wholeAt};
 ghost use Rattle.plan.specs.Field.{routePorts};
-ghost use Rattle.plan.specs.Reading.{namesAbsent, extraAbsent, firstField, firstAbsent};
+ghost use Rattle.plan.specs.Reading.{hasFlow, namesAbsent, jitterAbsent, extraAbsent, firstField, firstAbsent};
 ghost use Rattle.loading.specs.Loading.{soughtIn};
 
-// What is sought: a flow whose route names a port that is not in the plan, or extra bytes of such a port.
+// What is sought: a flow whose route names a port that is not in the plan, the jitter of a flow that is not in it, or extra bytes
+// of such a port.
 enum Sought {
     AbsentPort,
+    AbsentJitterFlow,
     AbsentExtraPort,
 }
 
@@ -35,6 +39,17 @@ fn has_port(rates: &[u32; 64], number: u16) -> bool
     }
     let slot = (number - 1) as usize;
     0 < rates[slot]
+}
+
+// Whether a flow of this number is in the plan.
+fn has_flow(periods: &[u32; 256], number: u16) -> bool
+    ensures { λ r. ⌜ r ≡ hasFlow (now (periods .entry)) number ⌝ }
+{
+    if !flow_ok(number) {
+        return false;
+    }
+    let slot = (number - 1) as usize;
+    0 < periods[slot]
 }
 
 // Whether a route names a port not in the plan.
@@ -63,6 +78,17 @@ fn names_absent(plan: &[u8], at: usize, tag: u8, rates: &[u32; 64]) -> bool
     route_absent(route_bytes(field_value(plan, at)), rates)
 }
 
+// Whether the whole field at this offset says the jitter of a flow not in the plan.
+fn jitter_absent(plan: &[u8], at: usize, tag: u8, periods: &[u32; 256]) -> bool
+    requires { ⌜ (wholeAt (now plan) at ≡ true) × (tag ≡ tagAt (now plan) at) ⌝ }
+    ensures { λ r. ⌜ r ≡ jitterAbsent (now (periods .entry)) (now (plan .entry)) at ⌝ }
+{
+    if tag != JITTER_TAG {
+        return false;
+    }
+    !has_flow(periods, first_number(field_value(plan, at)))
+}
+
 // Whether the whole field at this offset says the extra bytes of a port not in the plan.
 fn extra_absent(plan: &[u8], at: usize, tag: u8, rates: &[u32; 64]) -> bool
     requires { ⌜ (wholeAt (now plan) at ≡ true) × (tag ≡ tagAt (now plan) at) ⌝ }
@@ -75,25 +101,33 @@ fn extra_absent(plan: &[u8], at: usize, tag: u8, rates: &[u32; 64]) -> bool
 }
 
 // Whether the whole field at this offset is sought.
-fn is_sought(sought: Sought, plan: &[u8], at: usize, tag: u8, rates: &[u32; 64]) -> bool
+fn is_sought(
+    sought: Sought,
+    plan: &[u8],
+    at: usize,
+    tag: u8,
+    rates: &[u32; 64],
+    periods: &[u32; 256],
+) -> bool
     requires { ⌜ (wholeAt (now plan) at ≡ true) × (tag ≡ tagAt (now plan) at) ⌝ }
-    ensures { λ r. ⌜ r ≡ soughtIn sought (now (rates .entry)) (now (plan .entry)) at ⌝ }
+    ensures { λ r. ⌜ r ≡ soughtIn sought (now (rates .entry)) (now (periods .entry)) (now (plan .entry)) at ⌝ }
 {
     match sought {
         Sought::AbsentPort => names_absent(plan, at, tag, rates),
+        Sought::AbsentJitterFlow => jitter_absent(plan, at, tag, periods),
         Sought::AbsentExtraPort => extra_absent(plan, at, tag, rates),
     }
 }
 
 // The offset of the first field that is sought; the plan's length where none is.
-fn first_field(plan: &[u8], sought: Sought, rates: &[u32; 64]) -> usize
-    ensures { λ r. ⌜ r ≡ firstField (soughtIn sought (now (rates .entry))) (now (plan .entry)) ⌝ }
+fn first_field(plan: &[u8], sought: Sought, rates: &[u32; 64], periods: &[u32; 256]) -> usize
+    ensures { λ r. ⌜ r ≡ firstField (soughtIn sought (now (rates .entry)) (now (periods .entry))) (now (plan .entry)) ⌝ }
 {
     let mut at = 0;
     loop {
         match split_head(plan, at) {
             Head::Whole { tag, size } => {
-                if is_sought(sought, plan, at, tag, rates) {
+                if is_sought(sought, plan, at, tag, rates, periods) {
                     return at;
                 }
                 at = at + HEAD_SIZE + size;
@@ -103,14 +137,18 @@ fn first_field(plan: &[u8], sought: Sought, rates: &[u32; 64]) -> usize
     }
 }
 
-// Test 9: the first flow that names a port not in the plan, and where there is none the first extra bytes of such a port; the
-// plan's length where there are none either.
-pub(crate) fn first_absent(plan: &[u8], rates: &[u32; 64]) -> usize
-    ensures { λ r. ⌜ r ≡ firstAbsent (now (rates .entry)) (now (plan .entry)) ⌝ }
+// Test 9: the first flow that names a port not in the plan; where there is none the first jitter of a flow not in it; where there
+// is none either the first extra bytes of a port not in it; the plan's length where there are none of these.
+pub(crate) fn first_absent(plan: &[u8], rates: &[u32; 64], periods: &[u32; 256]) -> usize
+    ensures { λ r. ⌜ r ≡ firstAbsent (now (rates .entry)) (now (periods .entry)) (now (plan .entry)) ⌝ }
 {
-    let offset = first_field(plan, Sought::AbsentPort, rates);
-    if offset < plan.len() {
-        return offset;
+    let route = first_field(plan, Sought::AbsentPort, rates, periods);
+    if route < plan.len() {
+        return route;
     }
-    first_field(plan, Sought::AbsentExtraPort, rates)
+    let jitter = first_field(plan, Sought::AbsentJitterFlow, rates, periods);
+    if jitter < plan.len() {
+        return jitter;
+    }
+    first_field(plan, Sought::AbsentExtraPort, rates, periods)
 }

@@ -19,8 +19,15 @@ ghost use Rattle.loading.specs.Answer.{Loads};
 ghost use Rattle.loading.specs.Loading.{Closes};
 
 // All fields are read: the tests 8 and 9.
-fn close(plan: &[u8], ports: u16, flows: u16, rates: &[u32; 64], seen: &[u8; KEYS]) -> LoadAnswer
-    ensures { λ r. ⌜ Closes (now (plan .entry)) (now (rates .entry)) (now (seen .entry)) ports flows r ⌝ }
+fn close(
+    plan: &[u8],
+    ports: u16,
+    flows: u16,
+    rates: &[u32; 64],
+    periods: &[u32; 256],
+    seen: &[u8; KEYS],
+) -> LoadAnswer
+    ensures { λ r. ⌜ Closes (now (plan .entry)) (now (rates .entry)) (now (periods .entry)) (now (seen .entry)) ports flows r ⌝ }
 {
     if seen[HEADER_KEY] == 0 {
         return LoadAnswer::Refused {
@@ -34,7 +41,7 @@ fn close(plan: &[u8], ports: u16, flows: u16, rates: &[u32; 64], seen: &[u8; KEY
             offset: plan.len(),
         };
     }
-    let offset = first_absent(plan, rates);
+    let offset = first_absent(plan, rates, periods);
     if offset < plan.len() {
         return LoadAnswer::Refused {
             fault: Fault::UnknownPort,
@@ -74,6 +81,7 @@ pub fn load(planner: Planner, plan: &[u8]) -> LoadOutcome
     let mut periods = [0u32; 256];
     let mut counts = [0u16; 256];
     let mut lengths = [0u16; 256];
+    let mut jitters = [0u32; 256];
     let mut hops = [0u8; 256];
     let mut routes = [0u8; 4096];
     let mut seen = [0u8; KEYS];
@@ -95,6 +103,7 @@ pub fn load(planner: Planner, plan: &[u8]) -> LoadOutcome
             &mut periods,
             &mut counts,
             &mut lengths,
+            &mut jitters,
             &mut hops,
             &mut routes,
             &mut seen,
@@ -111,7 +120,7 @@ pub fn load(planner: Planner, plan: &[u8]) -> LoadOutcome
             }
         }
     }
-    let answer = close(plan, totals.ports, totals.flows, &rates, &seen);
+    let answer = close(plan, totals.ports, totals.flows, &rates, &periods, &seen);
     match answer {
         LoadAnswer::Held { ports: _, flows: _ } => {
             let mut held = planner;
@@ -123,6 +132,7 @@ pub fn load(planner: Planner, plan: &[u8]) -> LoadOutcome
             held.periods = periods;
             held.counts = counts;
             held.lengths = lengths;
+            held.jitters = jitters;
             held.hops = hops;
             held.routes = routes;
             LoadOutcome {

@@ -3,6 +3,7 @@
 use plan::Extra;
 use plan::Field;
 use plan::Flow;
+use plan::Jitter;
 use plan::Port;
 use plan::route::route_port;
 use tables::FLOWS;
@@ -17,14 +18,14 @@ ghost use Rattle.plan.specs.Field.{routePorts};
 ghost use Rattle.plan.specs.Key.{keyOf};
 ghost use Rattle.plan.specs.Draft.{added};
 ghost use Rattle.plan.specs.Reading.{maxBytes};
-ghost use Rattle.plan.specs.Ranges.{PortOk, FlowOk, ExtraOk, NumbersOk, RouteOk, RouteFits};
+ghost use Rattle.plan.specs.Ranges.{PortOk, FlowOk, ExtraOk, JitterOk, NumbersOk, RouteOk, RouteFits};
 ghost use Rattle.plan.specs.Answer.{fieldOf};
 ghost use Rattle.loading.specs.Loading.{draftOf};
 
-// A flag for each key: the header's, the ports', the flows', those of the ports' extra bytes.
+// A flag for each key: the header's, the ports', the flows', those of the ports' extra bytes and of the flows' jitter.
 pub(crate) const HEADER_KEY: usize = 0;
 
-pub(crate) const KEYS: usize = 1 + PORTS + FLOWS + PORTS;
+pub(crate) const KEYS: usize = 1 + PORTS + FLOWS + PORTS + FLOWS;
 
 // The header's numbers, and how many port and flow fields were read.
 pub(crate) struct Totals {
@@ -42,6 +43,7 @@ pub(crate) fn key_of(field: Field) -> usize
         Field::Port(x) => HEADER_KEY + x.number as usize,
         Field::Flow(x) => PORTS + x.number as usize,
         Field::Extra(x) => PORTS + FLOWS + x.number as usize,
+        Field::Jitter(x) => PORTS + FLOWS + PORTS + x.number as usize,
     }
 }
 
@@ -60,6 +62,13 @@ fn store_extra(extras: &mut [u8; 64], x: Extra)
 {
     let slot = (x.number - 1) as usize;
     extras[slot] = x.extra as u8;
+}
+
+fn store_jitter(jitters: &mut [u32; 256], x: Jitter)
+    requires { ⌜ JitterOk (x .number) (x .jitter) ⌝ }
+    ensures { λ r. ⌜ now (jitters .exit) ≡ set (now (jitters .entry)) (x .number - 1) (x .jitter) ⌝ }
+{
+    jitters[(x.number - 1) as usize] = x.jitter;
 }
 
 // The ports of a route, copied to position base of the routes and on.
@@ -106,12 +115,13 @@ pub(crate) fn store_field(
     periods: &mut [u32; 256],
     counts: &mut [u16; 256],
     lengths: &mut [u16; 256],
+    jitters: &mut [u32; 256],
     hops: &mut [u8; 256],
     routes: &mut [u8; 4096],
     seen: &mut [u8; KEYS],
 ) -> Totals
     requires { ⌜ (totals .ports ≤ maxBytes) × (totals .flows ≤ maxBytes) × NumbersOk (fieldOf field) × RouteFits (fieldOf field) (routePorts (now route)) ⌝ }
-    ensures { λ r. ⌜ draftOf r (now (rates .exit)) (now (blockings .exit)) (now (extras .exit)) (now (periods .exit)) (now (counts .exit)) (now (lengths .exit)) (now (hops .exit)) (now (routes .exit)) (now (seen .exit)) ≡ added (draftOf totals (now (rates .entry)) (now (blockings .entry)) (now (extras .entry)) (now (periods .entry)) (now (counts .entry)) (now (lengths .entry)) (now (hops .entry)) (now (routes .entry)) (now (seen .entry))) (fieldOf field) (routePorts (now (route .entry))) ⌝ }
+    ensures { λ r. ⌜ draftOf r (now (rates .exit)) (now (blockings .exit)) (now (extras .exit)) (now (periods .exit)) (now (counts .exit)) (now (lengths .exit)) (now (jitters .exit)) (now (hops .exit)) (now (routes .exit)) (now (seen .exit)) ≡ added (draftOf totals (now (rates .entry)) (now (blockings .entry)) (now (extras .entry)) (now (periods .entry)) (now (counts .entry)) (now (lengths .entry)) (now (jitters .entry)) (now (hops .entry)) (now (routes .entry)) (now (seen .entry))) (fieldOf field) (routePorts (now (route .entry))) ⌝ }
 {
     let key = key_of(field);
     seen[key] = 1;
@@ -134,6 +144,10 @@ pub(crate) fn store_field(
         }
         Field::Extra(x) => {
             store_extra(extras, x);
+            sums
+        }
+        Field::Jitter(x) => {
+            store_jitter(jitters, x);
             sums
         }
     }

@@ -2,7 +2,7 @@
 
 ghost use mathlib.Core.Path.{_≡_};
 ghost use Rattle.cqf.specs.Bounded.{within};
-ghost use Rattle.cqf.specs.Limits.{guardOk, topOk, portOk, rateOk, lengthOk, blockingOk, extraOk, flowOk, periodOk, countOk, hopsOk};
+ghost use Rattle.cqf.specs.Limits.{guardOk, topOk, portOk, rateOk, lengthOk, blockingOk, extraOk, flowOk, periodOk, countOk, jitterOk, hopsOk};
 
 const MAX_GUARD: u64 = 1_000_000;
 
@@ -25,6 +25,8 @@ const MIN_PERIOD: u64 = 1_000;
 const MAX_PERIOD: u64 = 100_000_000;
 
 const MAX_COUNT: u64 = 64;
+
+const MAX_JITTER: u64 = 10_000_000;
 
 pub const MAX_HOPS: u64 = 16;
 
@@ -100,6 +102,13 @@ pub fn count_ok(n: u16) -> bool
     ensures { λ r. ⌜ r ≡ countOk n ⌝ }
 {
     between(1, MAX_COUNT, n as u64)
+}
+
+// The most ns that a frame is released after its nominal instant.
+pub fn jitter_ok(n: u32) -> bool
+    ensures { λ r. ⌜ r ≡ jitterOk n ⌝ }
+{
+    between(0, MAX_JITTER, n as u64)
 }
 
 pub fn hops_ok(n: usize) -> bool

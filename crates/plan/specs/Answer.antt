@@ -6,7 +6,7 @@ use Rattle.plan.specs.declared.Head.{Head}
 use Rattle.plan.specs.declared.Head.the-variants.{Whole, Cut}
 use Rattle.plan.specs.declared.Field as declaredField
 use Rattle.plan.specs.declared.FieldRead as declaredRead
-use Rattle.plan.specs.Field.{HeadRead, head, cut, Field, header, port, flow, extra, FieldRead, field, refused}
+use Rattle.plan.specs.Field.{HeadRead, head, cut, Field, header, port, flow, extra, jitter, FieldRead, field, refused}
 
 abbrev pub faultNumber : Fault → ℕ
 faultNumber Size = 1
@@ -33,6 +33,7 @@ fieldOf (declaredField.Field.Header h) = header (h .guard) (h .top)
 fieldOf (declaredField.Field.Port p) = port (p .number) (p .rate) (p .blocking)
 fieldOf (declaredField.Field.Flow f) = flow (f .number) (f .period) (f .count) (f .length) (f .hops)
 fieldOf (declaredField.Field.Extra e) = extra (e .number) (e .extra)
+fieldOf (declaredField.Field.Jitter j) = jitter (j .number) (j .jitter)
 
 abbrev pub fieldReadOf : declaredRead.FieldRead → FieldRead
 fieldReadOf (declaredRead.FieldRead.Field x next) = field (fieldOf x) next

@@ -5,7 +5,7 @@ use mathlib.Core.Bool.{Bool, cond, not, _&&_}
 use lib.Dec.{eqb}
 use lib.ListN.{length, getD, drop}
 use Rattle.cqf.specs.Bounded.{every, distinct}
-use Rattle.cqf.specs.Limits.{guardOk, topOk, portOk, rateOk, lengthOk, blockingOk, extraOk, flowOk, periodOk, countOk, hopsOk}
+use Rattle.cqf.specs.Limits.{guardOk, topOk, portOk, rateOk, lengthOk, blockingOk, extraOk, flowOk, periodOk, countOk, jitterOk, hopsOk}
 use Rattle.plan.specs.Bytes.{number2, number4, numbers2, headSize, tagAt, sizeAt, wholeAt, valueAt}
 
 -- a field's numbers. A flow's route stays in its value; hops is how many ports it has.
@@ -14,6 +14,7 @@ pub data Field : Type 0 where
   port : (number rate blocking : ℕ) → Field
   flow : (number period count length hops : ℕ) → Field
   extra : (number bytes : ℕ) → Field
+  jitter : (number ns : ℕ) → Field
 
 -- what a field of one kind gives; a field of any other kind gives the first
 abbrev pub ofHeader {ℓ} : {A : Type ℓ} → A → ((guard top : ℕ) → A) → Field → A
@@ -21,24 +22,35 @@ ofHeader other gives (header g t) = gives g t
 ofHeader other gives (port n r b) = other
 ofHeader other gives (flow n p c l h) = other
 ofHeader other gives (extra n b) = other
+ofHeader other gives (jitter n j) = other
 
 abbrev pub ofPort {ℓ} : {A : Type ℓ} → A → ((number rate blocking : ℕ) → A) → Field → A
 ofPort other gives (header g t) = other
 ofPort other gives (port n r b) = gives n r b
 ofPort other gives (flow n p c l h) = other
 ofPort other gives (extra n b) = other
+ofPort other gives (jitter n j) = other
 
 abbrev pub ofFlow {ℓ} : {A : Type ℓ} → A → ((number period count length hops : ℕ) → A) → Field → A
 ofFlow other gives (header g t) = other
 ofFlow other gives (port n r b) = other
 ofFlow other gives (flow n p c l h) = gives n p c l h
 ofFlow other gives (extra n b) = other
+ofFlow other gives (jitter n j) = other
 
 abbrev pub ofExtra {ℓ} : {A : Type ℓ} → A → ((number bytes : ℕ) → A) → Field → A
 ofExtra other gives (header g t) = other
 ofExtra other gives (port n r b) = other
 ofExtra other gives (flow n p c l h) = other
 ofExtra other gives (extra n b) = gives n b
+ofExtra other gives (jitter n j) = other
+
+abbrev pub ofJitter {ℓ} : {A : Type ℓ} → A → ((number ns : ℕ) → A) → Field → A
+ofJitter other gives (header g t) = other
+ofJitter other gives (port n r b) = other
+ofJitter other gives (flow n p c l h) = other
+ofJitter other gives (extra n b) = other
+ofJitter other gives (jitter n j) = gives n j
 
 -- a field's head: its tag and its value's length, or cut where the plan does not hold the whole field (refusal 2)
 pub data HeadRead : Type 0 where
@@ -71,6 +83,9 @@ flowTag = 3
 abbrev pub extraTag : ℕ
 extraTag = 4
 
+abbrev pub jitterTag : ℕ
+jitterTag = 5
+
 abbrev pub headerSize : ℕ
 headerSize = 8
 
@@ -79,6 +94,9 @@ portSize = 8
 
 abbrev pub extraSize : ℕ
 extraSize = 4
+
+abbrev pub jitterSize : ℕ
+jitterSize = 6
 
 -- a flow's value before its route
 abbrev pub flowSize : ℕ
@@ -144,15 +162,23 @@ extraIn v at next =
     (unless 5 at (portOk (number2 v 0) && extraOk (number2 v 2))
     (field (extra (number2 v 0) (number2 v 2)) next))
 
+unfoldable pub jitterIn : List ℕ → ℕ → ℕ → FieldRead
+unfolding number2 number4
+jitterIn v at next =
+    unless 4 at (eqb (length v) jitterSize)
+    (unless 5 at (flowOk (number2 v 0) && jitterOk (number4 v 2))
+    (field (jitter (number2 v 0) (number4 v 2)) next))
+
 -- the field by its tag: test 3
 unfoldable pub fieldIn : ℕ → List ℕ → ℕ → ℕ → FieldRead
-unfolding headerIn portInValue flowIn extraIn
+unfolding headerIn portInValue flowIn extraIn jitterIn
 fieldIn tag v at next =
     cond (eqb tag headerTag) (headerIn v at next)
     (cond (eqb tag portTag) (portInValue v at next)
     (cond (eqb tag flowTag) (flowIn v at next)
     (cond (eqb tag extraTag) (extraIn v at next)
-    (refused 3 at))))
+    (cond (eqb tag jitterTag) (jitterIn v at next)
+    (refused 3 at)))))
 
 -- the field at this offset: test 2 first
 unfoldable pub fieldAt : List ℕ → ℕ → FieldRead

@@ -5,7 +5,7 @@ use mathlib.Core.List.{List, [], _∷_, flatten, List·Permᴰ}
 use Prim.Native.Nat.{ℕ, _+_, _≤_}
 use lib.ListN.{length}
 use Rattle.plan.specs.Bytes.{headSize, sizeAt}
-use Rattle.plan.specs.Field.{extra, field, fieldAt}
+use Rattle.plan.specs.Field.{Field, header, port, flow, extra, jitter, field, fieldAt}
 
 -- bytes that are one whole field: a head, and as many bytes after it as the head says
 pub record IsField (b : List ℕ) : Type 0 where
@@ -25,14 +25,23 @@ pub record SameFields (s t : List ℕ) : Type 0 where
   pub bytes-second : t ≡ flatten second
   pub permuted : List·Permᴰ first second
 
--- s is the fields of t, and among them, anywhere, one that says 0 extra bytes at a port
+-- the field says what its absence says
+abbrev pub SaysNothing : Field → Type 0
+SaysNothing (header guard top) = ⊥
+SaysNothing (port n rate blocking) = ⊥
+SaysNothing (flow n period count length hops) = ⊥
+SaysNothing (extra n bytes) = bytes ≡ 0
+SaysNothing (jitter n ns) = ns ≡ 0
+
+-- s is the fields of t, and among them, anywhere, one that says nothing
 pub record ZeroMore (s t : List ℕ) : Type 0 where
   pub all : List (List ℕ)
   pub zero : List ℕ
   pub others : List (List ℕ)
-  pub number : ℕ
+  pub read : Field
   pub fields : AllFields all
-  pub says : fieldAt zero 0 ≡ field (extra number 0) (length zero)
+  pub says : fieldAt zero 0 ≡ field read (length zero)
+  pub nothing : SaysNothing read
   pub bytes-all : s ≡ flatten all
   pub bytes-others : t ≡ flatten others
   pub permuted : List·Permᴰ all (zero ∷ others)

@@ -5,8 +5,8 @@ use mathlib.Core.List.{List}
 use mathlib.Core.Bool.{true}
 use lib.ListN.{length}
 use Rattle.cqf.specs.Bounded.{every}
-use Rattle.cqf.specs.Limits.{guardOk, topOk, portOk, rateOk, lengthOk, blockingOk, extraOk, flowOk, periodOk, countOk, hopsOk}
-use Rattle.plan.specs.Field.{Field, header, port, flow, extra, ofFlow}
+use Rattle.cqf.specs.Limits.{guardOk, topOk, portOk, rateOk, lengthOk, blockingOk, extraOk, flowOk, periodOk, countOk, jitterOk, hopsOk}
+use Rattle.plan.specs.Field.{Field, header, port, flow, extra, jitter, ofFlow}
 
 pub record HeaderOk (g t : ℕ) : Type 0 where
   pub guard : guardOk g ≡ true
@@ -28,12 +28,17 @@ pub record ExtraOk (n b : ℕ) : Type 0 where
   pub number : portOk n ≡ true
   pub bytes : extraOk b ≡ true
 
+pub record JitterOk (n j : ℕ) : Type 0 where
+  pub number : flowOk n ≡ true
+  pub ns : jitterOk j ≡ true
+
 -- each number of the field is in its range
 abbrev pub NumbersOk : Field → Type 0
 NumbersOk (header g t) = HeaderOk g t
 NumbersOk (port n r b) = PortOk n r b
 NumbersOk (flow n p c l h) = FlowOk n p c l h
 NumbersOk (extra n b) = ExtraOk n b
+NumbersOk (jitter n j) = JitterOk n j
 
 -- a route of h ports, each with a number in range
 pub record RouteOk (h : ℕ) (r : List ℕ) : Type 0 where

@@ -1,13 +1,14 @@
 -- The reading of a whole plan: fields from the front, each tested for 2 to 7; then 8, then 9; the first found is answered.
 use Prim.Native.Nat.{ℕ, zero, suc, _+_}
-use mathlib.Core.List.{List}
+use mathlib.Core.List.{List, _∷_}
 use mathlib.Core.Bool.{Bool, true, false, cond, not, _&&_, _||_}
 use lib.Dec.{ltb, eqb}
-use lib.ListN.{length}
+use lib.ListN.{length, getD}
 use Rattle.cqf.specs.Bounded.{within, every}
+use Rattle.cqf.specs.Limits.{flowOk}
 use Rattle.cqf.specs.Plan.{Plan, portIn}
 use Rattle.plan.specs.Bytes.{number2, headSize, tagAt, sizeAt, wholeAt, valueAt}
-use Rattle.plan.specs.Field.{FieldRead, field, refused, flowTag, extraTag, fieldAt, routeIn}
+use Rattle.plan.specs.Field.{FieldRead, field, refused, flowTag, extraTag, jitterTag, fieldAt, routeIn}
 use Rattle.plan.specs.Key.{headerKey}
 use Rattle.plan.specs.Draft.{Draft, blank, hasKey, taken, fieldRepeats, added}
 
@@ -64,6 +65,15 @@ unfoldable pub namesAbsent : List ℕ → List ℕ → ℕ → Bool
 unfolding valueAt every routeIn
 namesAbsent rates s at = eqb (tagAt s at) flowTag && not (every (portIn rates) (routeAt s at))
 
+-- whether a flow of number n is in the plan: its period is not 0
+abbrev pub hasFlow : List ℕ → ℕ → Bool
+hasFlow periods n = flowOk n && ltb 0 (getD (0 ∷ periods) n 0)
+
+-- then the jitter of a flow that is not in the plan with these periods
+unfoldable pub jitterAbsent : List ℕ → List ℕ → ℕ → Bool
+unfolding number2 valueAt
+jitterAbsent periods s at = eqb (tagAt s at) jitterTag && not (hasFlow periods (number2 (valueAt s at) 0))
+
 -- and extra bytes of a port that is not in it
 unfoldable pub extraAbsent : List ℕ → List ℕ → ℕ → Bool
 unfolding number2 valueAt
@@ -73,18 +83,22 @@ extraAbsent rates s at = eqb (tagAt s at) extraTag && not (portIn rates (number2
 abbrev pub orElse : List ℕ → ℕ → ℕ → ℕ
 orElse s at next = cond (ltb at (length s)) at next
 
--- the offset that test 9 finds, the plan's length where it finds none: all routes come before the extra bytes
-unfoldable pub firstAbsent : List ℕ → List ℕ → ℕ
-unfolding firstFrom namesAbsent extraAbsent
-firstAbsent rates s = orElse s (firstField (namesAbsent rates) s) (firstField (extraAbsent rates) s)
+-- the offset that test 9 finds, the plan's length where it finds none: all routes come before the jitters, and these before the
+-- extra bytes
+unfoldable pub firstAbsent : List ℕ → List ℕ → List ℕ → ℕ
+unfolding firstFrom namesAbsent jitterAbsent extraAbsent
+firstAbsent rates periods s =
+    orElse s (firstField (namesAbsent rates) s)
+    (orElse s (firstField (jitterAbsent periods) s)
+    (firstField (extraAbsent rates) s))
 
 -- all fields are read: tests 8 and 9
 unfoldable pub closing : List ℕ → Draft → PlanRead
 unfolding firstAbsent
 closing s d =
     cond (not (hasKey d headerKey) || eqb (d .flows) 0) (rejected 8 (length s))
-    (cond (ltb (firstAbsent (d .tables .rates) s) (length s))
-    (rejected 9 (firstAbsent (d .tables .rates) s))
+    (cond (ltb (firstAbsent (d .tables .rates) (d .tables .periods) s) (length s))
+    (rejected 9 (firstAbsent (d .tables .rates) (d .tables .periods) s))
     (accepted (d .tables) (d .ports) (d .flows)))
 
 -- the fields from this offset on. The first number bounds how many are read: the plan's length is enough.

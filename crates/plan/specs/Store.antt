@@ -4,7 +4,7 @@ use mathlib.Core.List.{List}
 use mathlib.Core.Option.{Option, some, none}
 use Rattle.cqf.specs.Limits.{routeStride}
 use Rattle.cqf.specs.Plan.{Plan}
-use Rattle.plan.specs.Field.{Field, ofHeader, ofPort, ofFlow, ofExtra}
+use Rattle.plan.specs.Field.{Field, ofHeader, ofPort, ofFlow, ofExtra, ofJitter}
 use Rattle.plan.specs.Put.{Put, keep, number, run, put, given}
 
 -- a number of the header, of a port, of a flow: into the slot of its number
@@ -42,6 +42,9 @@ putsCount = flowNumber (λ n period count length hops. count)
 abbrev pub putsLength : Field → Put
 putsLength = flowNumber (λ n period count length hops. length)
 
+abbrev pub putsJitter : Field → Put
+putsJitter = ofJitter keep (λ n ns. number (n - 1) ns)
+
 abbrev pub putsHops : Field → Put
 putsHops = flowNumber (λ n period count length hops. hops)
 
@@ -59,6 +62,7 @@ store p x r =
       periods = put (p .periods) (putsPeriod x);
       counts = put (p .counts) (putsCount x);
       lengths = put (p .lengths) (putsLength x);
+      jitters = put (p .jitters) (putsJitter x);
       hops = put (p .hops) (putsHops x);
       routes = put (p .routes) (putsRoute r x);
     }

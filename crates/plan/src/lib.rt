@@ -64,11 +64,18 @@ pub struct Extra {
     pub extra: u16,
 }
 
+// A flow's number and the most ns that its frames are released after their nominal instants.
+pub struct Jitter {
+    pub number: u16,
+    pub jitter: u32,
+}
+
 pub enum Field {
     Header(Header),
     Port(Port),
     Flow(Flow),
     Extra(Extra),
+    Jitter(Jitter),
 }
 
 pub enum FieldRead {

@@ -4,13 +4,18 @@ use crate::Extra;
 use crate::Fault;
 use crate::Field;
 use crate::FieldRead;
+use crate::Jitter;
 use crate::number::be16;
+use crate::number::be32;
 use crate::ranges::extra_in_range;
+use crate::ranges::jitter_in_range;
 ghost use mathlib.Core.Path.{_≡_};
-ghost use Rattle.plan.specs.Field.{extraIn};
+ghost use Rattle.plan.specs.Field.{extraIn, jitterIn};
 ghost use Rattle.plan.specs.Answer.{fieldReadOf};
 
 const EXTRA_SIZE: usize = 4;
+
+const JITTER_SIZE: usize = 6;
 
 pub(crate) fn extra_of(value: &[u8], at: usize, next: usize) -> FieldRead
     ensures { λ r. ⌜ fieldReadOf r ≡ extraIn (now (value .entry)) at next ⌝ }
@@ -33,6 +38,31 @@ pub(crate) fn extra_of(value: &[u8], at: usize, next: usize) -> FieldRead
     }
     FieldRead::Field {
         field: Field::Extra(x),
+        next,
+    }
+}
+
+pub(crate) fn jitter_of(value: &[u8], at: usize, next: usize) -> FieldRead
+    ensures { λ r. ⌜ fieldReadOf r ≡ jitterIn (now (value .entry)) at next ⌝ }
+{
+    if value.len() != JITTER_SIZE {
+        return FieldRead::Refused {
+            fault: Fault::WrongLength,
+            offset: at,
+        };
+    }
+    let x = Jitter {
+        number: be16(value, 0),
+        jitter: be32(value, 2),
+    };
+    if !jitter_in_range(x) {
+        return FieldRead::Refused {
+            fault: Fault::OutOfRange,
+            offset: at,
+        };
+    }
+    FieldRead::Field {
+        field: Field::Jitter(x),
         next,
     }
 }

@@ -3,12 +3,14 @@
 use crate::Extra;
 use crate::Flow;
 use crate::Header;
+use crate::Jitter;
 use crate::Port;
 use numbers::limits::blocking_ok;
 use numbers::limits::count_ok;
 use numbers::limits::extra_ok;
 use numbers::limits::flow_ok;
 use numbers::limits::guard_ok;
+use numbers::limits::jitter_ok;
 use numbers::limits::length_ok;
 use numbers::limits::period_ok;
 use numbers::limits::port_ok;
@@ -16,7 +18,7 @@ use numbers::limits::rate_ok;
 use numbers::limits::top_ok;
 ghost use mathlib.Core.Path.{_≡_};
 ghost use mathlib.Core.Bool.{_&&_};
-ghost use Rattle.cqf.specs.Limits.{guardOk, topOk, portOk, rateOk, lengthOk, blockingOk, extraOk, flowOk, periodOk, countOk};
+ghost use Rattle.cqf.specs.Limits.{guardOk, topOk, portOk, rateOk, lengthOk, blockingOk, extraOk, flowOk, periodOk, countOk, jitterOk};
 
 pub(crate) fn header_in_range(x: Header) -> bool
     ensures { λ r. ⌜ r ≡ (guardOk (x .guard) && topOk (x .top)) ⌝ }
@@ -62,4 +64,13 @@ pub(crate) fn extra_in_range(x: Extra) -> bool
         return false;
     }
     extra_ok(x.extra)
+}
+
+pub(crate) fn jitter_in_range(x: Jitter) -> bool
+    ensures { λ r. ⌜ r ≡ (flowOk (x .number) && jitterOk (x .jitter)) ⌝ }
+{
+    if !flow_ok(x.number) {
+        return false;
+    }
+    jitter_ok(x.jitter)
 }

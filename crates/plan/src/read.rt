@@ -10,6 +10,7 @@ use crate::Port;
 use crate::number::be16;
 use crate::number::be32;
 use crate::optional::extra_of;
+use crate::optional::jitter_of;
 use crate::ranges::flow_in_range;
 use crate::ranges::header_in_range;
 use crate::ranges::port_in_range;
@@ -30,6 +31,8 @@ pub const PORT_TAG: u8 = 2;
 pub const FLOW_TAG: u8 = 3;
 
 pub const EXTRA_TAG: u8 = 4;
+
+pub const JITTER_TAG: u8 = 5;
 
 const HEADER_SIZE: usize = 8;
 
@@ -137,6 +140,9 @@ fn field_of(tag: u8, value: &[u8], at: usize, next: usize) -> FieldRead
     }
     if tag == EXTRA_TAG {
         return extra_of(value, at, next);
+    }
+    if tag == JITTER_TAG {
+        return jitter_of(value, at, next);
     }
     FieldRead::Refused {
         fault: Fault::UnknownTag,

@@ -8,22 +8,22 @@ use Rattle.cqf.specs.Plan.{noPlan, validPlan, validPort, validFlow}
 use Rattle.cqf.specs.Condition.{wireBits, ceilDiv, stretch, begun, frames, demand, window, capacity, workload, slack, crossed, fails, failing, lowestFailing, admissible}
 use Rattle.cqf.specs.Worked.{planK}
 use Rattle.plan.specs.Bytes.{number2, number4, sizeAt, wholeAt, valueAt, numbers2}
-use Rattle.plan.specs.Field.{routePorts, routeIn, headerIn, portInValue, flowIn, extraIn, fieldIn, fieldAt, repeats}
+use Rattle.plan.specs.Field.{routePorts, routeIn, headerIn, portInValue, flowIn, extraIn, jitterIn, fieldIn, fieldAt, repeats}
 use Rattle.plan.specs.Store.{store}
 use Rattle.plan.specs.Draft.{blank, added}
-use Rattle.plan.specs.Reading.{stepAt, namesAbsent, extraAbsent, firstFrom, firstAbsent, closing, readFrom, readAs, readPlan, accepted}
+use Rattle.plan.specs.Reading.{stepAt, namesAbsent, jitterAbsent, extraAbsent, firstFrom, firstAbsent, closing, readFrom, readAs, readPlan, accepted}
 use Rattle.loading.specs.Outcome.{result, refusal, loadAnswer, loadLeaves}
 use Rattle.planner.specs.Outcome.{checkAnswer, slackAnswer}
 use Rattle.planner.specs.Calls.{load, afterFrom, after}
 use Rattle.plan_k.specs.PlanK.{bytesK, Line, at, fails-one, linesOf}
 
 -- the field that says b extra bytes at port n; both are below 256
-unfoldable extra : ℕ → ℕ → List ℕ
+unfoldable pub extra : ℕ → ℕ → List ℕ
 extra n b = 0x04 ∷ 0x00 ∷ 0x04 ∷ 0x00 ∷ n ∷ 0x00 ∷ b ∷ []
 
 -- a field that says 0 leaves K as it is, with one port and two flows; it may stand before its port
 readZero : readPlan (extra 1 0 ++ bytesK) ≡ accepted planK 1 2
-unfolding extra bytesK _++_ planK noPlan readPlan readAs readFrom blank stepAt fieldAt fieldIn headerIn portInValue flowIn extraIn number2 number4 sizeAt wholeAt valueAt numbers2 routePorts routeIn repeats every distinct elem store added closing firstFrom firstAbsent namesAbsent extraAbsent
+unfolding extra bytesK planK noPlan readPlan readAs readFrom blank stepAt fieldAt fieldIn headerIn portInValue flowIn extraIn jitterIn number2 number4 sizeAt wholeAt valueAt numbers2 routePorts routeIn repeats every distinct elem store added closing firstFrom firstAbsent namesAbsent jitterAbsent extraAbsent
 readZero = refl
 
 -- with 32 bytes the least duration is 77,120 and the margin-safe one 227,360; the flows' frames have 2,256 and 5,256 bits
@@ -38,11 +38,11 @@ table32 =
     ∷ []
 
 tableOf32 : linesOf (after (load (extra 1 32 ++ bytesK) ∷ [])) table32 ≡ table32
-unfolding extra bytesK _++_ table32 after afterFrom loadLeaves noPlan readPlan readAs readFrom blank stepAt fieldAt fieldIn headerIn portInValue flowIn extraIn number2 number4 sizeAt wholeAt valueAt numbers2 routePorts routeIn repeats every distinct elem store added closing firstFrom firstAbsent namesAbsent extraAbsent checkAnswer slackAnswer validPlan validPort validFlow allTo anyTo sublist admissible failing lowestFailing lowest countTo fails crossed capacity window workload demand sumTo frames begun stretch ceilDiv wireBits slack
+unfolding extra bytesK table32 after afterFrom loadLeaves noPlan readPlan readAs readFrom blank stepAt fieldAt fieldIn headerIn portInValue flowIn extraIn jitterIn number2 number4 sizeAt wholeAt valueAt numbers2 routePorts routeIn repeats every distinct elem store added closing firstFrom firstAbsent namesAbsent jitterAbsent extraAbsent checkAnswer slackAnswer validPlan validPort validFlow allTo anyTo sublist admissible failing lowestFailing lowest countTo fails crossed capacity window workload demand sumTo frames begun stretch ceilDiv wireBits slack
 tableOf32 = refl
 
 -- flow 3 over port 3, which K does not have
-unfoldable flow3 : List ℕ
+unfoldable pub flow3 : List ℕ
 flow3 = 0x03 ∷ 0x00 ∷ 0x0c ∷ 0x00 ∷ 0x03 ∷ 0x00 ∷ 0x01 ∷ 0x86 ∷ 0xa0 ∷ 0x00 ∷ 0x01 ∷ 0x00 ∷ 0xe6 ∷ 0x00 ∷ 0x03 ∷ []
 
 -- 65 bytes, and a port 65; a second field of a port whose first said 0; an absent port, and a route of one before it; each at its tag
@@ -60,5 +60,5 @@ refusals
     ∷ refusal 9 (0 ∷ [])
     ∷ refusal 9 (59 ∷ [])
     ∷ []
-unfolding extra flow3 bytesK _++_ loadAnswer noPlan readPlan readAs readFrom blank stepAt fieldAt fieldIn headerIn portInValue flowIn extraIn number2 number4 sizeAt wholeAt valueAt numbers2 routePorts routeIn repeats every distinct elem store added closing firstFrom firstAbsent namesAbsent extraAbsent
+unfolding extra flow3 bytesK loadAnswer noPlan readPlan readAs readFrom blank stepAt fieldAt fieldIn headerIn portInValue flowIn extraIn jitterIn number2 number4 sizeAt wholeAt valueAt numbers2 routePorts routeIn repeats every distinct elem store added closing firstFrom firstAbsent namesAbsent jitterAbsent extraAbsent
 refusals = refl

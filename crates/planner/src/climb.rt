@@ -24,17 +24,28 @@ pub(crate) fn climb<'a>(
     periods: &'a [u32; 256],
     counts: &'a [u16; 256],
     lengths: &'a [u16; 256],
+    jitters: &'a [u32; 256],
     hops: &'a [u8; 256],
     routes: &'a [u8; 4096],
     out: &mut [u64],
 ) -> u64
-    requires { ⌜ (validPlan (planBy guard top (now rates) (now blockings) (now extras) (now periods) (now counts) (now lengths) (now hops) (now routes)) ≡ true) × (length (now out) ≡ portSlots) ⌝ }
-    ensures { λ r. ⌜ Found least (planBy guard top (now (rates .entry)) (now (blockings .entry)) (now (extras .entry)) (now (periods .entry)) (now (counts .entry)) (now (lengths .entry)) (now (hops .entry)) (now (routes .entry))) r (now (out .exit)) ⌝ }
+    requires { ⌜ (validPlan (planBy guard top (now rates) (now blockings) (now extras) (now periods) (now counts) (now lengths) (now jitters) (now hops) (now routes)) ≡ true) × (length (now out) ≡ portSlots) ⌝ }
+    ensures { λ r. ⌜ Found least (planBy guard top (now (rates .entry)) (now (blockings .entry)) (now (extras .entry)) (now (periods .entry)) (now (counts .entry)) (now (lengths .entry)) (now (jitters .entry)) (now (hops .entry)) (now (routes .entry))) r (now (out .exit)) ⌝ }
 {
     let limit = top as u64;
     let mut t: u64 = 1;
     let found = loop {
-        demands(extras, periods, counts, lengths, hops, routes, t, out);
+        demands(
+            extras,
+            periods,
+            counts,
+            lengths,
+            jitters,
+            hops,
+            routes,
+            t,
+            out,
+        );
         let available = window(guard, t);
         let mut q: usize = 0;
         'ports: while q < PORTS {

@@ -8,24 +8,24 @@ ghost use mathlib.Core.List.{[]};
 ghost use Prim.Native.Nat.{ℕ, _+_, _*_, _^_, _≤_, _<_};
 ghost use lib.ListN.{length, getD};
 ghost use Rattle.cqf.specs.Bounded.{distinct, every, sublist, tabulate};
-ghost use Rattle.cqf.specs.Limits.{portSlots, flowSlots, routeStride, maxTop, portOk, minPeriod, maxPeriod, maxCount};
-ghost use Rattle.cqf.specs.Condition.{bitsOf, ceilDiv, demand};
+ghost use Rattle.cqf.specs.Limits.{portSlots, flowSlots, routeStride, maxTop, portOk, minPeriod, maxPeriod, maxCount, maxJitter};
+ghost use Rattle.cqf.specs.Condition.{bitsOf, begunBy, framesBy, demand};
 ghost use Rattle.tables.specs.Columns.{columns, FlowsInRange, ExtrasInRange, Marked};
 
-// The periods that begin within a duration: the quotient rounded up.
-fn periods_begun(duration: u32, period: u32) -> u32
-    requires { ⌜ (1 ≤ period) × (period ≤ maxTop) × (duration ≤ maxTop) ⌝ }
-    ensures { λ r. ⌜ r ≡ ceilDiv duration period ⌝ }
+// The periods that begin in a stretch or within the jitter before it: the quotient rounded up.
+fn periods_begun(stretch: u32, jitter: u32, period: u32) -> u32
+    requires { ⌜ (minPeriod ≤ period) × (period ≤ maxPeriod) × (jitter ≤ maxJitter) × (stretch ≤ maxTop) ⌝ }
+    ensures { λ r. ⌜ r ≡ begunBy stretch jitter period ⌝ }
 {
-    (duration + (period - 1)) / period
+    (stretch + jitter + (period - 1)) / period
 }
 
-// The frames that a flow brings.
-pub(crate) fn flow_frames(period: u32, count: u16, duration: u32) -> u64
-    requires { ⌜ (minPeriod ≤ period) × (period ≤ maxPeriod) × (count ≤ maxCount) × (duration ≤ maxTop) ⌝ }
-    ensures { λ r. ⌜ r ≡ count * ceilDiv duration period ⌝ }
+// The frames that a flow brings in a stretch.
+pub(crate) fn flow_frames(period: u32, count: u16, jitter: u32, stretch: u32) -> u64
+    requires { ⌜ (minPeriod ≤ period) × (period ≤ maxPeriod) × (count ≤ maxCount) × (jitter ≤ maxJitter) × (stretch ≤ maxTop) ⌝ }
+    ensures { λ r. ⌜ r ≡ framesBy count stretch jitter period ⌝ }
 {
-    let begun = periods_begun(duration, period);
+    let begun = periods_begun(stretch, jitter, period);
     (count as u64) * (begun as u64)
 }
 
@@ -69,22 +69,23 @@ pub(crate) fn demands<'a>(
     periods: &'a [u32; 256],
     counts: &'a [u16; 256],
     lengths: &'a [u16; 256],
+    jitters: &'a [u32; 256],
     hops: &'a [u8; 256],
     routes: &'a [u8; 4096],
     duration: u64,
     out: &mut [u64],
 )
-    requires { ⌜ FlowsInRange (now periods) (now counts) (now lengths) (now hops) (now routes) × ExtrasInRange (now extras) ⌝ }
+    requires { ⌜ FlowsInRange (now periods) (now counts) (now lengths) (now jitters) (now hops) (now routes) × ExtrasInRange (now extras) ⌝ }
     requires { ⌜ (duration ≤ maxTop) × (length (now out) ≡ portSlots) ⌝ }
-    ensures { λ r. ⌜ now (out .exit) ≡ tabulate portSlots (λ q. demand (columns [] [] (now (extras .entry)) (now (periods .entry)) (now (counts .entry)) (now (lengths .entry)) (now (hops .entry)) (now (routes .entry))) q duration) ⌝ }
+    ensures { λ r. ⌜ now (out .exit) ≡ tabulate portSlots (λ q. demand (columns [] [] (now (extras .entry)) (now (periods .entry)) (now (counts .entry)) (now (lengths .entry)) (now (jitters .entry)) (now (hops .entry)) (now (routes .entry))) q duration) ⌝ }
 {
     clear(out);
-    let at = duration as u32;
+    let stretch = duration as u32;
     let mut f: usize = 0;
     while f < FLOWS {
         let period = periods[f];
         if period != 0 {
-            let frames = flow_frames(period, counts[f], at);
+            let frames = flow_frames(period, counts[f], jitters[f], stretch);
             add_route(
                 routes,
                 f * STRIDE,

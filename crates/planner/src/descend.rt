@@ -23,17 +23,28 @@ pub(crate) fn descend<'a>(
     periods: &'a [u32; 256],
     counts: &'a [u16; 256],
     lengths: &'a [u16; 256],
+    jitters: &'a [u32; 256],
     hops: &'a [u8; 256],
     routes: &'a [u8; 4096],
     out: &mut [u64],
 ) -> u64
-    requires { ⌜ (validPlan (planBy guard top (now rates) (now blockings) (now extras) (now periods) (now counts) (now lengths) (now hops) (now routes)) ≡ true) × (length (now out) ≡ portSlots) ⌝ }
-    ensures { λ r. ⌜ Found marginSafe (planBy guard top (now (rates .entry)) (now (blockings .entry)) (now (extras .entry)) (now (periods .entry)) (now (counts .entry)) (now (lengths .entry)) (now (hops .entry)) (now (routes .entry))) r (now (out .exit)) ⌝ }
+    requires { ⌜ (validPlan (planBy guard top (now rates) (now blockings) (now extras) (now periods) (now counts) (now lengths) (now jitters) (now hops) (now routes)) ≡ true) × (length (now out) ≡ portSlots) ⌝ }
+    ensures { λ r. ⌜ Found marginSafe (planBy guard top (now (rates .entry)) (now (blockings .entry)) (now (extras .entry)) (now (periods .entry)) (now (counts .entry)) (now (lengths .entry)) (now (jitters .entry)) (now (hops .entry)) (now (routes .entry))) r (now (out .exit)) ⌝ }
 {
     let limit = top as u64;
     let mut below = limit;
     let found = loop {
-        demands(extras, periods, counts, lengths, hops, routes, below, out);
+        demands(
+            extras,
+            periods,
+            counts,
+            lengths,
+            jitters,
+            hops,
+            routes,
+            below,
+            out,
+        );
         let most = larger(1, largest_need(guard, rates, blockings, extras, &out[..]));
         if below < most {
             break below + 1;
@@ -43,6 +54,16 @@ pub(crate) fn descend<'a>(
     if limit < found {
         return found;
     }
-    demands(extras, periods, counts, lengths, hops, routes, found, out);
+    demands(
+        extras,
+        periods,
+        counts,
+        lengths,
+        jitters,
+        hops,
+        routes,
+        found,
+        out,
+    );
     found
 }

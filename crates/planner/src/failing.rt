@@ -69,19 +69,21 @@ pub(crate) fn failing_at<'a>(
     periods: &'a [u32; 256],
     counts: &'a [u16; 256],
     lengths: &'a [u16; 256],
+    jitters: &'a [u32; 256],
     hops: &'a [u8; 256],
     routes: &'a [u8; 4096],
     duration: u64,
     out: &mut [u64],
 ) -> FailingPorts
-    requires { ⌜ (validPlan (planBy guard duration (now rates) (now blockings) (now extras) (now periods) (now counts) (now lengths) (now hops) (now routes)) ≡ true) × (length (now out) ≡ portSlots) ⌝ }
-    ensures { λ r. ⌜ FailingAt (planBy guard duration (now (rates .entry)) (now (blockings .entry)) (now (extras .entry)) (now (periods .entry)) (now (counts .entry)) (now (lengths .entry)) (now (hops .entry)) (now (routes .entry))) duration (r .port) (r .count) (now (out .exit)) ⌝ }
+    requires { ⌜ (validPlan (planBy guard duration (now rates) (now blockings) (now extras) (now periods) (now counts) (now lengths) (now jitters) (now hops) (now routes)) ≡ true) × (length (now out) ≡ portSlots) ⌝ }
+    ensures { λ r. ⌜ FailingAt (planBy guard duration (now (rates .entry)) (now (blockings .entry)) (now (extras .entry)) (now (periods .entry)) (now (counts .entry)) (now (lengths .entry)) (now (jitters .entry)) (now (hops .entry)) (now (routes .entry))) duration (r .port) (r .count) (now (out .exit)) ⌝ }
 {
     demands(
         extras,
         periods,
         counts,
         lengths,
+        jitters,
         hops,
         routes,
         duration,

@@ -7,16 +7,16 @@ ghost use mathlib.Core.Path.{_≡_};
 ghost use mathlib.Core.List.{[]};
 ghost use Prim.Native.Nat.{suc, _+_, _*_, _≤_, _<_};
 ghost use Rattle.cqf.specs.Bounded.{elem, sublist};
-ghost use Rattle.cqf.specs.Limits.{portSlots, flowSlots, routeStride, maxTop, minPeriod, maxPeriod, maxCount, maxLength, maxExtra};
-ghost use Rattle.cqf.specs.Condition.{bitsOf, ceilDiv, demand};
+ghost use Rattle.cqf.specs.Limits.{portSlots, flowSlots, routeStride, maxTop, minPeriod, maxPeriod, maxCount, maxLength, maxJitter, maxExtra};
+ghost use Rattle.cqf.specs.Condition.{bitsOf, framesBy, demand};
 ghost use Rattle.tables.specs.Columns.{columns, FlowsInRange, ExtrasInRange};
 
 // The wire bits of the frames that a flow brings to a port.
-fn flow_bits(period: u32, count: u16, bytes: u16, extra: u8, duration: u32) -> u64
-    requires { ⌜ (minPeriod ≤ period) × (period ≤ maxPeriod) × (count ≤ maxCount) × (bytes ≤ maxLength) × (extra ≤ maxExtra) × (duration ≤ maxTop) ⌝ }
-    ensures { λ r. ⌜ r ≡ count * ceilDiv duration period * bitsOf bytes extra ⌝ }
+fn flow_bits(period: u32, count: u16, bytes: u16, jitter: u32, extra: u8, stretch: u32) -> u64
+    requires { ⌜ (minPeriod ≤ period) × (period ≤ maxPeriod) × (count ≤ maxCount) × (bytes ≤ maxLength) × (jitter ≤ maxJitter) × (extra ≤ maxExtra) × (stretch ≤ maxTop) ⌝ }
+    ensures { λ r. ⌜ r ≡ framesBy count stretch jitter period * bitsOf bytes extra ⌝ }
 {
-    flow_frames(period, count, duration) * wire_bits(bytes, extra)
+    flow_frames(period, count, jitter, stretch) * wire_bits(bytes, extra)
 }
 
 // Whether a route holds the port in slot q.
@@ -41,21 +41,29 @@ pub(crate) fn port_demand<'a>(
     periods: &'a [u32; 256],
     counts: &'a [u16; 256],
     lengths: &'a [u16; 256],
+    jitters: &'a [u32; 256],
     hops: &'a [u8; 256],
     routes: &'a [u8; 4096],
     duration: u64,
     q: usize,
 ) -> u64
-    requires { ⌜ FlowsInRange (now periods) (now counts) (now lengths) (now hops) (now routes) × ExtrasInRange (now extras) ⌝ }
+    requires { ⌜ FlowsInRange (now periods) (now counts) (now lengths) (now jitters) (now hops) (now routes) × ExtrasInRange (now extras) ⌝ }
     requires { ⌜ (duration ≤ maxTop) × (q < portSlots) ⌝ }
-    ensures { λ r. ⌜ r ≡ demand (columns [] [] (now (extras .entry)) (now (periods .entry)) (now (counts .entry)) (now (lengths .entry)) (now (hops .entry)) (now (routes .entry))) q duration ⌝ }
+    ensures { λ r. ⌜ r ≡ demand (columns [] [] (now (extras .entry)) (now (periods .entry)) (now (counts .entry)) (now (lengths .entry)) (now (jitters .entry)) (now (hops .entry)) (now (routes .entry))) q duration ⌝ }
 {
-    let at = duration as u32;
+    let stretch = duration as u32;
     let mut bits: u64 = 0;
     let mut f: usize = 0;
     while f < FLOWS {
         if route_holds(routes, f * STRIDE, hops[f] as usize, q) {
-            bits += flow_bits(periods[f], counts[f], lengths[f], extras[q], at);
+            bits += flow_bits(
+                periods[f],
+                counts[f],
+                lengths[f],
+                jitters[f],
+                extras[q],
+                stretch,
+            );
         }
         f += 1;
     }

@@ -39,6 +39,7 @@ pub fn slack(planner: Planner, port: u64, duration: u64) -> SlackAnswer
         &planner.periods,
         &planner.counts,
         &planner.lengths,
+        &planner.jitters,
         &planner.hops,
         &planner.routes,
     ) {
@@ -56,6 +57,7 @@ pub fn slack(planner: Planner, port: u64, duration: u64) -> SlackAnswer
         &planner.periods,
         &planner.counts,
         &planner.lengths,
+        &planner.jitters,
         &planner.hops,
         &planner.routes,
         duration,

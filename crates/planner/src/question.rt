@@ -24,6 +24,7 @@ pub fn check(planner: Planner, duration: u64) -> CheckAnswer
         &planner.periods,
         &planner.counts,
         &planner.lengths,
+        &planner.jitters,
         &planner.hops,
         &planner.routes,
     ) {
@@ -41,6 +42,7 @@ pub fn check(planner: Planner, duration: u64) -> CheckAnswer
         &planner.periods,
         &planner.counts,
         &planner.lengths,
+        &planner.jitters,
         &planner.hops,
         &planner.routes,
         duration,

@@ -28,12 +28,13 @@ fn answer<'a>(
     periods: &'a [u32; 256],
     counts: &'a [u16; 256],
     lengths: &'a [u16; 256],
+    jitters: &'a [u32; 256],
     hops: &'a [u8; 256],
     routes: &'a [u8; 4096],
     out: &mut [u64],
 ) -> SearchAnswer
-    requires { ⌜ (validPlan (planBy guard top (now rates) (now blockings) (now extras) (now periods) (now counts) (now lengths) (now hops) (now routes)) ≡ true) × (length (now out) ≡ portSlots) ⌝ }
-    ensures { λ r. ⌜ Answers (noneNumber goal) (wanted goal) (planBy guard top (now (rates .entry)) (now (blockings .entry)) (now (extras .entry)) (now (periods .entry)) (now (counts .entry)) (now (lengths .entry)) (now (hops .entry)) (now (routes .entry))) (searchOf (noneNumber goal) r) (now (out .exit)) ⌝ }
+    requires { ⌜ (validPlan (planBy guard top (now rates) (now blockings) (now extras) (now periods) (now counts) (now lengths) (now jitters) (now hops) (now routes)) ≡ true) × (length (now out) ≡ portSlots) ⌝ }
+    ensures { λ r. ⌜ Answers (noneNumber goal) (wanted goal) (planBy guard top (now (rates .entry)) (now (blockings .entry)) (now (extras .entry)) (now (periods .entry)) (now (counts .entry)) (now (lengths .entry)) (now (jitters .entry)) (now (hops .entry)) (now (routes .entry))) (searchOf (noneNumber goal) r) (now (out .exit)) ⌝ }
 {
     let found = seek(
         goal,
@@ -45,6 +46,7 @@ fn answer<'a>(
         periods,
         counts,
         lengths,
+        jitters,
         hops,
         routes,
         out,
@@ -61,6 +63,7 @@ fn answer<'a>(
         periods,
         counts,
         lengths,
+        jitters,
         hops,
         routes,
         limit,
@@ -83,11 +86,12 @@ fn search<'a>(
     periods: &'a [u32; 256],
     counts: &'a [u16; 256],
     lengths: &'a [u16; 256],
+    jitters: &'a [u32; 256],
     hops: &'a [u8; 256],
     routes: &'a [u8; 4096],
     scratch: &mut [u64],
 ) -> SearchAnswer
-    ensures { λ r. ⌜ Ends (noneNumber goal) (wanted goal) (planBy guard top (now (rates .entry)) (now (blockings .entry)) (now (extras .entry)) (now (periods .entry)) (now (counts .entry)) (now (lengths .entry)) (now (hops .entry)) (now (routes .entry))) (now (scratch .entry)) (searchOf (noneNumber goal) r) (now (scratch .exit)) ⌝ }
+    ensures { λ r. ⌜ Ends (noneNumber goal) (wanted goal) (planBy guard top (now (rates .entry)) (now (blockings .entry)) (now (extras .entry)) (now (periods .entry)) (now (counts .entry)) (now (lengths .entry)) (now (jitters .entry)) (now (hops .entry)) (now (routes .entry))) (now (scratch .entry)) (searchOf (noneNumber goal) r) (now (scratch .exit)) ⌝ }
 {
     if !valid_tables(
         guard,
@@ -98,6 +102,7 @@ fn search<'a>(
         periods,
         counts,
         lengths,
+        jitters,
         hops,
         routes,
     ) {
@@ -117,6 +122,7 @@ fn search<'a>(
         periods,
         counts,
         lengths,
+        jitters,
         hops,
         routes,
         &mut scratch[..PORTS],
@@ -137,6 +143,7 @@ pub fn least(planner: Planner, scratch: &mut [u64]) -> SearchAnswer
         &planner.periods,
         &planner.counts,
         &planner.lengths,
+        &planner.jitters,
         &planner.hops,
         &planner.routes,
         scratch,
@@ -157,6 +164,7 @@ pub fn margin_safe(planner: Planner, scratch: &mut [u64]) -> SearchAnswer
         &planner.periods,
         &planner.counts,
         &planner.lengths,
+        &planner.jitters,
         &planner.hops,
         &planner.routes,
         scratch,

@@ -26,12 +26,13 @@ pub(crate) fn seek<'a>(
     periods: &'a [u32; 256],
     counts: &'a [u16; 256],
     lengths: &'a [u16; 256],
+    jitters: &'a [u32; 256],
     hops: &'a [u8; 256],
     routes: &'a [u8; 4096],
     out: &mut [u64],
 ) -> u64
-    requires { ⌜ (validPlan (planBy guard top (now rates) (now blockings) (now extras) (now periods) (now counts) (now lengths) (now hops) (now routes)) ≡ true) × (length (now out) ≡ portSlots) ⌝ }
-    ensures { λ r. ⌜ Found (wanted goal) (planBy guard top (now (rates .entry)) (now (blockings .entry)) (now (extras .entry)) (now (periods .entry)) (now (counts .entry)) (now (lengths .entry)) (now (hops .entry)) (now (routes .entry))) r (now (out .exit)) ⌝ }
+    requires { ⌜ (validPlan (planBy guard top (now rates) (now blockings) (now extras) (now periods) (now counts) (now lengths) (now jitters) (now hops) (now routes)) ≡ true) × (length (now out) ≡ portSlots) ⌝ }
+    ensures { λ r. ⌜ Found (wanted goal) (planBy guard top (now (rates .entry)) (now (blockings .entry)) (now (extras .entry)) (now (periods .entry)) (now (counts .entry)) (now (lengths .entry)) (now (jitters .entry)) (now (hops .entry)) (now (routes .entry))) r (now (out .exit)) ⌝ }
 {
     match goal {
         Goal::Least => climb(
@@ -43,6 +44,7 @@ pub(crate) fn seek<'a>(
             periods,
             counts,
             lengths,
+            jitters,
             hops,
             routes,
             out,
@@ -56,6 +58,7 @@ pub(crate) fn seek<'a>(
             periods,
             counts,
             lengths,
+            jitters,
             hops,
             routes,
             out,

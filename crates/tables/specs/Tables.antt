@@ -13,6 +13,7 @@ planOf s =
       periods = s .periods;
       counts = s .counts;
       lengths = s .lengths;
+      jitters = s .jitters;
       hops = s .hops;
       routes = s .routes;
     }

@@ -3,6 +3,7 @@ use crate::FLOWS;
 use crate::STRIDE;
 use numbers::limits::count_ok;
 use numbers::limits::hops_ok;
+use numbers::limits::jitter_ok;
 use numbers::limits::length_ok;
 use numbers::limits::period_ok;
 ghost use mathlib.Core.Path.{_≡_};
@@ -10,7 +11,7 @@ ghost use mathlib.Core.Bool.{_&&_};
 ghost use mathlib.Core.List.{[]};
 ghost use Prim.Native.Nat.{_+_, _*_, _≤_, _<_};
 ghost use Rattle.cqf.specs.Bounded.{anyTo, allTo, distinct, every, sublist};
-ghost use Rattle.cqf.specs.Limits.{flowSlots, routeStride, periodOk, countOk, lengthOk, hopsOk};
+ghost use Rattle.cqf.specs.Limits.{flowSlots, routeStride, periodOk, countOk, lengthOk, jitterOk, hopsOk};
 ghost use Rattle.cqf.specs.Plan.{portIn, present, validFlow};
 ghost use Rattle.tables.specs.Columns.{columns};
 
@@ -45,8 +46,8 @@ fn valid_route<'a>(rates: &'a [u32; 64], routes: &'a [u8; 4096], base: usize, ho
 }
 
 // Whether the numbers of a flow are in range.
-fn flow_in_range(period: u32, count: u16, bytes: u16, hops: u8) -> bool
-    ensures { λ r. ⌜ r ≡ periodOk period && countOk count && lengthOk bytes && hopsOk hops ⌝ }
+fn flow_in_range(period: u32, count: u16, bytes: u16, jitter: u32, hops: u8) -> bool
+    ensures { λ r. ⌜ r ≡ periodOk period && countOk count && lengthOk bytes && jitterOk jitter && hopsOk hops ⌝ }
 {
     if !period_ok(period) {
         return false;
@@ -55,6 +56,9 @@ fn flow_in_range(period: u32, count: u16, bytes: u16, hops: u8) -> bool
         return false;
     }
     if !length_ok(bytes) {
+        return false;
+    }
+    if !jitter_ok(jitter) {
         return false;
     }
     hops_ok(hops as usize)
@@ -66,16 +70,18 @@ fn valid_flow<'a>(
     periods: &'a [u32; 256],
     counts: &'a [u16; 256],
     lengths: &'a [u16; 256],
+    jitters: &'a [u32; 256],
     hops: &'a [u8; 256],
     routes: &'a [u8; 4096],
     f: usize,
 ) -> bool
     requires { ⌜ f < flowSlots ⌝ }
-    ensures { λ r. ⌜ r ≡ validFlow (columns (now (rates .entry)) [] [] (now (periods .entry)) (now (counts .entry)) (now (lengths .entry)) (now (hops .entry)) (now (routes .entry))) f ⌝ }
+    ensures { λ r. ⌜ r ≡ validFlow (columns (now (rates .entry)) [] [] (now (periods .entry)) (now (counts .entry)) (now (lengths .entry)) (now (jitters .entry)) (now (hops .entry)) (now (routes .entry))) f ⌝ }
 {
     let period = periods[f];
     let count = counts[f];
     let bytes = lengths[f];
+    let jitter = jitters[f];
     let ports = hops[f];
     if period == 0 {
         if count != 0 {
@@ -84,9 +90,12 @@ fn valid_flow<'a>(
         if bytes != 0 {
             return false;
         }
+        if jitter != 0 {
+            return false;
+        }
         return ports == 0;
     }
-    if !flow_in_range(period, count, bytes, ports) {
+    if !flow_in_range(period, count, bytes, jitter, ports) {
         return false;
     }
     valid_route(rates, routes, f * STRIDE, ports as usize)
@@ -97,14 +106,15 @@ pub(crate) fn valid_flows<'a>(
     periods: &'a [u32; 256],
     counts: &'a [u16; 256],
     lengths: &'a [u16; 256],
+    jitters: &'a [u32; 256],
     hops: &'a [u8; 256],
     routes: &'a [u8; 4096],
 ) -> bool
-    ensures { λ r. ⌜ r ≡ allTo flowSlots (validFlow (columns (now (rates .entry)) [] [] (now (periods .entry)) (now (counts .entry)) (now (lengths .entry)) (now (hops .entry)) (now (routes .entry)))) ⌝ }
+    ensures { λ r. ⌜ r ≡ allTo flowSlots (validFlow (columns (now (rates .entry)) [] [] (now (periods .entry)) (now (counts .entry)) (now (lengths .entry)) (now (jitters .entry)) (now (hops .entry)) (now (routes .entry)))) ⌝ }
 {
     let mut f: usize = 0;
     while f < FLOWS {
-        if !valid_flow(rates, periods, counts, lengths, hops, routes, f) {
+        if !valid_flow(rates, periods, counts, lengths, jitters, hops, routes, f) {
             return false;
         }
         f += 1;
@@ -113,7 +123,7 @@ pub(crate) fn valid_flows<'a>(
 }
 
 pub(crate) fn any_present(periods: &[u32; 256]) -> bool
-    ensures { λ r. ⌜ r ≡ anyTo flowSlots (present (columns [] [] [] (now (periods .entry)) [] [] [] [])) ⌝ }
+    ensures { λ r. ⌜ r ≡ anyTo flowSlots (present (columns [] [] [] (now (periods .entry)) [] [] [] [] [])) ⌝ }
 {
     let mut f: usize = 0;
     while f < FLOWS {

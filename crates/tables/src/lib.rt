@@ -29,6 +29,7 @@ pub struct Planner {
     pub periods: [u32; 256],
     pub counts: [u16; 256],
     pub lengths: [u16; 256],
+    pub jitters: [u32; 256],
     pub hops: [u8; 256],
     pub routes: [u8; 4096],
 }
@@ -46,6 +47,7 @@ pub fn empty() -> Planner
         periods: [0; 256],
         counts: [0; 256],
         lengths: [0; 256],
+        jitters: [0; 256],
         hops: [0; 256],
         routes: [0; 4096],
     }

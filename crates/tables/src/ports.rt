@@ -36,7 +36,7 @@ pub(crate) fn valid_ports<'a>(
     blockings: &'a [u16; 64],
     extras: &'a [u8; 64],
 ) -> bool
-    ensures { λ r. ⌜ r ≡ allTo portSlots (validPort (columns (now (rates .entry)) (now (blockings .entry)) (now (extras .entry)) [] [] [] [] [])) ⌝ }
+    ensures { λ r. ⌜ r ≡ allTo portSlots (validPort (columns (now (rates .entry)) (now (blockings .entry)) (now (extras .entry)) [] [] [] [] [] [])) ⌝ }
 {
     let mut q: usize = 0;
     while q < PORTS {

@@ -20,10 +20,11 @@ pub fn valid_tables<'a>(
     periods: &'a [u32; 256],
     counts: &'a [u16; 256],
     lengths: &'a [u16; 256],
+    jitters: &'a [u32; 256],
     hops: &'a [u8; 256],
     routes: &'a [u8; 4096],
 ) -> bool
-    ensures { λ r. ⌜ r ≡ validPlan (planBy guard top (now (rates .entry)) (now (blockings .entry)) (now (extras .entry)) (now (periods .entry)) (now (counts .entry)) (now (lengths .entry)) (now (hops .entry)) (now (routes .entry))) ⌝ }
+    ensures { λ r. ⌜ r ≡ validPlan (planBy guard top (now (rates .entry)) (now (blockings .entry)) (now (extras .entry)) (now (periods .entry)) (now (counts .entry)) (now (lengths .entry)) (now (jitters .entry)) (now (hops .entry)) (now (routes .entry))) ⌝ }
 {
     if !top_ok(top) {
         return false;
@@ -34,7 +35,7 @@ pub fn valid_tables<'a>(
     if !valid_ports(rates, blockings, extras) {
         return false;
     }
-    if !valid_flows(rates, periods, counts, lengths, hops, routes) {
+    if !valid_flows(rates, periods, counts, lengths, jitters, hops, routes) {
         return false;
     }
     any_present(periods)
@@ -52,6 +53,7 @@ pub fn valid_plan(planner: Planner) -> bool
         &planner.periods,
         &planner.counts,
         &planner.lengths,
+        &planner.jitters,
         &planner.hops,
         &planner.routes,
     )

@@ -36,11 +36,12 @@ pub struct Planner {
     pub periods: [u32; 256],
     pub counts: [u16; 256],
     pub lengths: [u16; 256],
+    pub jitters: [u32; 256],
     pub hops: [u8; 256],
     pub routes: [u8; 4096],
 }
 
-pub const PLANNER_BYTES: usize = 6856;
+pub const PLANNER_BYTES: usize = 7880;
 const _: () = assert!(std::mem::size_of::<Planner>() == PLANNER_BYTES);
 
 impl Planner {
@@ -65,6 +66,7 @@ impl Planner {
             .or_else(|| first("periods", &self.periods, &other.periods))
             .or_else(|| first("counts", &self.counts, &other.counts))
             .or_else(|| first("lengths", &self.lengths, &other.lengths))
+            .or_else(|| first("jitters", &self.jitters, &other.jitters))
             .or_else(|| first("hops", &self.hops, &other.hops))
             .or_else(|| first("routes", &self.routes, &other.routes))
     }

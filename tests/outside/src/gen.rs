@@ -4,6 +4,8 @@ pub mod damage;
 pub mod fit;
 pub mod kinds;
 pub mod laden;
+mod later;
+pub mod sized;
 
 use crate::rng::Rng;
 
@@ -14,6 +16,7 @@ pub enum Piece {
     Port { number: u16, rate: u32, blocker: u16 },
     Flow { number: u16, period: u32, count: u16, length: u16, route: Vec<u16> },
     Extra { number: u16, extra: u16 },
+    Jitter { number: u16, jitter: u32 },
     Raw(Vec<u8>),
 }
 
@@ -46,6 +49,11 @@ impl Piece {
                 bytes.extend(number.to_be_bytes());
                 bytes.extend(extra.to_be_bytes());
             }
+            Piece::Jitter { number, jitter } => {
+                bytes.extend([5, 0, 6]);
+                bytes.extend(number.to_be_bytes());
+                bytes.extend(jitter.to_be_bytes());
+            }
             Piece::Raw(raw) => bytes.extend(raw),
         }
         bytes
@@ -68,6 +76,20 @@ pub fn wire_bits(pieces: &[Piece], port: u16, length: u16) -> u64 {
 /// Whether some port has extra bytes.
 pub fn has_extra(pieces: &[Piece]) -> bool {
     pieces.iter().any(|piece| matches!(piece, Piece::Extra { extra, .. } if *extra > 0))
+}
+
+/// The jitter that the pieces give a flow.
+pub fn jitter_of(pieces: &[Piece], flow: u16) -> u64 {
+    let jitter = pieces.iter().find_map(|piece| match piece {
+        Piece::Jitter { number, jitter } if *number == flow => Some(u64::from(*jitter)),
+        _ => None,
+    });
+    jitter.unwrap_or(0)
+}
+
+/// Whether some flow has jitter.
+pub fn has_jitter(pieces: &[Piece]) -> bool {
+    pieces.iter().any(|piece| matches!(piece, Piece::Jitter { jitter, .. } if *jitter > 0))
 }
 
 pub fn set_top(pieces: &mut [Piece], new: u64) {

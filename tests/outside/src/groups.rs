@@ -3,6 +3,7 @@
 pub mod extra;
 pub mod fields;
 pub mod foreign;
+pub mod jitter;
 pub mod known;
 pub mod loads;
 pub mod model;
@@ -15,7 +16,7 @@ pub mod searches;
 use crate::answers::Planner;
 use crate::ffi;
 use crate::model::spans::{search, spans, Search, Span};
-use crate::model::{self as judge, Plan};
+use crate::model::{self as judge, Flow, Plan};
 use crate::report::Tally;
 use crate::rng::Rng;
 
@@ -27,10 +28,11 @@ pub fn durations(plan: &Plan, rng: &mut Rng) -> Vec<u64> {
     let twice = 2 * plan.guard;
     asked.extend([twice.saturating_sub(1), twice, twice + 1, plan.guard, 100_000_000, 100_000_001]);
     asked.extend([1 << 32, (1 << 32) + 1, (1 << 32) + plan.top, 1 << 63, u64::from(u32::MAX)]);
-    let periods: Vec<u64> = plan.flows.values().map(|flow| flow.period).collect();
+    let flows: Vec<&Flow> = plan.flows.values().collect();
     for _ in 0..8 {
-        let period = rng.pick(&periods);
-        let rise = period * rng.range(0, plan.top / period);
+        let flow = rng.pick(&flows);
+        let periods = rng.range(flow.jitter / flow.period, (plan.top + flow.jitter) / flow.period);
+        let rise = (flow.period * periods).saturating_sub(flow.jitter);
         asked.extend([rise.saturating_sub(1), rise, rise + 1]);
         asked.push(rng.range(1, plan.top));
     }

@@ -1,5 +1,6 @@
 //! Document 01 and the landed requests of document 02 once more: plans as maps, the condition, the plain question and the spare.
 
+pub mod field;
 pub mod read;
 pub mod spans;
 pub mod tables;
@@ -20,6 +21,8 @@ pub struct Flow {
     pub period: u64,
     pub count: u64,
     pub length: u64,
+    /// By how much a frame may come after its nominal instant.
+    pub jitter: u64,
     pub route: Vec<u64>,
 }
 
@@ -48,8 +51,9 @@ impl Port {
 impl Flow {
     /// Frames that this flow brings to each of its ports at a duration.
     pub fn frames_at(&self, duration: u64) -> u64 {
-        let mut rounds = duration / self.period;
-        if duration % self.period != 0 {
+        let reach = duration + self.jitter;
+        let mut rounds = reach / self.period;
+        if reach % self.period != 0 {
             rounds += 1;
         }
         rounds * self.count

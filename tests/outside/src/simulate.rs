@@ -1,11 +1,10 @@
 //! Runs of frames through ports with two queues each, one filling while the other empties.
 
-use crate::model::Plan;
-use crate::rng::Rng;
-use std::collections::BTreeMap;
+pub mod emissions;
 
-/// Instants of each flow's frames, never falling.
-pub type Emission = BTreeMap<u64, Vec<u64>>;
+use crate::model::Plan;
+use emissions::Emission;
+use std::collections::BTreeMap;
 
 #[derive(Clone, Copy, Debug)]
 struct Frame {
@@ -33,15 +32,6 @@ pub struct Run<'a> {
     queues: BTreeMap<u64, Queues>,
     waiting: Vec<Frame>,
     left: Vec<(u64, u64, u64)>,
-}
-
-pub fn keeps_contract(plan: &Plan, emission: &Emission) -> bool {
-    emission.iter().all(|(number, instants)| {
-        let flow = &plan.flows[number];
-        let count = flow.count as usize;
-        let rising = instants.windows(2).all(|pair| pair[0] <= pair[1]);
-        rising && instants.iter().zip(instants.iter().skip(count)).all(|(one, later)| later - one >= flow.period)
-    })
 }
 
 impl<'a> Run<'a> {
@@ -125,49 +115,4 @@ impl<'a> Run<'a> {
             now += 1;
         }
     }
-}
-
-/// All flows of a port send as much as they may, so that it comes together there in one cycle.
-pub fn gathered_at(plan: &Plan, port: u64, duration: u64) -> Emission {
-    let mut emission = Emission::new();
-    for (number, flow) in &plan.flows {
-        let hop = match flow.route.iter().position(|passed| *passed == port) {
-            Some(hop) => hop,
-            None => continue,
-        };
-        let start = (16 - hop as u64) * duration;
-        let mut instants = Vec::new();
-        let mut instant = start;
-        while instant < start + duration {
-            instants.extend((0..flow.count).map(|_| instant));
-            instant += flow.period;
-        }
-        emission.insert(*number, instants);
-    }
-    emission
-}
-
-/// A random emission inside the contract, mostly as early as the contract lets it.
-pub fn random(plan: &Plan, duration: u64, frames: usize, rng: &mut Rng) -> Emission {
-    let mut emission = Emission::new();
-    for (number, flow) in &plan.flows {
-        if rng.chance(1, 8) {
-            continue;
-        }
-        let count = flow.count as usize;
-        let hurry = rng.range(0, 8);
-        let mut instants: Vec<u64> = vec![rng.below(3 * duration)];
-        for k in 1..=rng.index(frames) {
-            let soonest = if k < count { 0 } else { instants[k - count] + flow.period };
-            let mut instant = soonest.max(instants[k - 1]);
-            if rng.chance(hurry, 16) {
-                instant += rng.below(duration.max(flow.period) + 1);
-            } else if rng.chance(1, 8) {
-                instant = (instant / duration + 1) * duration;
-            }
-            instants.push(instant);
-        }
-        emission.insert(*number, instants);
-    }
-    emission
 }

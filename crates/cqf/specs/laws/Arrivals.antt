@@ -9,7 +9,7 @@ use lib.ListN.{length, getD, length-map, List·getD-map}
 use lib.Dec.{eqb}
 use borrow.Author.Tests.{eqb-true}
 use Rattle.cqf.specs.Bounded.{countTo}
-use Rattle.cqf.specs.Plan.{Plan, present, periodOf, countOf}
+use Rattle.cqf.specs.Plan.{Plan, present, periodOf, countOf, jitterOf}
 use Rattle.cqf.specs.Condition.{begun, frames}
 use Rattle.cqf.specs.Emission.{Emission, Keeps, cyclesOf}
 use Rattle.cqf.specs.laws.Begun.{stretch-covers, begun-covers}
@@ -53,11 +53,11 @@ module _ {p : Plan} {e : Emission} (keeps : Keeps p e) (f : ℕ) where
       let l′ : suc (i + d) < length (e f) = omega arith in
       rw add-suc (omega (arith, rising-over i d (omega arith), keeps .rising f (i + d) l′))
 
-  -- m times count frames later, at least m periods have passed
+  -- m times count frames later, the nominal instant is at least m periods later
   spaced-over
       : (i m : ℕ)
       → i + countOf p f * m < length (e f)
-      → getD (e f) i 0 + m * periodOf p f ≤ getD (e f) (i + countOf p f * m) 0
+      → keeps .nominal f i + m * periodOf p f ≤ keeps .nominal f (i + countOf p f * m)
   spaced-over i zero l = rw (mul-zero, add-zero) (omega arith)
   spaced-over i (suc m) l =
       let at : i + countOf p f * suc m ≡ i + countOf p f * m + countOf p f = omega (arith, mul-suc (countOf p f) m) in
@@ -65,16 +65,18 @@ module _ {p : Plan} {e : Emission} (keeps : Keeps p e) (f : ℕ) where
       rw at
       (omega (arith, spaced-over i m (omega arith), keeps .spaced f (i + countOf p f * m) l′, suc-mul m (periodOf p f)))
 
-  -- the same for every frame from there on
+  -- every frame from there on is emitted at most the jitter less than m periods later
   apart
       : (i j m : ℕ)
       → i + countOf p f * m ≤ j
       → j < length (e f)
-      → getD (e f) i 0 + m * periodOf p f ≤ getD (e f) j 0
+      → getD (e f) i 0 + m * periodOf p f ≤ getD (e f) j 0 + jitterOf p f
   apart i j m h l =
       let at : i + countOf p f * m + (j - (i + countOf p f * m)) ≡ j = omega arith in
       let later = rising-over (i + countOf p f * m) (j - (i + countOf p f * m)) (omega arith) in
-      omega (arith, spaced-over i m (omega arith), rw at at later)
+      let from = keeps .released f i (omega arith) in
+      let upto = keeps .released f (i + countOf p f * m) (omega arith) in
+      omega (arith, spaced-over i m (omega arith), rw at at later, from .0, from .1, upto .0, upto .1)
 
 -- the cycle of frame k is its instant divided by T
 pub cycle-of : (T : ℕ) (l : List ℕ) (k : ℕ) → getD (map (λ (t : ℕ). t / T) l) k 0 ≡ getD l k 0 / T

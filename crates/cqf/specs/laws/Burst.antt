@@ -1,8 +1,9 @@
--- The emission of one flow that brings count frames in each of n periods, all in cycle c: the first count frames at the cycle's
--- start, and count more after each period.
+-- The emission of one flow that brings count frames in each of n periods from an instant on: the nominal instants of the first count
+-- frames lie the whole jitter before it, and those of count more after each period. A frame is released at the start where its
+-- nominal instant lies before that, and else at its nominal instant.
 use mathlib.Core.Path.{_≡_, ap, _∙_}
 use mathlib.Core.List.{List, map}
-use Prim.Native.Nat.{ℕ, suc, _+_, _*_, _/_, _≤_, _<_}
+use Prim.Native.Nat.{ℕ, suc, _+_, _-_, _*_, _/_, _≤_, _<_}
 use native.Mathlib.Nat.{mul-comm, suc-mul, mul-le-mul-right, add-div-right, div-mul-le-self, le-div-iff-mul-le, div-lt-iff-lt-mul}
 use native.Mathlib.Numerals.{add-one}
 use native.Mathlib.Omega.{arith}
@@ -11,81 +12,91 @@ use lib.Arith.{digits-div}
 use lib.Dec.{eqb}
 use borrow.Author.Tests.{eq-eqb}
 use Rattle.cqf.specs.Bounded.{countTo, tabulate}
+use Rattle.cqf.specs.Emission.{Released}
 use Rattle.cqf.specs.laws.Bounded.{countTo-all}
 use Rattle.cqf.specs.laws.Tabulate.{tabulate-length, tabulate-at}
 use Rattle.cqf.specs.laws.Arrivals.{cycle-of}
 
--- the instants of the burst in cycle c of duration T
-unfoldable pub burst : (T c n count period : ℕ) → List ℕ
+-- the nominal instant of frame k, with the jitter added
+abbrev pub nominally : (start count period k : ℕ) → ℕ
+nominally start count period k = start + k / count * period
+
+-- the instants of the burst
+unfoldable pub burst : (start n count period jitter : ℕ) → List ℕ
 unfolding tabulate
-burst T c n count period = tabulate (count * n) (λ k. c * T + k / count * period)
+burst start n count period jitter = tabulate (count * n) (λ k. start + (k / count * period - jitter))
 
 -- count frames in each period
-pub burst-length : (T c n count period : ℕ) → length (burst T c n count period) ≡ count * n
+pub burst-length : (start n count period jitter : ℕ) → length (burst start n count period jitter) ≡ count * n
 unfolding burst
-burst-length T c n count period = tabulate-length _ _
+burst-length start n count period jitter = tabulate-length _ _
 
--- the instant of frame k
-pub burst-at
-    : (T c n count period k : ℕ)
-    → k < length (burst T c n count period)
-    → getD (burst T c n count period) k 0 ≡ c * T + k / count * period
-unfolding burst
-burst-at T c n count period k l = tabulate-at _ _ k (rw tabulate-length at l)
+-- a later frame is not nominally earlier
+later : (count period k : ℕ) → 0 < count → k / count * period ≤ suc k / count * period
+later count period k some =
+    let up : k / count ≤ suc k / count = le-div-iff-mul-le some .1 (omega (arith, div-mul-le-self k count)) in
+    mul-le-mul-right period up
 
-module _ (T c n count period : ℕ) (some : 0 < count) (within : (m : ℕ) → m < n → m * period < T) where
-  -- every frame is emitted in cycle c
-  pub burst-cycle
-      : (k : ℕ)
-      → k < length (burst T c n count period)
-      → getD (burst T c n count period) k 0 / T ≡ c
+module _ (start n count period jitter : ℕ) where
+  -- its instants
+  abbrev instants : List ℕ
+  instants = burst start n count period jitter
+
+  -- the instant of frame k
+  pub burst-at : (k : ℕ) → k < length instants → getD instants k 0 ≡ start + (k / count * period - jitter)
+  unfolding burst
+  burst-at k l = tabulate-at _ _ k (rw tabulate-length at l)
+
+  -- each frame is released within its jitter
+  pub burst-released : (k : ℕ) → k < length instants → Released jitter (nominally start count period k) (getD instants k 0)
+  burst-released k l = (omega (arith, burst-at k l), omega (arith, burst-at k l))
+
+  module _ (some : 0 < count) where
+    -- instants never fall, and neither do the nominal ones
+    pub burst-rising : (k : ℕ) → suc k < length instants → getD instants k 0 ≤ getD instants (suc k) 0
+    burst-rising k l = omega (arith, burst-at k (omega arith), burst-at (suc k) l, later count period k some)
+
+    pub burst-ordered : (k : ℕ) → nominally start count period k ≤ nominally start count period (suc k)
+    burst-ordered k = omega (arith, later count period k some)
+
+    -- frame k + count nominally comes one period after frame k
+    pub burst-spaced : (k : ℕ) → nominally start count period k + period ≤ nominally start count period (k + count)
+    burst-spaced k =
+        let up : (k + count) / count ≡ suc (k / count) = add-div-right k some ∙ add-one _ in
+        omega (arith, ap (λ (x : ℕ). x * period) up, suc-mul (k / count) period)
+
+    -- where each period begins less than a length and the jitter after the first, every frame is emitted in that length
+    pub burst-early
+        : (T : ℕ)
+        → 0 < T
+        → ((m : ℕ) → m < n → m * period < T + jitter)
+        → (k : ℕ)
+        → k < length instants
+        → getD instants k 0 < start + T
+    burst-early T long within k l =
+        let l′ : k < n * count = omega (arith, burst-length start n count period jitter, mul-comm count n) in
+        omega (arith, burst-at k l, within (k / count) (div-lt-iff-lt-mul some .1 l′))
+
+-- A burst from the start of cycle c of duration T.
+module _ (T c n count period jitter : ℕ) (some : 0 < count) (long : 0 < T) (within : (m : ℕ) → m < n → m * period < T + jitter) where
+  abbrev inCycle : List ℕ
+  inCycle = burst (c * T) n count period jitter
+
+  -- every frame is emitted in that cycle
+  burst-cycle : (k : ℕ) → k < length inCycle → getD inCycle k 0 / T ≡ c
   burst-cycle k l =
-      let l′ : k < n * count = omega (arith, burst-length T c n count period, mul-comm count n) in
-      let early : k / count * period < T = within (k / count) (div-lt-iff-lt-mul some .1 l′) in
-      rw (burst-at T c n count period k l) (digits-div c early)
+      let early = burst-early (c * T) n count period jitter some T long within k l in
+      let at = burst-at (c * T) n count period jitter k l in
+      let less : k / count * period - jitter < T = omega arith in
+      rw at (digits-div c less)
 
-  -- instants never fall
-  pub burst-rising
-      : (k : ℕ)
-      → suc k < length (burst T c n count period)
-      → getD (burst T c n count period) k 0 ≤ getD (burst T c n count period) (suc k) 0
-  burst-rising k l =
-      let up : k / count ≤ suc k / count = le-div-iff-mul-le some .1 (omega (arith, div-mul-le-self k count)) in
-      omega (
-        arith,
-        burst-at T c n count period k (omega arith),
-        burst-at T c n count period (suc k) l,
-        mul-le-mul-right period up,
-      )
-
-  -- frame k + count comes one period after frame k
-  pub burst-spaced
-      : (k : ℕ)
-      → k + count < length (burst T c n count period)
-      → getD (burst T c n count period) k 0 + period ≤ getD (burst T c n count period) (k + count) 0
-  burst-spaced k l =
-      let up : (k + count) / count ≡ suc (k / count) = add-div-right k some ∙ add-one _ in
-      omega (
-        arith,
-        burst-at T c n count period k (omega arith),
-        burst-at T c n count period (k + count) l,
-        ap (λ (x : ℕ). x * period) up,
-        suc-mul (k / count) period,
-      )
-
-  -- the same of its cycles: each is c
-  pub burst-cycles
-      : (k : ℕ)
-      → k < length (map (λ (t : ℕ). t / T) (burst T c n count period))
-      → getD (map (λ (t : ℕ). t / T) (burst T c n count period)) k 0 ≡ c
-  burst-cycles k l = cycle-of T (burst T c n count period) k ∙ burst-cycle k (rw length-map at l)
+  burst-cycles : (k : ℕ) → k < length (map (λ (t : ℕ). t / T) inCycle) → getD (map (λ (t : ℕ). t / T) inCycle) k 0 ≡ c
+  burst-cycles k l = cycle-of T inCycle k ∙ burst-cycle k (rw length-map at l)
 
   -- so the cycle receives all its frames
   pub burst-count
-      : countTo (length (map (λ (t : ℕ). t / T) (burst T c n count period)))
-      (λ k. eqb (getD (map (λ (t : ℕ). t / T) (burst T c n count period)) k 0) c)
-      ≡ count * n
+      : countTo (length (map (λ (t : ℕ). t / T) inCycle)) (λ k. eqb (getD (map (λ (t : ℕ). t / T) inCycle) k 0) c) ≡ count * n
   burst-count =
       countTo-all _ _ (λ i l. eq-eqb _ _ (burst-cycles i l))
-      ∙ length-map (burst T c n count period) (λ (t : ℕ). t / T)
-      ∙ burst-length T c n count period
+      ∙ length-map inCycle (λ (t : ℕ). t / T)
+      ∙ burst-length (c * T) n count period jitter

@@ -6,10 +6,15 @@ use native.Mathlib.Nat.{mul-le-mul}
 use native.Mathlib.Numerals.{add-one}
 use native.Mathlib.Omega.{arith}
 use Rattle.cqf.specs.Bounded.{sumTo, elem, sublist}
-use Rattle.cqf.specs.Limits.{flowSlots, maxTop, minPeriod, maxCount, maxLength, maxExtra, mostBegun}
-use Rattle.cqf.specs.Plan.{Plan, hopsOf, crosses}
-use Rattle.cqf.specs.Condition.{bitsOf, wireBits, ceilDiv, frames, demand, mostBits}
+use Rattle.cqf.specs.Limits.{flowSlots, maxTop, minPeriod, maxCount, maxLength, maxExtra, maxJitter, mostBegun}
+use Rattle.cqf.specs.Plan.{Plan, periodOf, countOf, jitterOf, hopsOf, crosses}
+use Rattle.cqf.specs.Condition.{bitsOf, framesBy, wireBits, stretch, begun, frames, demand, mostBits}
 use Rattle.cqf.specs.laws.Begun.{begun-most}
+
+-- the frames of flow f, from its numbers
+pub frames-by : (p : Plan) (f T : ℕ) → frames p f T ≡ framesBy (countOf p f) (stretch p T) (jitterOf p f) (periodOf p f)
+unfolding frames begun
+frames-by p f T = refl
 
 -- what flow f brings to the port in slot q
 abbrev pub share : Plan → ℕ → ℕ → ℕ → ℕ
@@ -21,15 +26,16 @@ demand-sum p q T = refl
 
 -- one flow brings at most its most bits
 pub flow-bits-most
-    : (T : ℕ) {period count bytes extra : ℕ}
+    : (T : ℕ) {period count bytes jitter extra : ℕ}
     → T ≤ maxTop
     → minPeriod ≤ period
     → count ≤ maxCount
     → bytes ≤ maxLength
+    → jitter ≤ maxJitter
     → extra ≤ maxExtra
-    → count * ceilDiv T period * bitsOf bytes extra ≤ mostBits
-flow-bits-most T {period} {count} {bytes} {extra} l h c b x =
-    let many : count * ceilDiv T period ≤ maxCount * mostBegun = mul-le-mul c (begun-most T l h) in
+    → framesBy count T jitter period * bitsOf bytes extra ≤ mostBits
+flow-bits-most T {period} {count} {bytes} {jitter} {extra} l h c b j x =
+    let many : framesBy count T jitter period ≤ maxCount * mostBegun = mul-le-mul c (begun-most T jitter l j h) in
     let long : bitsOf bytes extra ≤ bitsOf maxLength maxExtra = omega arith in
     mul-le-mul many long
 

@@ -12,16 +12,16 @@ use lib.Dec.{eqb}
 use borrow.Author.Tests.{eqb-true, eqb-false}
 use Rattle.cqf.specs.Bounded.{lowest}
 use Rattle.cqf.specs.Limits.{portSlots, flowSlots, maxHops, routeStride}
-use Rattle.cqf.specs.Plan.{Plan, periodOf, countOf, hopsOf, routeOf, present, crosses, validPlan}
+use Rattle.cqf.specs.Plan.{Plan, periodOf, countOf, jitterOf, hopsOf, routeOf, present, crosses, validPlan}
 use Rattle.cqf.specs.Condition.{begun, frames, fails, admissible}
-use Rattle.cqf.specs.Emission.{Emission, Keeps, cyclesOf}
+use Rattle.cqf.specs.Emission.{Emission, Released, Keeps, InOrder, cyclesOf}
 use Rattle.cqf.specs.Run.{Places, Network, running, stopped, run, overrun, overrunAt, queuedBits, Overruns}
 use Rattle.cqf.specs.LargeEnough.{Counterexample}
 use Rattle.cqf.specs.laws.Bounded.{anyTo-some, lowest-passes, lowest-below}
 use Rattle.cqf.specs.laws.Lists.{elem-index, sublist-length}
 use Rattle.cqf.specs.laws.Valid.{Held, held-period, present-held, crosses-held, held-present}
 use Rattle.cqf.specs.laws.Begun.{stretch-aligned, begun-before}
-use Rattle.cqf.specs.laws.Burst.{burst, burst-rising, burst-spaced, burst-count}
+use Rattle.cqf.specs.laws.Burst.{burst, nominally, burst-rising, burst-released, burst-spaced, burst-ordered, burst-count}
 use Rattle.cqf.specs.laws.Condition.{some-fails, overrun-at}
 use Rattle.cqf.specs.laws.Places.{run-stops}
 use Rattle.cqf.specs.laws.Sending.{emittedIn, queuedOf, emitted-queued, bits-least}
@@ -49,28 +49,40 @@ hop-at p q f h = go (decLt (hop p q f) (length (routeOf p f)))
         let low = lowest-below (length (routeOf p f)) test (t .0) (omega (arith, t .1)) in
         absurd (eqb-false _ _ low (t .2))
 
--- the emission: a burst of each flow that crosses the port, early by as many cycles as the port is late on its route
+-- the instant from which flow f has its burst: early by as many cycles as the port is late on its route
+abbrev begins : Plan → ℕ → ℕ → ℕ → ℕ
+begins p T q f = (maxHops - hop p q f) * T
+
+-- all that flow f may emit from there
+abbrev burstOf : Plan → ℕ → ℕ → ℕ → List ℕ
+burstOf p T q f = burst (begins p T q f) (begun p f T) (countOf p f) (periodOf p f) (jitterOf p f)
+
+-- the emission: the burst of each flow that crosses the port
 worst : Plan → ℕ → ℕ → Emission
 unfolding hop
-worst p T q f = cond (present p f && crosses p f q) (burst T (maxHops - hop p q f) (begun p f T) (countOf p f) (periodOf p f)) []
+worst p T q f = cond (present p f && crosses p f q) (burstOf p T q f) []
 
 module _ (p : Plan) (valid : validPlan p ≡ true) (T : ℕ) (long : 0 < T) (q : ℕ) where
-  -- its periods begin within the cycle
-  in-cycle : (f : ℕ) → Held p f → (m : ℕ) → m < begun p f T → m * periodOf p f < T
+  -- its periods begin within the cycle and the jitter before it
+  in-cycle : (f : ℕ) → Held p f → (m : ℕ) → m < begun p f T → m * periodOf p f < T + jitterOf p f
   in-cycle f flow m l = rw (stretch-aligned p T) at (begun-before p f T m (held-period p f flow) l)
 
   -- what holds of no frames and of the burst of a flow holds of the emission
-  worst-cases
-      : (P : List ℕ → Type 0) (f : ℕ)
-      → P []
-      → (Held p f → P (burst T (maxHops - hop p q f) (begun p f T) (countOf p f) (periodOf p f)))
-      → P (worst p T q f)
+  worst-cases : (P : List ℕ → Type 0) (f : ℕ) → P [] → (Held p f → P (burstOf p T q f)) → P (worst p T q f)
   unfolding worst
   worst-cases P f none some = go (present p f && crosses p f q) refl
     where
-      go : (x : Bool) → present p f && crosses p f q ≡ x → P (cond x (burst T (maxHops - hop p q f) (begun p f T) (countOf p f) (periodOf p f)) [])
+      go : (x : Bool) → present p f && crosses p f q ≡ x → P (cond x (burstOf p T q f) [])
       go true h = some (present-held p valid f (and-eq-true-iff (present p f) (crosses p f q) .0 h .0))
       go false h = none
+
+  -- what holds of each frame of each burst holds of each frame of the emission
+  worst-frames
+      : (P : List ℕ → Type 0) (f k : ℕ)
+      → (Held p f → k < length (burstOf p T q f) → P (burstOf p T q f))
+      → k < length (worst p T q f)
+      → P (worst p T q f)
+  worst-frames P f k = λ each. worst-cases (λ l. k < length l → P l) f (λ h. absurd (not-suc-le-zero h)) each
 
   -- it keeps every contract
   worst-absent : (f : ℕ) → present p f ≡ false → worst p T q f ≡ []
@@ -79,32 +91,46 @@ module _ (p : Plan) (valid : validPlan p ≡ true) (T : ℕ) (long : 0 < T) (q :
 
   worst-rising : (f k : ℕ) → suc k < length (worst p T q f) → getD (worst p T q f) k 0 ≤ getD (worst p T q f) (suc k) 0
   worst-rising f k =
-      worst-cases
-      (λ l. suc k < length l → getD l k 0 ≤ getD l (suc k) 0)
-      f
-      (λ h. absurd (not-suc-le-zero h))
-      (λ flow. burst-rising T (maxHops - hop p q f) (begun p f T) (countOf p f) (periodOf p f) (flow .count-least) (in-cycle f flow) k)
+      worst-frames (λ l. getD l k 0 ≤ getD l (suc k) 0) f (suc k)
+      (λ flow. burst-rising (begins p T q f) (begun p f T) (countOf p f) (periodOf p f) (jitterOf p f) (flow .count-least) k)
+
+  abbrev worst-nominal : ℕ → ℕ → ℕ
+  worst-nominal f k = nominally (begins p T q f) (countOf p f) (periodOf p f) k
+
+  worst-released : (f k : ℕ) → k < length (worst p T q f) → Released (jitterOf p f) (worst-nominal f k) (getD (worst p T q f) k 0)
+  worst-released f k =
+      worst-frames (λ l. Released (jitterOf p f) (worst-nominal f k) (getD l k 0)) f k
+      (λ flow. burst-released (begins p T q f) (begun p f T) (countOf p f) (periodOf p f) (jitterOf p f) k)
 
   worst-spaced
       : (f k : ℕ)
       → k + countOf p f < length (worst p T q f)
-      → getD (worst p T q f) k 0 + periodOf p f ≤ getD (worst p T q f) (k + countOf p f) 0
+      → worst-nominal f k + periodOf p f ≤ worst-nominal f (k + countOf p f)
   worst-spaced f k =
-      worst-cases
-      (λ l. k + countOf p f < length l → getD l k 0 + periodOf p f ≤ getD l (k + countOf p f) 0)
-      f
-      (λ h. absurd (not-suc-le-zero h))
-      (λ flow. burst-spaced T (maxHops - hop p q f) (begun p f T) (countOf p f) (periodOf p f) (flow .count-least) (in-cycle f flow) k)
+      worst-frames (λ l. worst-nominal f k + periodOf p f ≤ worst-nominal f (k + countOf p f)) f (k + countOf p f)
+      (λ flow _.
+      burst-spaced (begins p T q f) (begun p f T) (countOf p f) (periodOf p f) (jitterOf p f) (flow .count-least) k)
 
   worst-keeps : Keeps p (worst p T q)
-  worst-keeps = record { absent = worst-absent; rising = worst-rising; spaced = worst-spaced }
+  worst-keeps =
+      record {
+        absent = worst-absent;
+        rising = worst-rising;
+        nominal = worst-nominal;
+        released = worst-released;
+        spaced = worst-spaced;
+      }
+
+  -- and its nominal instants never fall
+  worst-ordered : InOrder worst-keeps
+  unfolding worst-keeps hop
+  worst-ordered f k =
+      worst-frames (λ l. worst-nominal f k ≤ worst-nominal f (suc k)) f (suc k)
+      (λ flow _.
+      burst-ordered (begins p T q f) (begun p f T) (countOf p f) (periodOf p f) (jitterOf p f) (flow .count-least) k)
 
   -- each flow that crosses the port emits its frames in the cycle chosen for it
-  worst-burst
-      : (f : ℕ)
-      → f < flowSlots
-      → crosses p f q ≡ true
-      → worst p T q f ≡ burst T (maxHops - hop p q f) (begun p f T) (countOf p f) (periodOf p f)
+  worst-burst : (f : ℕ) → f < flowSlots → crosses p f q ≡ true → worst p T q f ≡ burstOf p T q f
   unfolding worst
   worst-burst f l h = rw (held-present p f l (crosses-held p valid f q l h), h)
 
@@ -117,7 +143,9 @@ module _ (p : Plan) (valid : validPlan p ≡ true) (T : ℕ) (long : 0 < T) (q :
   worst-emitted f l h =
       let flow = crosses-held p valid f q l h in
       rw (worst-burst f l h)
-      (le-of-eq (sym (burst-count T (maxHops - hop p q f) (begun p f T) (countOf p f) (periodOf p f) (flow .count-least) (in-cycle f flow))))
+      (le-of-eq
+      (sym
+      (burst-count T (maxHops - hop p q f) (begun p f T) (countOf p f) (periodOf p f) (jitterOf p f) (flow .count-least) long (in-cycle f flow))))
 
   -- so where the run gets to the cycle after the longest route, each of those flows has its frames queued at the port
   worst-queued
@@ -175,12 +203,17 @@ module _ (p : Plan) (valid : validPlan p ≡ true) (T : ℕ) (long : 0 < T) (q :
               unsent = run-stops p T (cyclesOf T (worst p T q)) (suc maxHops) places e (worst-overrun places e);
             }
 
--- a duration that is not admissible has its counterexample
-pub counterexample : (p : Plan) → validPlan p ≡ true → (T : ℕ) → 0 < T → admissible p T ≡ false → Counterexample p T
-counterexample p valid T long bad =
-    let s = some-fails p T bad in
-    record {
-      emission = worst p T (s .0);
-      keeps = worst-keeps p valid T long (s .0);
-      overruns = worst-overruns p valid T long (s .0) (s .1) (s .2);
-    }
+-- a duration that is not admissible has its counterexample, in which the nominal instants never fall either
+module _ (p : Plan) (valid : validPlan p ≡ true) (T : ℕ) (long : 0 < T) (bad : admissible p T ≡ false) where
+  pub counterexample : Counterexample p T
+  counterexample =
+      let s = some-fails p T bad in
+      record {
+        emission = worst p T (s .0);
+        keeps = worst-keeps p valid T long (s .0);
+        overruns = worst-overruns p valid T long (s .0) (s .1) (s .2);
+      }
+
+  pub counterexample-ordered : InOrder (counterexample .keeps)
+  unfolding counterexample
+  counterexample-ordered = worst-ordered p valid T long (some-fails p T bad .0)

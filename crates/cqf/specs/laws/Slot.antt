@@ -6,16 +6,16 @@ use Prim.Native.Nat.{ℕ, _≤_}
 use lib.Dec.{eqb}
 use borrow.Author.Tests.{ne-eqb, leb-true}
 use Rattle.cqf.specs.Bounded.{distinct, every}
-use Rattle.cqf.specs.Limits.{maxHops, periodOk, countOk, lengthOk, hopsOk}
-use Rattle.cqf.specs.Plan.{Plan, periodOf, countOf, lengthOf, hopsOf, routeOf, portIn, validFlow}
+use Rattle.cqf.specs.Limits.{maxHops, periodOk, countOk, lengthOk, jitterOk, hopsOk}
+use Rattle.cqf.specs.Plan.{Plan, periodOf, countOf, lengthOf, jitterOf, hopsOf, routeOf, portIn, validFlow}
 
 -- slot f is empty
 abbrev pub emptyAt : Plan → ℕ → Bool
-emptyAt p f = eqb (periodOf p f) 0 && eqb (countOf p f) 0 && eqb (lengthOf p f) 0 && eqb (hopsOf p f) 0
+emptyAt p f = eqb (periodOf p f) 0 && eqb (countOf p f) 0 && eqb (lengthOf p f) 0 && eqb (jitterOf p f) 0 && eqb (hopsOf p f) 0
 
--- the four numbers of its flow are in range
+-- the five numbers of its flow are in range
 abbrev pub ranged : Plan → ℕ → Bool
-ranged p f = periodOk (periodOf p f) && countOk (countOf p f) && lengthOk (lengthOf p f) && hopsOk (hopsOf p f)
+ranged p f = periodOk (periodOf p f) && countOk (countOf p f) && lengthOk (lengthOf p f) && jitterOk (jitterOf p f) && hopsOk (hopsOf p f)
 
 -- it holds a flow in range over distinct ports with these rates
 abbrev pub heldAt : List ℕ → Plan → ℕ → Bool
@@ -31,9 +31,18 @@ module _ (p : Plan) (f : ℕ) where
   unfolding validFlow
   slot-length e d ne = rw (e, d, ne-eqb (lengthOf p f) 0 ne)
 
-  pub slot-hops : periodOf p f ≡ 0 → countOf p f ≡ 0 → lengthOf p f ≡ 0 → validFlow p f ≡ eqb (hopsOf p f) 0
+  pub slot-jitter : periodOf p f ≡ 0 → countOf p f ≡ 0 → lengthOf p f ≡ 0 → (jitterOf p f ≡ 0 → ⊥) → validFlow p f ≡ false
   unfolding validFlow
-  slot-hops e d c = rw (e, d, c) (or-false (eqb (hopsOf p f) 0))
+  slot-jitter e d c ne = rw (e, d, c, ne-eqb (jitterOf p f) 0 ne)
+
+  pub slot-hops
+      : periodOf p f ≡ 0
+      → countOf p f ≡ 0
+      → lengthOf p f ≡ 0
+      → jitterOf p f ≡ 0
+      → validFlow p f ≡ eqb (hopsOf p f) 0
+  unfolding validFlow
+  slot-hops e d c j = rw (e, d, c, j) (or-false (eqb (hopsOf p f) 0))
 
   -- any other slot is as valid as its range and its route
   valid-by-route

@@ -6,8 +6,8 @@ use Prim.Native.Nat.{ℕ, _≤_, _<_}
 use native.Mathlib.Omega.{arith}
 use borrow.Author.Tests.{eqb-true, ltb-true, leb-true, lt-ltb}
 use Rattle.cqf.specs.Bounded.{elem, distinct, every, sublist, allTo, anyTo}
-use Rattle.cqf.specs.Limits.{portSlots, flowSlots, maxHops, guardOk, topOk}
-use Rattle.cqf.specs.Plan.{Plan, periodOf, countOf, lengthOf, hopsOf, routeOf, present, crosses, portIn, validPort, validFlow, validPlan}
+use Rattle.cqf.specs.Limits.{portSlots, flowSlots, maxHops, maxJitter, guardOk, topOk}
+use Rattle.cqf.specs.Plan.{Plan, periodOf, countOf, lengthOf, jitterOf, hopsOf, routeOf, present, crosses, portIn, validPort, validFlow, validPlan}
 use Rattle.cqf.specs.laws.Bounded.{or-cases, allTo-at}
 use Rattle.cqf.specs.laws.Slot.{emptyAt, heldAt}
 
@@ -28,6 +28,7 @@ pub record Empty (p : Plan) (f : ℕ) : Type 0 where
   pub period : periodOf p f ≡ 0
   pub count : countOf p f ≡ 0
   pub bytes : lengthOf p f ≡ 0
+  pub jitter : jitterOf p f ≡ 0
   pub hops : hopsOf p f ≡ 0
 
 -- a slot with a flow
@@ -37,6 +38,7 @@ pub record Held (p : Plan) (f : ℕ) : Type 0 where
   pub count-least : 1 ≤ countOf p f
   pub count-most : countOf p f ≤ 64
   pub bytes-most : lengthOf p f ≤ 2000
+  pub jitter-most : jitterOf p f ≤ maxJitter
   pub hops-least : 1 ≤ hopsOf p f
   pub hops-most : hopsOf p f ≤ maxHops
   pub in-plan : every (portIn (p .rates)) (routeOf p f) ≡ true
@@ -51,9 +53,10 @@ empty : (p : Plan) (f : ℕ) → emptyAt p f ≡ true → Empty p f
 empty p f h =
     let t = simp and-eq-true-iff at h in
     record {
-      period = eqb-true _ _ (t .0 .0 .0);
-      count = eqb-true _ _ (t .0 .0 .1);
-      bytes = eqb-true _ _ (t .0 .1);
+      period = eqb-true _ _ (t .0 .0 .0 .0);
+      count = eqb-true _ _ (t .0 .0 .0 .1);
+      bytes = eqb-true _ _ (t .0 .0 .1);
+      jitter = eqb-true _ _ (t .0 .1);
       hops = eqb-true _ _ (t .1);
     }
 
@@ -61,11 +64,12 @@ held : (p : Plan) (f : ℕ) → heldAt (p .rates) p f ≡ true → Held p f
 held p f h =
     let t = simp and-eq-true-iff at h in
     record {
-      period-least = leb-true _ _ (t .0 .0 .0 .0 .0 .0);
-      period-most = leb-true _ _ (t .0 .0 .0 .0 .0 .1);
-      count-least = leb-true _ _ (t .0 .0 .0 .0 .1 .0);
-      count-most = leb-true _ _ (t .0 .0 .0 .0 .1 .1);
-      bytes-most = leb-true _ _ (t .0 .0 .0 .1 .1);
+      period-least = leb-true _ _ (t .0 .0 .0 .0 .0 .0 .0);
+      period-most = leb-true _ _ (t .0 .0 .0 .0 .0 .0 .1);
+      count-least = leb-true _ _ (t .0 .0 .0 .0 .0 .1 .0);
+      count-most = leb-true _ _ (t .0 .0 .0 .0 .0 .1 .1);
+      bytes-most = leb-true _ _ (t .0 .0 .0 .0 .1 .1);
+      jitter-most = leb-true _ _ (t .0 .0 .0 .1 .1);
       hops-least = leb-true _ _ (t .0 .0 .1 .0);
       hops-most = leb-true _ _ (t .0 .0 .1 .1);
       in-plan = t .0 .1;

@@ -1,4 +1,4 @@
--- Laws of what test 9 seeks: fields that name a port not in the plan.
+-- Laws of what test 9 seeks: fields that name a port or a flow not in the plan.
 use Prim.Native.Nat.{ℕ, _+_, _≤_, _<_}
 use mathlib.Core.Path.{_≡_, refl, sym, _∙_}
 use mathlib.Core.List.{List}
@@ -10,8 +10,8 @@ use lib.ListN.{length}
 use Rattle.cqf.specs.Bounded.{every}
 use Rattle.cqf.specs.Plan.{portIn}
 use Rattle.plan.specs.Bytes.{number2, headSize, tagAt, sizeAt, wholeAt, valueAt}
-use Rattle.plan.specs.Field.{flowTag, extraTag}
-use Rattle.plan.specs.Reading.{routeAt, namesAbsent, extraAbsent, orElse, firstField, firstAbsent}
+use Rattle.plan.specs.Field.{flowTag, extraTag, jitterTag}
+use Rattle.plan.specs.Reading.{routeAt, hasFlow, namesAbsent, jitterAbsent, extraAbsent, orElse, firstField, firstAbsent}
 use Rattle.plan.specs.laws.First.{NoneFrom, none-front}
 
 module _ (rates s : List ℕ) (at : ℕ) where
@@ -33,6 +33,16 @@ module _ (rates s : List ℕ) (at : ℕ) where
   unfolding extraAbsent
   absent-extra h = rw (eq-eqb (tagAt s at) extraTag h)
 
+-- a jitter names one flow
+module _ (periods s : List ℕ) (at : ℕ) where
+  pub absent-steady : (tagAt s at ≡ jitterTag → ⊥) → jitterAbsent periods s at ≡ false
+  unfolding jitterAbsent
+  absent-steady h = rw (ne-eqb (tagAt s at) jitterTag h)
+
+  pub absent-jitter : tagAt s at ≡ jitterTag → jitterAbsent periods s at ≡ not (hasFlow periods (number2 (valueAt s at) 0))
+  unfolding jitterAbsent
+  absent-jitter h = rw (eq-eqb (tagAt s at) jitterTag h)
+
 -- an offset in the plan is the one, any other gives way to the next
 module _ (s : List ℕ) (at next : ℕ) where
   pub else-here : at < length s → orElse s at next ≡ at
@@ -52,42 +62,65 @@ module _ (s : List ℕ) (at next : ℕ) where
           let l : length s ≤ at = ltb-false _ _ q in
           (l, omega (arith, else-next l))
 
--- test 9 first seeks a route, then extra bytes
-module _ (rates s : List ℕ) where
-  pub first-route : firstField (namesAbsent rates) s < length s → firstAbsent rates s ≡ firstField (namesAbsent rates) s
+-- test 9 first seeks a route, then a jitter, then extra bytes
+module _ (rates periods s : List ℕ) where
+  pub first-route
+      : firstField (namesAbsent rates) s < length s
+      → firstAbsent rates periods s ≡ firstField (namesAbsent rates) s
   unfolding firstAbsent
   first-route l = else-here s _ _ l
 
-  pub first-extra : length s ≤ firstField (namesAbsent rates) s → firstAbsent rates s ≡ firstField (extraAbsent rates) s
+  pub first-jitter
+      : length s ≤ firstField (namesAbsent rates) s
+      → firstField (jitterAbsent periods) s < length s
+      → firstAbsent rates periods s ≡ firstField (jitterAbsent periods) s
   unfolding firstAbsent
-  first-extra l = else-next s _ _ l
+  first-jitter r l = else-next s _ _ r ∙ else-here s _ _ l
 
--- the ports that the field at this offset names are in the plan; those that all fields from it on name are
-pub record PortsThere (rates s : List ℕ) (at : ℕ) : Type 0 where
+  pub first-extra
+      : length s ≤ firstField (namesAbsent rates) s
+      → length s ≤ firstField (jitterAbsent periods) s
+      → firstAbsent rates periods s ≡ firstField (extraAbsent rates) s
+  unfolding firstAbsent
+  first-extra r l = else-next s _ _ r ∙ else-next s _ _ l
+
+-- what the field at this offset names is in the plan; what all fields from it on name is
+pub record NamedThere (rates periods s : List ℕ) (at : ℕ) : Type 0 where
   pub routes : namesAbsent rates s at ≡ false
+  pub jitters : jitterAbsent periods s at ≡ false
   pub extras : extraAbsent rates s at ≡ false
 
-pub record AllThere (rates s : List ℕ) (at : ℕ) : Type 0 where
+pub record AllThere (rates periods s : List ℕ) (at : ℕ) : Type 0 where
   pub routes : NoneFrom (namesAbsent rates) s at
+  pub jitters : NoneFrom (jitterAbsent periods) s at
   pub extras : NoneFrom (extraAbsent rates) s at
 
-pub all-there : (rates s : List ℕ) → length s ≤ firstAbsent rates s → AllThere rates s 0
+pub all-there : (rates periods s : List ℕ) → length s ≤ firstAbsent rates periods s → AllThere rates periods s 0
 unfolding firstAbsent
-all-there rates s h = let t = else-none s _ _ h in record { routes = t .0; extras = t .1 }
+all-there rates periods s h =
+    let t = else-none s _ _ h in
+    let u = else-none s _ _ (t .1) in
+    record { routes = t .0; jitters = u .0; extras = u .1 }
 
-module _ (rates s : List ℕ) (at : ℕ) where
+module _ (rates periods s : List ℕ) (at : ℕ) where
   pub there-front
       : at < length s
       → wholeAt s at ≡ true
-      → AllThere rates s at
-      → PortsThere rates s at × AllThere rates s (at + headSize + sizeAt s at)
+      → AllThere rates periods s at
+      → NamedThere rates periods s at × AllThere rates periods s (at + headSize + sizeAt s at)
   there-front l w h =
       let a = none-front (namesAbsent rates) s at l w (h .routes) in
-      let b = none-front (extraAbsent rates) s at l w (h .extras) in
-      (record { routes = a .front; extras = b .front }, record { routes = a .rest; extras = b .rest })
+      let b = none-front (jitterAbsent periods) s at l w (h .jitters) in
+      let c = none-front (extraAbsent rates) s at l w (h .extras) in (
+        record { routes = a .front; jitters = b .front; extras = c .front },
+        record { routes = a .rest; jitters = b .rest; extras = c .rest },
+      )
 
-  pub there-route : tagAt s at ≡ flowTag → PortsThere rates s at → every (portIn rates) (routeAt s at) ≡ true
+  pub there-route : tagAt s at ≡ flowTag → NamedThere rates periods s at → every (portIn rates) (routeAt s at) ≡ true
   there-route kind h = not-false _ (sym (absent-flow rates s at kind) ∙ h .routes)
 
-  pub there-extra : tagAt s at ≡ extraTag → PortsThere rates s at → portIn rates (number2 (valueAt s at) 0) ≡ true
+  pub there-jitter : tagAt s at ≡ jitterTag → NamedThere rates periods s at → hasFlow periods (number2 (valueAt s at) 0) ≡ true
+  there-jitter kind h = not-false _ (sym (absent-jitter periods s at kind) ∙ h .jitters)
+
+  pub there-extra : tagAt s at ≡ extraTag → NamedThere rates periods s at → portIn rates (number2 (valueAt s at) 0) ≡ true
   there-extra kind h = not-false _ (sym (absent-extra rates s at kind) ∙ h .extras)

@@ -19,12 +19,16 @@ module _ (s : List ℕ) (d : Draft) where
   unfolding closing
   close-flowless e = rw (eq-eqb _ _ e, or-true (not (hasKey d headerKey)))
 
-  -- both are there: the first field that names an absent port decides
+  -- both are there: the first field that names an absent port or flow decides
   module _ (h : hasKey d headerKey ≡ true) (g : d .flows ≡ 0 → ⊥) where
-    pub close-absent : firstAbsent (d .tables .rates) s < length s → closing s d ≡ rejected 9 (firstAbsent (d .tables .rates) s)
+    pub close-absent
+        : firstAbsent (d .tables .rates) (d .tables .periods) s < length s
+        → closing s d ≡ rejected 9 (firstAbsent (d .tables .rates) (d .tables .periods) s)
     unfolding closing
     close-absent l = rw (h, ne-eqb _ _ g, lt-ltb _ _ l)
 
-    pub close-accepted : length s ≤ firstAbsent (d .tables .rates) s → closing s d ≡ accepted (d .tables) (d .ports) (d .flows)
+    pub close-accepted
+        : length s ≤ firstAbsent (d .tables .rates) (d .tables .periods) s
+        → closing s d ≡ accepted (d .tables) (d .ports) (d .flows)
     unfolding closing
     close-accepted l = rw (h, ne-eqb _ _ g, le-ltb _ _ l)

@@ -11,13 +11,13 @@ use lib.Seq.{set-comm, getD-set-same, getD-set-other}
 use Rattle.cqf.specs.Limits.{portSlots, flowSlots, routeStride, portOk, flowOk}
 use Rattle.cqf.specs.Plan.{Plan}
 use Rattle.plan.specs.Field.{Field}
-use Rattle.plan.specs.Key.{headerKey, portKeys, flowKeys, extraKeys, keySlots, keyOf}
+use Rattle.plan.specs.Key.{headerKey, portKeys, flowKeys, extraKeys, jitterKeys, keySlots, keyOf}
 use Rattle.plan.specs.Put.{keep, put, given}
-use Rattle.plan.specs.Store.{headerNumber, portNumber, flowNumber, putsExtra, putsRoute, store}
+use Rattle.plan.specs.Store.{headerNumber, portNumber, flowNumber, putsExtra, putsJitter, putsRoute, store}
 use Rattle.plan.specs.Draft.{Draft, taken, added, portsIn, flowsIn}
 use Rattle.plan.specs.Ranges.{NumbersOk, RouteFits}
 use Rattle.plan.specs.laws.Within.{within-low, within-high}
-use Rattle.plan.specs.laws.Kinds.{of-header, of-port, of-flow, of-extra, key-below}
+use Rattle.plan.specs.laws.Kinds.{of-header, of-port, of-flow, of-extra, of-jitter, key-below}
 use Rattle.plan.specs.laws.Puts.{Block, Placed, put-comm, Owned, given-comm}
 
 -- test 6 of one does not see another of a different key
@@ -38,7 +38,7 @@ fresh-apart d x y r sized k e same =
     let here = getD-set-same (d .seen) (keyOf x) 1 0 (omega arith) in
     true≢false (rw (← same, here) at e)
 
--- the blocks of a port's, of a flow's and of the extra bytes' columns
+-- the blocks of a port's, of a flow's, of the extra bytes' and of the jitters' columns
 port-block : (n : ℕ) → portOk n ≡ true → Block portKeys 1 (headerKey + n) (n - 1) 1
 port-block n ok =
     let low = within-low 1 portSlots n ok in
@@ -55,7 +55,12 @@ extra-block n ok =
     let low = within-low 1 portSlots n ok in
     record { owned = omega arith; here = omega arith; fits = omega arith }
 
--- where what a field puts stands: a number of the header, of a port, of a flow, the route, and extra bytes
+jitter-block : (n : ℕ) → flowOk n ≡ true → Block jitterKeys 1 (portSlots + flowSlots + portSlots + n) (n - 1) 1
+jitter-block n ok =
+    let low = within-low 1 flowSlots n ok in
+    record { owned = omega arith; here = omega arith; fits = omega arith }
+
+-- where what a field puts stands: a number of the header, of a port, of a flow, the route, extra bytes, and a jitter
 header-owned : (which : (guard top : ℕ) → ℕ) (x : Field) → NumbersOk x → Owned headerKey (keyOf x) (headerNumber which x)
 header-owned which = of-header (Owned headerKey) none (λ key. tt) _ (λ g t ok. refl)
 
@@ -82,6 +87,9 @@ route-placed x route =
 
 extra-placed : (x : Field) → NumbersOk x → Placed extraKeys 1 (keyOf x) (putsExtra x)
 extra-placed = of-extra (Placed extraKeys 1) keep (λ key. tt) _ (λ n b ok. extra-block n (ok .number))
+
+jitter-placed : (x : Field) → NumbersOk x → Placed jitterKeys 1 (keyOf x) (putsJitter x)
+jitter-placed = of-jitter (Placed jitterKeys 1) keep (λ key. tt) _ (λ n j ok. jitter-block n (ok .number))
 
 -- the order of two fields of different keys is free, in each column and so in the tables
 module _ (x y : Field) (v w : List ℕ) (k : NumbersOk x) (m : NumbersOk y) (a : RouteFits x v) (b : RouteFits y w) (differ : keyOf x ≢ keyOf y) where
@@ -118,6 +126,12 @@ module _ (x y : Field) (v w : List ℕ) (k : NumbersOk x) (m : NumbersOk y) (a :
       (extra-placed x k)
       (extra-placed y m)
 
+  jitter-comm : (l : List ℕ) → put (put l (putsJitter x)) (putsJitter y) ≡ put (put l (putsJitter y)) (putsJitter x)
+  jitter-comm l =
+      put-comm jitterKeys 1 (keyOf x) (keyOf y) differ l (putsJitter x) (putsJitter y)
+      (jitter-placed x k)
+      (jitter-placed y m)
+
   store-comm : (p : Plan) → store (store p x v) y w ≡ store (store p y w) x v
   unfolding store
   store-comm p = λ i. record {
@@ -129,6 +143,7 @@ module _ (x y : Field) (v w : List ℕ) (k : NumbersOk x) (m : NumbersOk y) (a :
     periods = flow-comm (λ number period count length hops. period) (p .periods) i;
     counts = flow-comm (λ number period count length hops. count) (p .counts) i;
     lengths = flow-comm (λ number period count length hops. length) (p .lengths) i;
+    jitters = jitter-comm (p .jitters) i;
     hops = flow-comm (λ number period count length hops. hops) (p .hops) i;
     routes = route-comm (p .routes) i;
   }

@@ -19,23 +19,25 @@ use Rattle.plan.specs.Store.{store}
 use Rattle.plan.specs.Draft.{Draft, blank, hasKey, added}
 use Rattle.plan.specs.Ranges.{HeaderOk, PortOk, FlowOk, RouteOk}
 use Rattle.plan.specs.laws.Within.{within-low, within-high, slot-below}
-use Rattle.plan.specs.laws.Slots.{validRate, validExtra, validIn, valid-hops, rate-kept, flow-kept, rate-filled, flow-filled}
+use Rattle.plan.specs.laws.Slots.{validRate, validExtra, validIn, validJitter, valid-hops, rate-kept, flow-kept, rate-filled, flow-filled}
 use Rattle.plan.specs.laws.Tables
 use Rattle.plan.specs.laws.Tables.{Sized, sized-none, sized-store}
 
--- the draft's tables are valid, but for the ports that its routes and extra bytes name: those are in the plan of these rates
-pub record ValidDraft (rates : List ℕ) (d : Draft) : Type 0 where
+-- the draft's tables are valid, but for the ports that its routes and extra bytes name and the flows that its jitters name:
+-- those are in the plan of these rates and periods
+pub record ValidDraft (rates periods : List ℕ) (d : Draft) : Type 0 where
   pub sized : Sized (d .tables)
   pub guard : guardOk (d .tables .guard) ≡ true
   pub top : hasKey d headerKey ≡ true → topOk (d .tables .top) ≡ true
   pub ports : (q : ℕ) → q < portSlots → validRate (d .tables) q ≡ true
   pub extras : (q : ℕ) → q < portSlots → validExtra rates (d .tables) q ≡ true
   pub flows : (f : ℕ) → f < flowSlots → validIn rates (d .tables) f ≡ true
+  pub jitters : (f : ℕ) → f < flowSlots → validJitter periods (d .tables) f ≡ true
   pub some : (d .flows ≡ 0) ⊎ ((f : ℕ) × (f < flowSlots) × (present (d .tables) f ≡ true))
 
-pub blank-valid : (rates : List ℕ) → ValidDraft rates blank
-unfolding blank noPlan validRate validExtra validIn
-blank-valid rates =
+pub blank-valid : (rates periods : List ℕ) → ValidDraft rates periods blank
+unfolding blank noPlan validRate validExtra validIn validJitter
+blank-valid rates periods =
     record {
       sized = sized-none;
       guard = refl;
@@ -43,6 +45,7 @@ blank-valid rates =
       ports = λ q l. rw (getD-replicate {A = ℕ} portSlots q 0 0 l);
       extras = λ q l. rw (getD-replicate {A = ℕ} portSlots q 0 0 l);
       flows = λ f l. rw (getD-replicate {A = ℕ} flowSlots f 0 0 l);
+      jitters = λ f l. rw (getD-replicate {A = ℕ} flowSlots f 0 0 l);
       some = inl refl;
     }
 
@@ -53,12 +56,12 @@ header-flag d x r ne = rw (getD-set-other (d .seen) (keyOf x) headerKey 1 0 (λ 
 
 -- a header keeps the tables valid
 pub header-valid
-    : (rates : List ℕ) (d : Draft) (g t : ℕ) (r : List ℕ)
+    : (rates periods : List ℕ) (d : Draft) (g t : ℕ) (r : List ℕ)
     → HeaderOk g t
-    → ValidDraft rates d
-    → ValidDraft rates (added d (header g t) r)
-unfolding added store validRate validExtra validIn
-header-valid rates d g t r ok s =
+    → ValidDraft rates periods d
+    → ValidDraft rates periods (added d (header g t) r)
+unfolding added store validRate validExtra validIn validJitter
+header-valid rates periods d g t r ok s =
     record {
       sized = sized-store (d .tables) (header g t) r (s .sized);
       guard = ok .guard;
@@ -66,17 +69,18 @@ header-valid rates d g t r ok s =
       ports = s .ports;
       extras = s .extras;
       flows = s .flows;
+      jitters = s .jitters;
       some = rw add-zero (s .some);
     }
 
 -- so does a port
 pub port-valid
-    : (rates : List ℕ) (d : Draft) (n rate b : ℕ) (r : List ℕ)
+    : (rates periods : List ℕ) (d : Draft) (n rate b : ℕ) (r : List ℕ)
     → PortOk n rate b
-    → ValidDraft rates d
-    → ValidDraft rates (added d (port n rate b) r)
-unfolding added store validExtra validIn
-port-valid rates d n rate b r ok s =
+    → ValidDraft rates periods d
+    → ValidDraft rates periods (added d (port n rate b) r)
+unfolding added store validExtra validIn validJitter
+port-valid rates periods d n rate b r ok s =
     record {
       sized = sized-store (d .tables) (port n rate b) r (s .sized);
       guard = s .guard;
@@ -84,6 +88,7 @@ port-valid rates d n rate b r ok s =
       ports = λ q l. slot q l (ℕ-discrete q (n - 1));
       extras = s .extras;
       flows = s .flows;
+      jitters = s .jitters;
       some = rw add-zero (s .some);
     }
   where
@@ -109,15 +114,15 @@ port-valid rates d n rate b r ok s =
 
 -- and a flow over distinct ports of the plan
 pub flow-valid
-    : (rates : List ℕ) (d : Draft) (n t c l h : ℕ) (r : List ℕ)
+    : (rates periods : List ℕ) (d : Draft) (n t c l h : ℕ) (r : List ℕ)
     → FlowOk n t c l h
     → RouteOk h r
     → distinct r ≡ true
     → every (portIn rates) r ≡ true
-    → ValidDraft rates d
-    → ValidDraft rates (added d (flow n t c l h) r)
-unfolding added store validRate validExtra
-flow-valid rates d n t c l h r ok on once named s =
+    → ValidDraft rates periods d
+    → ValidDraft rates periods (added d (flow n t c l h) r)
+unfolding added store validRate validExtra validJitter
+flow-valid rates periods d n t c l h r ok on once named s =
     record {
       sized = sized-store (d .tables) (flow n t c l h) r (s .sized);
       guard = s .guard;
@@ -125,6 +130,7 @@ flow-valid rates d n t c l h r ok on once named s =
       ports = s .ports;
       extras = s .extras;
       flows = λ f less. slot f less (ℕ-discrete f (n - 1));
+      jitters = s .jitters;
       some = inr (n - 1, fits, here);
     }
   where

@@ -4,9 +4,9 @@ use Prim.Native.Nat.{ℕ, _+_, _<_}
 use mathlib.Core.List.{List}
 use native.Mathlib.Omega.{arith}
 use Rattle.cqf.specs.Limits.{portSlots, flowSlots}
-use Rattle.plan.specs.Field.{Field, header, port, flow, extra, ofHeader, ofPort, ofFlow, ofExtra}
+use Rattle.plan.specs.Field.{Field, header, port, flow, extra, jitter, ofHeader, ofPort, ofFlow, ofExtra, ofJitter}
 use Rattle.plan.specs.Key.{headerKey, keySlots, keyOf}
-use Rattle.plan.specs.Ranges.{HeaderOk, PortOk, FlowOk, ExtraOk, RouteOk, NumbersOk, RouteFits}
+use Rattle.plan.specs.Ranges.{HeaderOk, PortOk, FlowOk, ExtraOk, JitterOk, RouteOk, NumbersOk, RouteFits}
 use Rattle.plan.specs.laws.Within.{within-high}
 
 module _ {A : Type 0} (P : ℕ → A → Type 0) (other : A) (rest : (key : ℕ) → P key other) where
@@ -20,6 +20,7 @@ module _ {A : Type 0} (P : ℕ → A → Type 0) (other : A) (rest : (key : ℕ)
   of-header gives own (port n r b) k = rest (headerKey + n)
   of-header gives own (flow n p c l h) k = rest (portSlots + n)
   of-header gives own (extra n b) k = rest (portSlots + flowSlots + n)
+  of-header gives own (jitter n j) k = rest (portSlots + flowSlots + portSlots + n)
 
   pub of-port
       : (gives : (number rate blocking : ℕ) → A)
@@ -31,6 +32,7 @@ module _ {A : Type 0} (P : ℕ → A → Type 0) (other : A) (rest : (key : ℕ)
   of-port gives own (port n r b) k = own n r b k
   of-port gives own (flow n p c l h) k = rest (portSlots + n)
   of-port gives own (extra n b) k = rest (portSlots + flowSlots + n)
+  of-port gives own (jitter n j) k = rest (portSlots + flowSlots + portSlots + n)
 
   pub of-flow
       : (route : List ℕ) (gives : (number period count length hops : ℕ) → A)
@@ -43,6 +45,7 @@ module _ {A : Type 0} (P : ℕ → A → Type 0) (other : A) (rest : (key : ℕ)
   of-flow route gives own (port n r b) k fits = rest (headerKey + n)
   of-flow route gives own (flow n p c l h) k fits = own n p c l h k fits
   of-flow route gives own (extra n b) k fits = rest (portSlots + flowSlots + n)
+  of-flow route gives own (jitter n j) k fits = rest (portSlots + flowSlots + portSlots + n)
 
   pub of-extra
       : (gives : (number bytes : ℕ) → A)
@@ -54,6 +57,19 @@ module _ {A : Type 0} (P : ℕ → A → Type 0) (other : A) (rest : (key : ℕ)
   of-extra gives own (port n r b) k = rest (headerKey + n)
   of-extra gives own (flow n p c l h) k = rest (portSlots + n)
   of-extra gives own (extra n b) k = own n b k
+  of-extra gives own (jitter n j) k = rest (portSlots + flowSlots + portSlots + n)
+
+  pub of-jitter
+      : (gives : (number ns : ℕ) → A)
+      → ((n j : ℕ) → JitterOk n j → P (portSlots + flowSlots + portSlots + n) (gives n j))
+      → (x : Field)
+      → NumbersOk x
+      → P (keyOf x) (ofJitter other gives x)
+  of-jitter gives own (header g t) k = rest headerKey
+  of-jitter gives own (port n r b) k = rest (headerKey + n)
+  of-jitter gives own (flow n p c l h) k = rest (portSlots + n)
+  of-jitter gives own (extra n b) k = rest (portSlots + flowSlots + n)
+  of-jitter gives own (jitter n j) k = own n j k
 
 -- a field in range has its flag
 pub key-below : (x : Field) → NumbersOk x → keyOf x < keySlots
@@ -61,3 +77,4 @@ key-below (header g t) k = omega arith
 key-below (port n r b) k = omega (arith, within-high _ _ n (k .number))
 key-below (flow n p c l h) k = omega (arith, within-high _ _ n (k .number))
 key-below (extra n b) k = omega (arith, within-high _ _ n (k .number))
+key-below (jitter n j) k = omega (arith, within-high _ _ n (k .number))

@@ -8,9 +8,9 @@ use lib.Dec.{eqb}
 use lib.ListN.{length}
 use borrow.Author.Tests.{eqb-true}
 use Rattle.cqf.specs.Bounded.{every}
-use Rattle.cqf.specs.Limits.{guardOk, topOk, portOk, rateOk, lengthOk, blockingOk, extraOk, flowOk, periodOk, countOk, hopsOk}
+use Rattle.cqf.specs.Limits.{guardOk, topOk, portOk, rateOk, lengthOk, blockingOk, extraOk, flowOk, periodOk, countOk, jitterOk, hopsOk}
 use Rattle.plan.specs.Bytes.{number2, number4, headSize, tagAt, sizeAt, wholeAt, valueAt}
-use Rattle.plan.specs.Field.{Field, header, port, flow, extra, FieldRead, field, refused, unless, headerTag, portTag, flowTag, extraTag, headerSize, portSize, flowSize, extraSize, hopsIn, routeIn, headerIn, portInValue, flowIn, extraIn, fieldIn, fieldAt}
+use Rattle.plan.specs.Field.{Field, header, port, flow, extra, jitter, FieldRead, field, refused, unless, headerTag, portTag, flowTag, extraTag, jitterTag, headerSize, portSize, flowSize, extraSize, jitterSize, hopsIn, routeIn, headerIn, portInValue, flowIn, extraIn, jitterIn, fieldIn, fieldAt}
 use Rattle.plan.specs.Ranges.{NumbersOk, RouteFits}
 use Rattle.plan.specs.laws.Route.{value-hops}
 
@@ -20,13 +20,15 @@ tagOf (header g t) = headerTag
 tagOf (port n r b) = portTag
 tagOf (flow n p c l h) = flowTag
 tagOf (extra n b) = extraTag
+tagOf (jitter n j) = jitterTag
 
 abbrev numbersIn : ℕ → List ℕ → Field
 numbersIn tag v =
     cond (eqb tag headerTag) (header (number4 v 0) (number4 v 4))
     (cond (eqb tag portTag) (port (number2 v 0) (number4 v 2) (number2 v 6))
     (cond (eqb tag flowTag) (flow (number2 v 0) (number4 v 2) (number2 v 6) (number2 v 8) (hopsIn (length v)))
-    (extra (number2 v 0) (number2 v 2))))
+    (cond (eqb tag extraTag) (extra (number2 v 0) (number2 v 2))
+    (jitter (number2 v 0) (number4 v 2)))))
 
 -- field x is the one of this tag and value
 pub record Passes (tag : ℕ) (v : List ℕ) (x : Field) : Type 0 where
@@ -36,7 +38,7 @@ pub record Passes (tag : ℕ) (v : List ℕ) (x : Field) : Type 0 where
   pub route : RouteFits x (routeIn v)
 
 -- the parts of a longer conjunction
-and-three : (a b c : Bool) → a && b && c ≡ true → (a ≡ true) × (b ≡ true) × (c ≡ true)
+pub and-three : (a b c : Bool) → a && b && c ≡ true → (a ≡ true) × (b ≡ true) × (c ≡ true)
 and-three a b c e =
     let l = and-eq-true-iff (a && b) c .0 e in
     let m = and-eq-true-iff a b .0 (l .0) in
@@ -134,6 +136,16 @@ module _ (tag : ℕ) (v : List ℕ) (at after : ℕ) {x : Field} {next : ℕ} wh
       (record { kind = k; numbers = rw k; ok = record { number = t .0; bytes = t .1 }; route = tt })
       (b .1)
 
+  jitter-read : tag ≡ jitterTag → jitterIn v at after ≡ field x next → Read tag v after x next
+  unfolding jitterIn
+  jitter-read k e =
+      let a = unless-passes 4 at (eqb (length v) jitterSize) _ e in
+      let b = unless-passes 5 at (flowOk (number2 v 0) && jitterOk (number4 v 2)) _ (a .1) in
+      let t = and-eq-true-iff (flowOk (number2 v 0)) (jitterOk (number4 v 2)) .0 (b .0) in
+      read-as tag v after (jitter (number2 v 0) (number4 v 2))
+      (record { kind = k; numbers = rw k; ok = record { number = t .0; ns = t .1 }; route = tt })
+      (b .1)
+
   unknown : refused 3 at ≡ field x next → Read tag v after x next
   unknown e = let z : _≡_ {A = ℕ} 0 1 = cc in absurd (omega arith)
 
@@ -144,7 +156,8 @@ module _ (tag : ℕ) (v : List ℕ) (at after : ℕ) {x : Field} {next : ℕ} wh
       (by-tag tag portTag _ _ port-read
       (by-tag tag flowTag _ _ flow-read
       (by-tag tag extraTag _ _ extra-read
-      unknown)))
+      (by-tag tag jitterTag _ _ jitter-read
+      unknown))))
 
 -- a field of the plan is whole, and passes
 pub field-is-whole : (s : List ℕ) (at : ℕ) (x : Field) (next : ℕ) → fieldAt s at ≡ field x next → wholeAt s at ≡ true
@@ -161,6 +174,10 @@ field-passes s at x next e = field-read (tagAt s at) (valueAt s at) at _ (unless
 -- the port of extra bytes is the number that the value begins with
 pub extra-number : (tag : ℕ) (v : List ℕ) (n b : ℕ) → Passes tag v (extra n b) → number2 v 0 ≡ n
 extra-number tag v n b k = let z : extra (number2 v 0) (number2 v 2) ≡ extra n b = rw (k .kind) at (k .numbers) in cc
+
+-- the flow of a jitter likewise
+pub jitter-number : (tag : ℕ) (v : List ℕ) (n j : ℕ) → Passes tag v (jitter n j) → number2 v 0 ≡ n
+jitter-number tag v n j k = let z : jitter (number2 v 0) (number4 v 2) ≡ jitter n j = rw (k .kind) at (k .numbers) in cc
 
 -- a tag and a value are those of one field
 pub passes-once : (tag : ℕ) (v : List ℕ) (x y : Field) → Passes tag v x → Passes tag v y → x ≡ y

@@ -10,7 +10,7 @@ use lib.Seq.{sets, getD-set-same, getD-set-other}
 use Rattle.cqf.specs.Limits.{portSlots, flowSlots, maxHops, routeStride}
 use Rattle.cqf.specs.Plan.{Plan, noPlan, periodOf, countOf, lengthOf, hopsOf, routeOf}
 use Rattle.plan.specs.Field.{Field, flow}
-use Rattle.plan.specs.Store.{putsRate, putsBlocking, putsExtra, putsPeriod, putsCount, putsLength, putsHops, putsRoute, store}
+use Rattle.plan.specs.Store.{putsRate, putsBlocking, putsExtra, putsPeriod, putsCount, putsLength, putsJitter, putsHops, putsRoute, store}
 use Rattle.plan.specs.laws.Puts.{put-length}
 use Rattle.plan.specs.laws.Stores.{Outside, sets-outside, sublist-sets, sublist-same}
 
@@ -22,6 +22,7 @@ pub record Sized (p : Plan) : Type 0 where
   pub periods : length (p .periods) ≡ flowSlots
   pub counts : length (p .counts) ≡ flowSlots
   pub lengths : length (p .lengths) ≡ flowSlots
+  pub jitters : length (p .jitters) ≡ flowSlots
   pub hops : length (p .hops) ≡ flowSlots
   pub routes : length (p .routes) ≡ flowSlots * routeStride
 
@@ -35,6 +36,7 @@ sized-none =
       periods = length-replicate {A = ℕ} flowSlots 0;
       counts = length-replicate {A = ℕ} flowSlots 0;
       lengths = length-replicate {A = ℕ} flowSlots 0;
+      jitters = length-replicate {A = ℕ} flowSlots 0;
       hops = length-replicate {A = ℕ} flowSlots 0;
       routes = length-replicate {A = ℕ} (flowSlots * routeStride) 0;
     }
@@ -49,6 +51,7 @@ sized-store p x r h =
       periods = put-length (p .periods) (putsPeriod x) ∙ h .periods;
       counts = put-length (p .counts) (putsCount x) ∙ h .counts;
       lengths = put-length (p .lengths) (putsLength x) ∙ h .lengths;
+      jitters = put-length (p .jitters) (putsJitter x) ∙ h .jitters;
       hops = put-length (p .hops) (putsHops x) ∙ h .hops;
       routes = put-length (p .routes) (putsRoute r x) ∙ h .routes;
     }

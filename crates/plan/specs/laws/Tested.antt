@@ -7,10 +7,10 @@ use borrow.Author.Tests.{ne-eqb}
 use lib.Dec.{eqb}
 use lib.ListN.{length}
 use Rattle.cqf.specs.Bounded.{every}
-use Rattle.cqf.specs.Limits.{guardOk, topOk, portOk, rateOk, lengthOk, blockingOk, extraOk, flowOk, periodOk, countOk, hopsOk}
+use Rattle.cqf.specs.Limits.{guardOk, topOk, portOk, rateOk, lengthOk, blockingOk, extraOk, flowOk, periodOk, countOk, jitterOk, hopsOk}
 use Rattle.plan.specs.Bytes.{number2, number4, headSize, tagAt, sizeAt, wholeAt, valueAt}
-use Rattle.plan.specs.Field.{header, port, flow, extra, field, refused, headerTag, portTag, flowTag, extraTag, headerSize, portSize, flowSize, extraSize}
-use Rattle.plan.specs.Field.{hopsIn, routeIn, headerIn, portInValue, flowIn, extraIn, fieldIn, fieldAt}
+use Rattle.plan.specs.Field.{header, port, flow, extra, jitter, field, refused, headerTag, portTag, flowTag, extraTag, jitterTag, headerSize, portSize, flowSize, extraSize, jitterSize}
+use Rattle.plan.specs.Field.{hopsIn, routeIn, headerIn, portInValue, flowIn, extraIn, jitterIn, fieldIn, fieldAt}
 
 -- test 2
 module _ (s : List ℕ) (at : ℕ) where
@@ -40,10 +40,20 @@ module _ (v : List ℕ) (at next : ℕ) where
   unfolding fieldIn
   tag-extra tag e = rw e
 
-  pub tag-unknown : (tag : ℕ) → (tag ≡ headerTag → ⊥) → (tag ≡ portTag → ⊥) → (tag ≡ flowTag → ⊥) → (tag ≡ extraTag → ⊥)
+  pub tag-jitter : (tag : ℕ) → tag ≡ jitterTag → fieldIn tag v at next ≡ jitterIn v at next
+  unfolding fieldIn
+  tag-jitter tag e = rw e
+
+  pub tag-unknown
+      : (tag : ℕ)
+      → (tag ≡ headerTag → ⊥)
+      → (tag ≡ portTag → ⊥)
+      → (tag ≡ flowTag → ⊥)
+      → (tag ≡ extraTag → ⊥)
+      → (tag ≡ jitterTag → ⊥)
       → fieldIn tag v at next ≡ refused 3 at
   unfolding fieldIn
-  tag-unknown tag h p f x = rw (ne-eqb _ _ h, ne-eqb _ _ p, ne-eqb _ _ f, ne-eqb _ _ x)
+  tag-unknown tag h p f x j = rw (ne-eqb _ _ h, ne-eqb _ _ p, ne-eqb _ _ f, ne-eqb _ _ x, ne-eqb _ _ j)
 
   -- a header of another length, with a number out of range, or with neither
   pub header-length : eqb (length v) headerSize ≡ false → headerIn v at next ≡ refused 4 at
@@ -107,3 +117,18 @@ module _ (v : List ℕ) (at next : ℕ) where
       → extraIn v at next ≡ field (extra (number2 v 0) (number2 v 2)) next
   unfolding extraIn
   extra-read e f = rw (e, f)
+
+  -- and of a flow's jitter
+  pub jitter-length : eqb (length v) jitterSize ≡ false → jitterIn v at next ≡ refused 4 at
+  unfolding jitterIn
+  jitter-length e = rw e
+
+  pub jitter-range : eqb (length v) jitterSize ≡ true → (flowOk (number2 v 0) && jitterOk (number4 v 2)) ≡ false
+      → jitterIn v at next ≡ refused 5 at
+  unfolding jitterIn
+  jitter-range e f = rw (e, f)
+
+  pub jitter-read : eqb (length v) jitterSize ≡ true → (flowOk (number2 v 0) && jitterOk (number4 v 2)) ≡ true
+      → jitterIn v at next ≡ field (jitter (number2 v 0) (number4 v 2)) next
+  unfolding jitterIn
+  jitter-read e f = rw (e, f)

@@ -94,11 +94,11 @@ pub accepted-reads
 unfolding readPlan
 accepted-reads s = read-as loose s
 
--- the final draft is the plan, with a header, a flow, and every port that is named
+-- the final draft is the plan, with a header, a flow, and every port and flow that is named
 pub record Closes (s : List ℕ) (e : Draft) (p : Plan) (ports flows : ℕ) : Type 0 where
   pub with-header : hasKey e headerKey ≡ true
   pub with-flow : eqb (e .flows) 0 ≡ false
-  pub none-absent : length s ≤ firstAbsent (e .tables .rates) s
+  pub none-absent : length s ≤ firstAbsent (e .tables .rates) (e .tables .periods) s
   pub plan : e .tables ≡ p
   pub ports-read : e .ports ≡ ports
   pub flows-read : e .flows ≡ flows
@@ -111,7 +111,7 @@ unfolding closing
 closing-accepted s e p m k h = eight (hasKey e headerKey) (eqb (e .flows) 0) refl refl h
   where
     absent : ℕ
-    absent = firstAbsent (e .tables .rates) s
+    absent = firstAbsent (e .tables .rates) (e .tables .periods) s
 
     nine
         : hasKey e headerKey ≡ true

@@ -1,41 +1,57 @@
--- Extra bytes of 0 say what their absence says.
+-- A field that says what its absence says leaves nothing behind.
 use Prim.Native.Nat.{ℕ, _+_, _-_}
 use mathlib.Core.Path.{_≡_, refl, sym, ap, _∙_, subst}
 use mathlib.Core.List.{List, _∷_}
-use lib.ListN.{set, getD-replicate}
+use lib.ListN.{getD, set, getD-replicate}
 use lib.Seq.{set-getD}
-use Rattle.cqf.specs.Limits.{portSlots}
-use Rattle.cqf.specs.Plan.{Plan, noPlan, extraOf}
+use Rattle.cqf.specs.Limits.{portSlots, flowSlots}
+use Rattle.cqf.specs.Plan.{Plan, noPlan}
 use Rattle.plan.specs.Bytes.{tagAt, valueAt}
-use Rattle.plan.specs.Field.{Field, extra, routeIn}
+use Rattle.plan.specs.Field.{Field, header, port, flow, extra, jitter, routeIn}
 use Rattle.plan.specs.Store.{store}
 use Rattle.plan.specs.Draft.{Draft, blank, added, portsIn, flowsIn}
-use Rattle.plan.specs.Ranges.{ExtraOk}
+use Rattle.plan.specs.Ranges.{ExtraOk, JitterOk, NumbersOk}
 use Rattle.plan.specs.Reading.{accepted, readPlan}
-use Rattle.plan.specs.FieldOrder.{AllFields, more, ZeroMore}
+use Rattle.plan.specs.FieldOrder.{AllFields, more, SaysNothing, ZeroMore}
 use Rattle.plan.specs.laws.Within.{slot-below}
 use Rattle.plan.specs.laws.Passes.{Passes, field-passes, passes-once}
 use Rattle.plan.specs.laws.Walk.{accepted-reads, closing-accepted}
 use Rattle.plan.specs.laws.Stored.{Stored, nothing, next, stored-permuted}
 use Rattle.plan.specs.laws.Order.{all-permuted, accepted-stored, flagged-blank}
 
--- tables in which the port has none stay as they are
-pub store-zero : (p : Plan) (n : ℕ) (r : List ℕ) → extraOf p (n - 1) ≡ 0 → store p (extra n 0) r ≡ p
-unfolding store
-store-zero p n r none =
-    let kept : set (p .extras) (n - 1) 0 ≡ p .extras = ap (set (p .extras) (n - 1)) (sym none) ∙ set-getD (p .extras) (n - 1) 0 in
-    ap (λ (l : List ℕ). record {
+-- a column with 0 in the slot stays as it is
+kept : (l : List ℕ) (i v : ℕ) → getD l i 0 ≡ 0 → v ≡ 0 → set l i v ≡ l
+kept l i v none zero = ap (set l i) (zero ∙ sym none) ∙ set-getD l i 0
+
+-- the tables with these extra bytes and jitters
+abbrev tablesWith : Plan → List ℕ → List ℕ → Plan
+tablesWith p extras jitters =
+    record {
       guard = p .guard;
       top = p .top;
       rates = p .rates;
       blockings = p .blockings;
-      extras = l;
+      extras = extras;
       periods = p .periods;
       counts = p .counts;
       lengths = p .lengths;
+      jitters = jitters;
       hops = p .hops;
       routes = p .routes;
-    }) kept
+    }
+
+-- empty tables stay so with extra bytes of 0, and with a jitter of 0
+extra-nothing : (n b : ℕ) (r : List ℕ) → ExtraOk n b → b ≡ 0 → store noPlan (extra n b) r ≡ noPlan
+unfolding store noPlan
+extra-nothing n b r ok zero =
+    let none = getD-replicate {A = ℕ} portSlots (n - 1) 0 0 (slot-below portSlots n (ok .number)) in
+    ap (λ (l : List ℕ). tablesWith noPlan l (noPlan .jitters)) (kept (noPlan .extras) (n - 1) b none zero)
+
+jitter-nothing : (n j : ℕ) (r : List ℕ) → JitterOk n j → j ≡ 0 → store noPlan (jitter n j) r ≡ noPlan
+unfolding store noPlan
+jitter-nothing n j r ok zero =
+    let none = getD-replicate {A = ℕ} flowSlots (n - 1) 0 0 (slot-below flowSlots n (ok .number)) in
+    ap (tablesWith noPlan (noPlan .extras)) (kept (noPlan .jitters) (n - 1) j none zero)
 
 -- two drafts with the same tables and counts, whatever was seen
 record Alike (d e : Draft) : Type 0 where
@@ -62,27 +78,27 @@ stored-alike {e = e} {f = f} {g = g} h (next {b = b} {bs = bs} {d = d} x k fresh
     stored-alike {d = added d x r} {e = e} {f = added f x r} {g = g} (alike-added d f x r h) rest
     (subst (λ (z : Field). Stored bs (added f z r) g) same other)
 
--- 0 extra bytes in a draft that nothing was read into
-blank-alike : (n : ℕ) (r : List ℕ) → ExtraOk n 0 → Alike (added blank (extra n 0) r) blank
-unfolding added blank noPlan
-blank-alike n r ok =
-    record {
-      tables = store-zero noPlan n r (getD-replicate {A = ℕ} portSlots (n - 1) 0 0 (slot-below portSlots n (ok .number)));
-      ports = refl;
-      flows = refl;
-    }
+-- such a field in a draft that nothing was read into
+blank-alike : (x : Field) (r : List ℕ) → NumbersOk x → SaysNothing x → Alike (added blank x r) blank
+unfolding added blank
+blank-alike (header g t) r ok void = absurd void
+blank-alike (port n rate b) r ok void = absurd void
+blank-alike (flow n t c l h) r ok void = absurd void
+blank-alike (extra n b) r ok zero = record { tables = extra-nothing n b r ok zero; ports = refl; flows = refl }
+blank-alike (jitter n j) r ok zero = record { tables = jitter-nothing n j r ok zero; ports = refl; flows = refl }
 
--- the fields but the first, where that says 0 extra bytes
+-- the fields but the first, where that says nothing
 without-zero
-    : (n : ℕ) (zero : List ℕ) (others : List (List ℕ)) (e f : Draft)
-    → Passes (tagAt zero 0) (valueAt zero 0) (extra n 0)
+    : (x : Field) (zero : List ℕ) (others : List (List ℕ)) (e f : Draft)
+    → Passes (tagAt zero 0) (valueAt zero 0) x
+    → SaysNothing x
     → Stored (zero ∷ others) blank e
     → Stored others blank f
     → Alike e f
-without-zero n zero others e f says (next x k fresh rest) other =
+without-zero x zero others e f says nought (next y k fresh rest) other =
     let r = routeIn (valueAt zero 0) in
-    let same : x ≡ extra n 0 = passes-once (tagAt zero 0) (valueAt zero 0) x (extra n 0) k says in
-    stored-alike {d = added blank (extra n 0) r} {e = e} {f = blank} {g = f} (blank-alike n r (says .ok))
+    let same : y ≡ x = passes-once (tagAt zero 0) (valueAt zero 0) y x k says in
+    stored-alike {d = added blank x r} {e = e} {f = blank} {g = f} (blank-alike x r (says .ok) nought)
     (subst (λ (z : Field). Stored others (added blank z r) e) same rest)
     other
 
@@ -106,8 +122,8 @@ zero-absent s t z p q m n k l left right =
     let first = stored-permuted blank (a .final) (z .permuted) flagged-blank all in
     let rest = but-first (all-permuted (z .permuted) (z .fields)) in
     let second = accepted-stored (z .others) t (b .final) (z .bytes-others) rest (b .walk) in
-    let says = field-passes (z .zero) 0 (extra (z .number) 0) _ (z .says) .passes in
-    let same = without-zero (z .number) (z .zero) (z .others) (a .final) (b .final) says first second in (
+    let says = field-passes (z .zero) 0 (z .read) _ (z .says) .passes in
+    let same = without-zero (z .read) (z .zero) (z .others) (a .final) (b .final) says (z .nothing) first second in (
       sym (c .plan) ∙ same .tables ∙ d .plan,
       sym (c .ports-read) ∙ same .ports ∙ d .ports-read,
       sym (c .flows-read) ∙ same .flows ∙ d .flows-read,

@@ -26,7 +26,7 @@ pub filled-by
     : (p : Plan) {out : List ℕ} {t : ℕ}
     → validPlan p ≡ true
     → t ≤ p .top
-    → out ≡ tabulate portSlots (λ q. demand (columns [] [] (p .extras) (p .periods) (p .counts) (p .lengths) (p .hops) (p .routes)) q t)
+    → out ≡ tabulate portSlots (λ q. demand (columns [] [] (p .extras) (p .periods) (p .counts) (p .lengths) (p .jitters) (p .hops) (p .routes)) q t)
     → Filled p out t
 filled-by p {t = t} valid l e =
     record { valid = valid; within = l; demands = e ∙ ap (tabulate portSlots) (fun-ext (λ q. demand-columns p q t)) }

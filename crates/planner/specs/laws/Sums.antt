@@ -13,14 +13,15 @@ use lib.Seq.{ext-getD}
 use borrow.Author.Tests.{ne-eqb}
 use Rattle.cqf.specs.Bounded.{sumTo, elem, every, distinct, sublist, tabulate}
 use Rattle.cqf.specs.Limits.{portSlots, flowSlots, maxTop, minPeriod, portOk}
-use Rattle.cqf.specs.Plan.{Plan, extraOf, periodOf, countOf, lengthOf, hopsOf, routeOf, crosses, portIn, validPlan}
-use Rattle.cqf.specs.Condition.{bitsOf, wireBits, ceilDiv, begun, stretch, frames, demand, mostBits, mostDemand}
+use Rattle.cqf.specs.Plan.{Plan, extraOf, periodOf, countOf, lengthOf, jitterOf, hopsOf, routeOf, crosses, portIn, validPlan}
+use Rattle.cqf.specs.Condition.{bitsOf, framesBy, wireBits, begun, stretch, frames, demand, mostBits, mostDemand}
 use Rattle.cqf.specs.laws.Bounds.{sumTo-most}
 use Rattle.cqf.specs.laws.Valid.{Empty, Held, slot-cases}
 use Rattle.cqf.specs.laws.Lists.{elem-at, sublist-length, sublist-at}
 use Rattle.cqf.specs.laws.Route.{sublist-more, elem-more}
 use Rattle.cqf.specs.laws.Tabulate.{tabulate-length, tabulate-at}
-use Rattle.cqf.specs.laws.Demand.{share, demand-sum, flow-bits-most, share-none, sum-next}
+use Rattle.cqf.specs.laws.Begun.{stretch-most}
+use Rattle.cqf.specs.laws.Demand.{frames-by, share, demand-sum, flow-bits-most, share-none, sum-next}
 use Rattle.tables.specs.Columns.{columns, FlowInRange, ExtrasInRange, Marked}
 
 -- a stronger test that each number of a list passes
@@ -33,14 +34,14 @@ every-weaker a b h (x ∷ l) e =
 
 -- every slot of the flows' columns is in-range
 abbrev pub AllInRange : Plan → Type 0
-AllInRange p = (f : ℕ) → f < flowSlots → FlowInRange (periodOf p f) (countOf p f) (lengthOf p f) (hopsOf p f) (routeOf p f)
+AllInRange p = (f : ℕ) → f < flowSlots → FlowInRange (periodOf p f) (countOf p f) (lengthOf p f) (jitterOf p f) (hopsOf p f) (routeOf p f)
 
 -- those of a valid plan are
 pub slot-in-range : (p : Plan) → validPlan p ≡ true → AllInRange p
 unfolding sublist every distinct
 slot-in-range p valid f l = go (slot-cases p valid f l)
   where
-    go : Empty p f ⊎ Held p f → FlowInRange (periodOf p f) (countOf p f) (lengthOf p f) (hopsOf p f) (routeOf p f)
+    go : Empty p f ⊎ Held p f → FlowInRange (periodOf p f) (countOf p f) (lengthOf p f) (jitterOf p f) (hopsOf p f) (routeOf p f)
     go (inl e) =
         record {
           absent = λ _. e .hops;
@@ -48,6 +49,7 @@ slot-in-range p valid f l = go (slot-cases p valid f l)
           period-most = omega (arith, e .period);
           count-most = omega (arith, e .count);
           bytes-most = omega (arith, e .bytes);
+          jitter-most = omega (arith, e .jitter);
           hops-most = omega (arith, e .hops);
           ports = rw (e .hops);
           once = rw (e .hops);
@@ -59,17 +61,24 @@ slot-in-range p valid f l = go (slot-cases p valid f l)
           period-most = h .period-most;
           count-most = h .count-most;
           bytes-most = h .bytes-most;
+          jitter-most = h .jitter-most;
           hops-most = h .hops-most;
           ports = every-weaker (portIn (p .rates)) portOk (λ n e. and-eq-true-iff _ _ .0 e .0) (routeOf p f) (h .in-plan);
           once = h .once;
         }
 
--- the frames of flow f, and their wire bits at the port in slot q
-abbrev pub framesAt : Plan → ℕ → ℕ → ℕ
-framesAt p T f = countOf p f * ceilDiv T (periodOf p f)
-
+-- the wire bits of flow f's frames at the port in slot q
 abbrev pub bitsAt : Plan → ℕ → ℕ → ℕ → ℕ
-bitsAt p T f q = framesAt p T f * bitsOf (lengthOf p f) (extraOf p q)
+bitsAt p T f q = frames p f T * bitsOf (lengthOf p f) (extraOf p q)
+
+-- its frames, counted over a number that is the plan's length for it
+pub framed
+    : (p : Plan) (T f : ℕ) {over many : ℕ}
+    → over ≡ stretch p T
+    → many ≡ framesBy (countOf p f) over (jitterOf p f) (periodOf p f)
+    → many ≡ frames p f T
+framed p T f is e =
+    e ∙ ap (λ (n : ℕ). framesBy (countOf p f) n (jitterOf p f) (periodOf p f)) is ∙ sym (frames-by p f T)
 
 -- each port's demand by the flows before f
 abbrev pub Sums : Plan → ℕ → ℕ → List ℕ → Type 0
@@ -88,11 +97,11 @@ module _ (p : Plan) (T : ℕ) where
   -- a flow whose bits are added at each port of its route
   pub sums-add
       : (f many : ℕ) (l l′ : List ℕ)
-      → many ≡ framesAt p T f
+      → many ≡ frames p f T
       → Marked l l′ (routeOf p f) (λ q. many * bitsOf (lengthOf p f) (extraOf p q))
       → Sums p T f l
       → Sums p T (f + 1) l′
-  unfolding frames begun stretch wireBits
+  unfolding wireBits
   sums-add f many l l′ e marked sums q h =
       marked q h
       ∙ rw (e, sums q h) (sym (sum-next p q T f))
@@ -107,9 +116,14 @@ module _ (p : Plan) (T : ℕ) where
 
 -- one port's demand by the flows before f, with flow f, which crosses it or does not
 module _ (p : Plan) (q T f : ℕ) {sum : ℕ} (before : sum ≡ sumTo f (share p q T)) where
-  pub sum-crossing : {bits : ℕ} → crosses p f q ≡ true → bits ≡ bitsAt p T f q → sum + bits ≡ sumTo (f + 1) (share p q T)
-  unfolding frames begun stretch wireBits
-  sum-crossing e is = rw (before, is) (sym (sum-next p q T f ∙ rw e))
+  pub sum-crossing
+      : {over bits : ℕ}
+      → crosses p f q ≡ true
+      → over ≡ stretch p T
+      → bits ≡ framesBy (countOf p f) over (jitterOf p f) (periodOf p f) * bitsOf (lengthOf p f) (extraOf p q)
+      → sum + bits ≡ sumTo (f + 1) (share p q T)
+  unfolding wireBits
+  sum-crossing e is bits = rw (before, bits, framed p T f is refl) (sym (sum-next p q T f ∙ rw e))
 
   pub sum-apart : crosses p f q ≡ false → sum ≡ sumTo (f + 1) (share p q T)
   sum-apart e = before ∙ sym (sum-next p q T f ∙ (rw e (add-zero _)))
@@ -119,10 +133,11 @@ module _ (p : Plan) (in-range : AllInRange p) (small : ExtrasInRange (p .extras)
   pub flow-most : (f : ℕ) → f < flowSlots → (periodOf p f ≡ 0 → ⊥) → (q : ℕ) → q < portSlots → bitsAt p T f q ≤ mostBits
   flow-most f l there q slot =
       let r = in-range f l in
-      flow-bits-most T fits (r .period-least there) (r .count-most) (r .bytes-most) (small q slot)
+      rw (frames-by p f T)
+      (flow-bits-most (stretch p T) (stretch-most p T fits) (r .period-least there) (r .count-most) (r .bytes-most) (r .jitter-most) (small q slot))
 
   share-most : (q f : ℕ) → q < portSlots → f < flowSlots → share p q T f ≤ mostBits
-  unfolding frames begun stretch wireBits
+  unfolding wireBits
   share-most q f slot l = go (ℕ-discrete (periodOf p f) 0)
     where
       part : (x : Bool) → bitsAt p T f q ≤ mostBits → cond x (bitsAt p T f q) 0 ≤ mostBits
@@ -164,7 +179,7 @@ elem-here l at h i n less e =
 -- the demand depends on the extra bytes and the flows' columns alone
 pub demand-columns
     : (p : Plan) (q T : ℕ)
-    → demand (columns [] [] (p .extras) (p .periods) (p .counts) (p .lengths) (p .hops) (p .routes)) q T ≡ demand p q T
+    → demand (columns [] [] (p .extras) (p .periods) (p .counts) (p .lengths) (p .jitters) (p .hops) (p .routes)) q T ≡ demand p q T
 unfolding frames begun stretch wireBits
 demand-columns p q T =
-    demand-sum (columns [] [] (p .extras) (p .periods) (p .counts) (p .lengths) (p .hops) (p .routes)) q T ∙ sym (demand-sum p q T)
+    demand-sum (columns [] [] (p .extras) (p .periods) (p .counts) (p .lengths) (p .jitters) (p .hops) (p .routes)) q T ∙ sym (demand-sum p q T)

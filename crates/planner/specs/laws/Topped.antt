@@ -15,7 +15,7 @@ use Rattle.tables.specs.Columns.{planBy}
 
 -- the tables with T for their top
 abbrev pub topped : Plan → ℕ → Plan
-topped p T = planBy (p .guard) T (p .rates) (p .blockings) (p .extras) (p .periods) (p .counts) (p .lengths) (p .hops) (p .routes)
+topped p T = planBy (p .guard) T (p .rates) (p .blockings) (p .extras) (p .periods) (p .counts) (p .lengths) (p .jitters) (p .hops) (p .routes)
 
 module _ (p : Plan) (T : ℕ) where
   pub topped-valid : validPlan p ≡ true → 1 ≤ T → T ≤ p .top → validPlan (topped p T) ≡ true

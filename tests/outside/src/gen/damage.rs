@@ -27,6 +27,10 @@ fn is_extra(piece: &Piece) -> bool {
     matches!(piece, Piece::Extra { .. })
 }
 
+fn is_jitter(piece: &Piece) -> bool {
+    matches!(piece, Piece::Jitter { .. })
+}
+
 fn is_header(piece: &Piece) -> bool {
     matches!(piece, Piece::Header { .. })
 }
@@ -58,18 +62,24 @@ fn past_an_end(rng: &mut Rng, pieces: &mut [Piece]) {
             0 => *number = rng.pick(&[0, 65, 256, 257, u16::MAX]),
             _ => *extra = rng.pick(&[65, 66, 128, 256, 257, 1 << 15, u16::MAX]),
         },
+        Piece::Jitter { number, jitter } => match rng.below(2) {
+            0 => *number = rng.pick(&[0, 257, 512, u16::MAX]),
+            _ => *jitter = rng.pick(&[10_000_001, 10_000_002, 1 << 24, 1 << 31, u32::MAX]),
+        },
         Piece::Raw(_) => {}
     }
 }
 
 fn again(rng: &mut Rng, pieces: &mut Vec<Piece>) {
-    let extra = any_of(rng, pieces, is_extra).filter(|_| rng.chance(1, 2));
-    let mut copy = pieces[extra.unwrap_or_else(|| rng.index(pieces.len()))].clone();
+    let wanted = rng.pick::<fn(&Piece) -> bool>(&[is_extra, is_jitter]);
+    let one = any_of(rng, pieces, wanted).filter(|_| rng.chance(2, 3));
+    let mut copy = pieces[one.unwrap_or_else(|| rng.index(pieces.len()))].clone();
     match &mut copy {
         Piece::Header { top, .. } if rng.chance(1, 2) => *top = rng.range(1, 100_000_000) as u32,
         Piece::Port { rate, .. } if rng.chance(1, 2) => *rate = rng.range(1, 100_000) as u32,
         Piece::Flow { period, .. } if rng.chance(1, 2) => *period = rng.range(1_000, 100_000_000) as u32,
         Piece::Extra { extra, .. } if rng.chance(1, 2) => *extra = rng.pick(&[0, 0, 1, 64]),
+        Piece::Jitter { jitter, .. } if rng.chance(1, 2) => *jitter = rng.pick(&[0, 0, 1, 10_000_000]),
         _ => {}
     }
     let place = rng.index(pieces.len() + 1);
@@ -92,12 +102,13 @@ fn twice(rng: &mut Rng, pieces: &mut [Piece]) {
 }
 
 fn without(rng: &mut Rng, pieces: &mut Vec<Piece>) {
-    match rng.below(4) {
+    match rng.below(5) {
         0 => pieces.retain(|piece| !is_header(piece)),
         1 => pieces.retain(|piece| !is_flow(piece)),
         2 => pieces.retain(|piece| !is_port(piece)),
         _ => {
-            if let Some(place) = any_of(rng, pieces, is_port) {
+            let wanted = rng.pick::<fn(&Piece) -> bool>(&[is_port, is_flow]);
+            if let Some(place) = any_of(rng, pieces, wanted) {
                 pieces.remove(place);
             }
         }
@@ -116,19 +127,23 @@ fn astray(rng: &mut Rng, pieces: &mut [Piece]) {
     }
 }
 
-/// Extra bytes of a port that the plan may lack, or a second time of one that has some.
+/// Extra bytes of a port or jitter of a flow that the plan may lack, or a second time of one that has some.
 fn lost(rng: &mut Rng, pieces: &mut Vec<Piece>) {
     for _ in 0..rng.range(1, 3) {
-        let extra = Piece::Extra { number: rng.range(1, 64) as u16, extra: rng.pick(&[0, 0, 1, 32, 64]) };
+        let more = if rng.chance(1, 2) {
+            Piece::Extra { number: rng.range(1, 64) as u16, extra: rng.pick(&[0, 0, 1, 32, 64]) }
+        } else {
+            Piece::Jitter { number: rng.range(1, 256) as u16, jitter: rng.pick(&[0, 0, 1, 30_000, 10_000_000]) }
+        };
         let place = rng.index(pieces.len() + 1);
-        pieces.insert(place, extra);
+        pieces.insert(place, more);
     }
 }
 
 /// A field of unknown tag, or of a length that its tag does not allow.
 fn odd_field(rng: &mut Rng, pieces: &mut Vec<Piece>) {
     let known = rng.chance(1, 2);
-    let tag = if known { rng.range(1, 4) as u8 } else { rng.pick(&[0, 7, 8, 16, 0x81, 255]) };
+    let tag = if known { rng.range(1, 5) as u8 } else { rng.pick(&[0, 7, 8, 16, 0x81, 255]) };
     let length = rng.pick(&[0, 1, 3, 4, 5, 6, 7, 8, 9, 10, 11, 12, 13, 41, 42, 43, 44, 64, 256, 264, 300]);
     let mut raw = vec![tag, (length / 256) as u8, (length % 256) as u8];
     raw.extend((0..length).map(|_| rng.pick(&[0, 0, 1, 4, 200])));
@@ -156,7 +171,7 @@ fn flip(rng: &mut Rng, bytes: &mut [u8]) {
     bytes[place] = match rng.below(3) {
         0 => bytes[place] ^ (1 << rng.below(8)),
         1 => rng.next() as u8,
-        _ => rng.pick(&[0, 1, 2, 3, 4, 7, 255]),
+        _ => rng.pick(&[0, 1, 2, 3, 4, 5, 7, 255]),
     };
 }
 
@@ -183,29 +198,5 @@ pub fn damaged(rng: &mut Rng, good: &[Piece]) -> Vec<u8> {
         2 if rng.chance(1, 3) => bytes.extend((0..rng.range(1, 40)).map(|_| rng.below(5) as u8)),
         _ => {}
     }
-    bytes
-}
-
-/// A plan made to have a given size, up to and past the largest.
-pub fn sized(rng: &mut Rng, good: &[Piece], size: usize) -> Vec<u8> {
-    let mut bytes = encode(good);
-    let filler = good[rng.index(good.len())].bytes();
-    while bytes.len() < size {
-        match rng.below(3) {
-            0 => bytes.extend(&filler),
-            1 => bytes.push(rng.below(6) as u8),
-            _ => bytes.extend([3, 0x40, 0x00]),
-        }
-    }
-    bytes.truncate(size);
-    bytes
-}
-
-/// A last field that fills the plan up to a size, of a tag or length that is refused.
-pub fn topped_up(good: &[Piece], tag: u8, size: usize) -> Vec<u8> {
-    let mut bytes = encode(good);
-    let length = size.saturating_sub(bytes.len() + 3);
-    bytes.extend([tag, (length / 256) as u8, (length % 256) as u8]);
-    bytes.resize(bytes.len() + length, 0);
     bytes
 }

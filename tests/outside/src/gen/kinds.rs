@@ -1,5 +1,6 @@
 //! The kinds of good plans.
 
+use super::later::{extras, jitters};
 use super::{wire_bits, Piece};
 use crate::rng::Rng;
 
@@ -22,19 +23,6 @@ fn blocker(rng: &mut Rng) -> u16 {
         3 => rng.pick(&[64, 65, 1999, 2000]),
         _ => rng.range(64, 2000) as u16,
     }
-}
-
-/// Extra bytes for some of the ports, for none or for all, some of them 0.
-fn extras(rng: &mut Rng, ports: &[u16]) -> Vec<Piece> {
-    let share = rng.pick(&[0, 0, 1, 2, 4]);
-    let mut pieces = Vec::new();
-    for number in ports {
-        if rng.chance(share, 4) {
-            let extra = if rng.chance(1, 2) { rng.pick(&[0, 1, 32, 63, 64]) } else { rng.range(0, 64) as u16 };
-            pieces.push(Piece::Extra { number: *number, extra });
-        }
-    }
-    pieces
 }
 
 /// Mbit/s that the flows among the pieces bring to a port in the long run, times 1,000.
@@ -65,7 +53,7 @@ fn ports_at(rng: &mut Rng, numbers: &[u16], flows: &[Piece], thousandths: u64) -
     pieces
 }
 
-/// Flows over some ports, and extra bytes of these.
+/// Flows over some ports, jitter of the flows, and extra bytes of the ports.
 fn flows(rng: &mut Rng, size: &Size, ports: &[u16], periods: (u64, u64), lengths: (u64, u64), counts: u64) -> Vec<Piece> {
     let numbers = rng.numbers(size.flows, 256);
     let mut pieces = Vec::new();
@@ -78,6 +66,7 @@ fn flows(rng: &mut Rng, size: &Size, ports: &[u16], periods: (u64, u64), lengths
             route: route(rng, ports, size.hops),
         });
     }
+    pieces.extend(jitters(rng, &pieces));
     pieces.extend(extras(rng, ports));
     pieces
 }
@@ -175,6 +164,7 @@ pub fn edges(rng: &mut Rng) -> Vec<Piece> {
             route: ports[..hops].to_vec(),
         });
     }
+    pieces.extend(jitters(rng, &pieces));
     pieces.extend(extras(rng, &ports));
     pieces
 }

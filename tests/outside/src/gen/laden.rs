@@ -34,6 +34,19 @@ fn extras(rng: &mut Rng, unit: u64) -> Vec<Piece> {
     pieces
 }
 
+/// Jitter of a small part of a period, so that room is left.
+fn jitters(rng: &mut Rng, unit: u64) -> Vec<Piece> {
+    let share = rng.pick(&[0, 1, 4]);
+    let mut pieces = Vec::new();
+    for number in 1..=256 {
+        if rng.chance(share, 4) {
+            let jitter = rng.range(0, 8 * unit) as u32;
+            pieces.push(Piece::Jitter { number, jitter });
+        }
+    }
+    pieces
+}
+
 fn ports(rng: &mut Rng, flows: &[Piece], thousandths: u64) -> Vec<Piece> {
     let mut pieces = Vec::new();
     for number in rng.numbers(64, 64) {
@@ -45,7 +58,7 @@ fn ports(rng: &mut Rng, flows: &[Piece], thousandths: u64) -> Vec<Piece> {
     pieces
 }
 
-/// Of three plans one is loaded to 100 %, without guard band and blockers: admissible where all periods end.
+/// Of three plans one is loaded to 100 %, without guard band, blockers and jitter: admissible where all periods end.
 pub fn plan(rng: &mut Rng) -> Vec<Piece> {
     let unit = rng.spread(1, 60);
     let kind = rng.below(3);
@@ -58,6 +71,9 @@ pub fn plan(rng: &mut Rng) -> Vec<Piece> {
     let flow = if kind == 2 { any_period } else { dividing };
     let mut flows: Vec<Piece> = numbers.into_iter().map(|number| flow(rng, unit, number)).collect();
     flows.extend(extras(rng, unit));
+    if kind != 0 {
+        flows.extend(jitters(rng, unit));
+    }
     let guard = if kind == 0 { 0 } else { rng.range(0, 20 * unit) as u32 };
     let top = unit * LONGEST * longest + rng.pick(&[0, 0, 1, unit * 700]);
     let mut pieces = vec![Piece::Header { guard, top: top as u32 }];

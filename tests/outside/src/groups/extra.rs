@@ -42,7 +42,7 @@ fn answers(tally: &mut Tally, k: &Planner) {
         tally.case(3, &bytes);
         let (longer, answer) = ffi::load(k, &bytes);
         tally.same(format_args!("cp_load(K with 32 extra bytes)"), answer, Answer::new(0, 1, 2));
-        rows(tally, ROWS_WITH_EXTRA, |duration| ffi::check(&longer, duration), |duration| ffi::slack(&longer, 1, duration));
+        rows(tally, &ROWS_WITH_EXTRA, |duration| ffi::check(&longer, duration), |duration| ffi::slack(&longer, 1, duration));
         found(tally, &longer, 77_120, 227_360, [7_512, 22_536]);
         let bytes = with_extra(0, first);
         tally.case(4, &bytes);

@@ -2,7 +2,7 @@
 
 use crate::ffi;
 use crate::gen::{self, damage::damaged, encode, Piece};
-use crate::model::read::{field_read, value_repeats};
+use crate::model::field::{field_read, value_repeats};
 use crate::report::Tally;
 use crate::rng::Rng;
 
@@ -91,7 +91,7 @@ fn long_routes(tally: &mut Tally, rng: &mut Rng, ports: usize) {
 fn long_rows(tally: &mut Tally) {
     let mut rng = tally.rng(u64::MAX);
     for length in [0, 1, 2, 3, 16_384, 16_385, 70_000] {
-        for tag in [0, 1, 2, 3, 4, 7] {
+        for tag in [0, 1, 2, 3, 4, 5, 7] {
             let mut plan = vec![0; length];
             if length > 2 {
                 plan[..3].copy_from_slice(&[tag, 0xFF, 0xFF]);
@@ -145,10 +145,36 @@ fn extras(tally: &mut Tally) {
     }
 }
 
+/// Fields of jitter: every length up to 20, and numbers near the ends of their ranges.
+fn jitters(tally: &mut Tally) {
+    for length in 0..=20u16 {
+        let mut plan = vec![0x05];
+        plan.extend(length.to_be_bytes());
+        plan.extend((0..length).map(|place| u8::from(place == 1)));
+        tally.case(0, &plan);
+        ask(tally, &plan, 0);
+        let refusal = ffi::field(&plan, 0).refusal;
+        tally.same(format_args!("jitter: the refusal at length {length}"), refusal, if length == 6 { 0 } else { 4 });
+    }
+    for number in [0, 1, 2, 64, 65, 127, 128, 255, 256, 257, 258, 512, 1 << 15, u16::MAX] {
+        for jitter in [0, 1, 255, 256, 65_535, 65_536, 9_999_999, 10_000_000, 10_000_001, 1 << 24, 1 << 31, u32::MAX] {
+            let plan = Piece::Jitter { number, jitter }.bytes();
+            tally.case(0, &plan);
+            ask(tally, &plan, 0);
+            let fits = (1..=256).contains(&number) && (0..=10_000_000).contains(&jitter);
+            let got = ffi::field(&plan, 0);
+            tally.same(format_args!("jitter: the refusal"), got.refusal, if fits { 0 } else { 5 });
+            let told = if fits { [number.into(), jitter.into(), 0, 0, 0] } else { [0; 5] };
+            tally.same(format_args!("jitter: the numbers"), got.numbers, told);
+        }
+    }
+}
+
 pub fn run(tally: &mut Tally) {
     long_rows(tally);
     lengths(tally);
     extras(tally);
+    jitters(tally);
     for case in 0..tally.cases {
         let mut rng = tally.rng(case);
         let good = gen::plan(&mut rng);
@@ -170,6 +196,6 @@ pub fn run(tally: &mut Tally) {
     let mut rng = tally.rng(1 << 40);
     long_routes(tally, &mut rng, 20_000);
     tally.must_have_seen("field", &[0, 2, 3, 4, 5]);
-    tally.must_have_seen("tag", &[1, 2, 3, 4]);
+    tally.must_have_seen("tag", &[1, 2, 3, 4, 5]);
     tally.must_have_seen("repeats", &[0, 1]);
 }

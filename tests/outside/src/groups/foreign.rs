@@ -41,7 +41,7 @@ fn damage_flow(rng: &mut Rng, tables: &mut Planner) {
     let slot = slot(rng, &used, 256);
     let hops = usize::from(tables.hops[slot]).clamp(1, 16);
     let route = slot * 16;
-    match rng.below(8) {
+    match rng.below(9) {
         0 => tables.periods[slot] = rng.pick(&[0, 1, 999, 1_000, 99_999_999, 100_000_000, 100_000_001, u32::MAX]),
         1 => tables.counts[slot] = rng.pick(&[0, 1, 2, 63, 64, 65, 256, u16::MAX]),
         2 => tables.lengths[slot] = rng.pick(&[0, 1, 63, 64, 65, 1999, 2000, 2001, u16::MAX]),
@@ -49,6 +49,7 @@ fn damage_flow(rng: &mut Rng, tables: &mut Planner) {
         4 => tables.routes[route + rng.index(hops)] = rng.pick(&[0, 1, 63, 64, 65, 128, 255]),
         5 => tables.routes[route + rng.index(hops)] = tables.routes[route + rng.index(hops)],
         6 => tables.routes[route + rng.index(hops)] = rng.range(1, 64) as u8,
+        7 => tables.jitters[slot] = rng.pick(&[0, 1, 30_000, 9_999_999, 10_000_000, 10_000_001, 1 << 31, u32::MAX]),
         _ => tables.routes[route + rng.index(16)] = rng.next() as u8,
     }
 }
@@ -57,11 +58,12 @@ fn damage_flow(rng: &mut Rng, tables: &mut Planner) {
 fn empty_flow(rng: &mut Rng, tables: &mut Planner) {
     let used: Vec<usize> = (0..256).filter(|slot| tables.hops[*slot] != 0).collect();
     let slot = slot(rng, &used, 256);
-    let keep = rng.below(7);
+    let keep = rng.below(8);
     tables.periods[slot] *= u32::from(keep == 0);
     tables.counts[slot] *= u16::from(keep == 1);
     tables.lengths[slot] *= u16::from(keep == 2);
     tables.hops[slot] *= u8::from(keep == 3);
+    tables.jitters[slot] *= u32::from(keep == 4);
 }
 
 /// Bytes that no question may look at.
@@ -105,6 +107,26 @@ fn extras_of_k(tally: &mut Tally, rng: &mut Rng) {
     }
 }
 
+/// K's tables with jitter in and out of range at its flows, and with some at each flow that it lacks.
+fn jitters_of_k(tally: &mut Tally, rng: &mut Rng) {
+    let k = ffi::load(&ffi::empty(), &K).0;
+    for slot in 0..256 {
+        let asked: &[u32] = match slot {
+            0 | 1 => &[0, 1, 30_000, 38_000, 9_999_999, 10_000_000, 10_000_001, 1 << 24, 1 << 31, u32::MAX],
+            _ => &[1],
+        };
+        for jitter in asked {
+            let mut tables = k.clone();
+            tables.jitters[slot] = *jitter;
+            tally.case(slot as u64, &tables.to_bytes());
+            let accepted = slot < 2 && *jitter <= 10_000_000;
+            let got = ffi::check(&tables, 0);
+            tally.same(format_args!("jitter {jitter} in slot {slot}: cp_check(0)"), got.refusal, if accepted { 10 } else { 20 });
+            ask_all(tally, &tables, plan_of(&tables).as_ref(), rng);
+        }
+    }
+}
+
 /// Every question, and loads on top of such a planner.
 fn ask(tally: &mut Tally, case: u64, tables: &Planner, rng: &mut Rng) {
     tally.case(case, &tables.to_bytes());
@@ -131,6 +153,7 @@ pub fn run(tally: &mut Tally) {
     ask(tally, 0, &Planner::zero(), &mut rng);
     ask(tally, 0, &Planner::from_bytes([255; PLANNER_BYTES]), &mut rng);
     extras_of_k(tally, &mut rng);
+    jitters_of_k(tally, &mut rng);
     for case in 0..tally.cases {
         let mut rng = tally.rng(case);
         if rng.chance(1, 10) {

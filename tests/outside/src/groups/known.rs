@@ -1,6 +1,6 @@
 //! Plan K and its neighbours, with the numbers that the papers give.
 
-use super::extra;
+use super::{extra, jitter};
 use crate::answers::{Answer, Planner, SlackAnswer};
 use crate::ffi;
 use crate::report::Tally;
@@ -44,8 +44,8 @@ pub fn with_port_2() -> Vec<u8> {
 }
 
 /// Rows, whoever answers them.
-pub fn rows(tally: &mut Tally, rows: [Row; 11], check: impl Fn(u64) -> Answer, slack: impl Fn(u64) -> SlackAnswer) {
-    for (duration, refusal, spare) in rows {
+pub fn rows(tally: &mut Tally, rows: &[Row], check: impl Fn(u64) -> Answer, slack: impl Fn(u64) -> SlackAnswer) {
+    for (duration, refusal, spare) in rows.iter().copied() {
         let want = match refusal {
             21 => Answer::new(21, 1, 1),
             other => Answer::refused(other),
@@ -104,7 +104,7 @@ pub fn run(tally: &mut Tally) {
     tally.case(0, &K);
     let (planner, answer) = ffi::load(&empty, &K);
     tally.same(format_args!("cp_load(K)"), answer, Answer::new(0, 1, 2));
-    rows(tally, ROWS, |duration| ffi::check(&planner, duration), |duration| ffi::slack(&planner, 1, duration));
+    rows(tally, &ROWS, |duration| ffi::check(&planner, duration), |duration| ffi::slack(&planner, 1, duration));
     found(tally, &planner, 72_000, 142_000, [7_000, 14_000]);
     for port in [0, 2, 64, 65, u64::MAX] {
         tally.same(format_args!("slack({port}, 72000)"), ffi::slack(&planner, port, 72_000), SlackAnswer::refused(24));
@@ -122,4 +122,5 @@ pub fn run(tally: &mut Tally) {
     tally.same(format_args!("slack(2, 72000)"), ffi::slack(&wider, 2, 72_000), SlackAnswer::refused(24));
     refusals(tally);
     extra::run(tally, &planner);
+    jitter::run(tally, &planner);
 }

@@ -1,10 +1,11 @@
 //! Loads of good and damaged plans: answer, place, and the planner given back.
 
 use super::extra::with_extra;
+use super::jitter::with_jitter;
 use super::known::K;
 use crate::answers::Planner;
 use crate::ffi;
-use crate::gen::{self, damage, encode, Piece};
+use crate::gen::{self, damage, encode, sized, Piece};
 use crate::model::read::{load_answer, read};
 use crate::model::tables::tables_of;
 use crate::report::Tally;
@@ -50,13 +51,13 @@ fn sizes(tally: &mut Tally, planner: &Planner) {
         let mut rng = tally.rng(1 << 40 | case);
         let good = gen::plan(&mut rng);
         for size in [0, 1, 2, 3, 16_383, 16_384, 16_385, 65_536 + 52, 100_000] {
-            let plan = damage::sized(&mut rng, &good, size);
+            let plan = sized::sized(&mut rng, &good, size);
             tally.case(case, &plan);
             one_load(tally, planner, &plan);
         }
         for size in [16_383, 16_384, 16_385, 16_386] {
-            for tag in [1, 2, 3, 4, 7] {
-                let plan = damage::topped_up(&good, tag, size);
+            for tag in [1, 2, 3, 4, 5, 7] {
+                let plan = sized::topped_up(&good, tag, size);
                 tally.case(case, &plan);
                 one_load(tally, planner, &plan);
             }
@@ -80,10 +81,12 @@ fn pairs(tally: &mut Tally, planner: &Planner) {
     }
 }
 
-/// Every order of a few fields: extra bytes before and after their port, of absent ports, twice, and a route astray.
+/// Every order of a few fields: extra bytes before and after their port and jitter before and after its flow, of absent ports and
+/// flows, twice, and a route astray.
 fn orders(tally: &mut Tally, planner: &Planner) {
     let flow = |number, port| Piece::Flow { number, period: 1_000, count: 1, length: 64, route: vec![port] };
     let extra = |number, extra| Piece::Extra { number, extra };
+    let jitter = |number, jitter| Piece::Jitter { number, jitter };
     let port = Piece::Port { number: 1, rate: 1, blocker: 0 };
     for more in [
         vec![extra(1, 32)],
@@ -94,6 +97,16 @@ fn orders(tally: &mut Tally, planner: &Planner) {
         vec![flow(2, 9), flow(3, 8), extra(9, 1)],
         vec![flow(2, 9), extra(9, 1), extra(9, 0)],
         vec![extra(65, 1), extra(9, 0)],
+        vec![jitter(1, 30_000)],
+        vec![jitter(1, 0), jitter(1, 30_000)],
+        vec![jitter(1, 10_000_000), jitter(9, 0)],
+        vec![jitter(9, 1), jitter(256, 0)],
+        vec![jitter(9, 1), flow(9, 1)],
+        vec![jitter(9, 0), extra(9, 1)],
+        vec![flow(2, 9), jitter(9, 1)],
+        vec![flow(2, 9), jitter(9, 1), extra(9, 1)],
+        vec![jitter(257, 1), jitter(9, 0)],
+        vec![jitter(1, 10_000_001), jitter(9, 0)],
     ] {
         let mut rest = vec![Piece::Header { guard: 0, top: 1 }, port.clone(), flow(1, 1)];
         rest.extend(more);
@@ -115,11 +128,11 @@ fn every_order(tally: &mut Tally, planner: &Planner, taken: &mut Vec<Piece>, res
     }
 }
 
-/// Fields that say 0 extra bytes leave the planner as it is without them.
+/// Fields that say 0 extra bytes or a jitter of 0 leave the planner as it is without them.
 fn without_zeros(tally: &mut Tally, planner: &Planner, good: &[Piece]) {
-    let says_zero = |piece: &Piece| matches!(piece, Piece::Extra { extra: 0, .. });
+    let says_zero = |piece: &Piece| matches!(piece, Piece::Extra { extra: 0, .. } | Piece::Jitter { jitter: 0, .. });
     let fewer: Vec<Piece> = good.iter().filter(|piece| !says_zero(piece)).cloned().collect();
-    tally.saw("extra fields of 0, 1 for some", u32::from(fewer.len() < good.len()));
+    tally.saw("fields of 0, 1 for some", u32::from(fewer.len() < good.len()));
     let (one, other) = (ffi::load(planner, &encode(good)).0, ffi::load(planner, &encode(&fewer)).0);
     tally.same(format_args!("fields of 0 left out: first table and slot that differ"), one.differs(&other), None);
 }
@@ -133,6 +146,8 @@ pub fn run(tally: &mut Tally) {
     orders(tally, &held);
     every_byte(tally, 0, &K, &held);
     every_byte(tally, 0, &with_extra(32, true), &held);
+    every_byte(tally, 0, &with_jitter(1, 30_000, true), &held);
+    every_byte(tally, 0, &with_jitter(2, 10_000_000, false), &held);
     for case in 0..tally.cases {
         let mut rng = tally.rng(case);
         let good = gen::plan(&mut rng);
@@ -151,5 +166,5 @@ pub fn run(tally: &mut Tally) {
         }
     }
     tally.must_have_seen("load", &[0, 1, 2, 3, 4, 5, 6, 7, 8, 9]);
-    tally.must_have_seen("extra fields of 0, 1 for some", &[0, 1]);
+    tally.must_have_seen("fields of 0, 1 for some", &[0, 1]);
 }

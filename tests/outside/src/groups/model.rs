@@ -1,6 +1,7 @@
 //! The model against itself: K's rows, spans against a scan, tables against bytes.
 
 use super::extra::{with_extra, ROWS_WITH_EXTRA};
+use super::jitter::{with_jitter, ROWS_FLOW_1, ROWS_FLOW_2};
 use super::known;
 use crate::answers::Answer;
 use crate::gen::{self, encode};
@@ -21,7 +22,7 @@ fn finds(tally: &mut Tally, plan: &Plan, least: u64, safe: u64) {
 fn known_plans(tally: &mut Tally) {
     tally.case(0, &known::K);
     let plan = read(&known::K).expect("K is a plan");
-    known::rows(tally, known::ROWS, |duration| check(Some(&plan), duration), |duration| slack(Some(&plan), 1, duration));
+    known::rows(tally, &known::ROWS, |duration| check(Some(&plan), duration), |duration| slack(Some(&plan), 1, duration));
     finds(tally, &plan, 72_000, 142_000);
     finds(tally, &read(&known::with_blocker()).expect("a plan"), 422_000, 472_000);
     finds(tally, &read(&known::with_port_2()).expect("a plan"), 72_000, 142_000);
@@ -31,15 +32,26 @@ fn known_plans(tally: &mut Tally) {
     for first in [false, true] {
         let longer = read(&with_extra(32, first)).expect("a plan");
         let (check, slack) = (|duration| check(Some(&longer), duration), |duration| slack(Some(&longer), 1, duration));
-        known::rows(tally, ROWS_WITH_EXTRA, check, slack);
+        known::rows(tally, &ROWS_WITH_EXTRA, check, slack);
         finds(tally, &longer, 77_120, 227_360);
         tally.same(format_args!("model: K with extra 0"), read(&with_extra(0, first)).as_ref(), Ok(&plan));
+        tally.same(format_args!("model: K with jitter 0"), read(&with_jitter(2, 0, first)).as_ref(), Ok(&plan));
+        with_jitter_of(tally, &with_jitter(1, 30_000, first), &ROWS_FLOW_1, 92_000, 142_000);
+        with_jitter_of(tally, &with_jitter(2, 38_000, first), &ROWS_FLOW_2, 72_000, 212_000);
     }
+}
+
+fn with_jitter_of(tally: &mut Tally, bytes: &[u8], rows: &[known::Row], least: u64, safe: u64) {
+    tally.case(0, bytes);
+    let late = read(bytes).expect("a plan");
+    known::rows(tally, rows, |duration| check(Some(&late), duration), |duration| slack(Some(&late), 1, duration));
+    finds(tally, &late, least, safe);
+    tally.same(format_args!("model: K with jitter by a scan"), scanned(&late), spans(&late));
 }
 
 pub fn run(tally: &mut Tally) {
     known_plans(tally);
-    let mut gaps = 0;
+    let (mut gaps, mut late) = (0, 0);
     for case in 0..tally.cases {
         let mut rng = tally.rng(case);
         let mut pieces = gen::plan(&mut rng);
@@ -58,8 +70,10 @@ pub fn run(tally: &mut Tally) {
         }
         let found = spans(&plan);
         gaps += usize::from(found.len() > 1);
+        late += usize::from(found.len() > 1 && gen::has_jitter(&pieces));
         tally.same(format_args!("spans by breakpoints, and by a scan"), found, scanned(&plan));
     }
     tally.case(0, &[]);
     tally.same(format_args!("some plans have gaps"), gaps > 0 || tally.cases < 50, true);
+    tally.same(format_args!("some plans with jitter have gaps"), late > 0 || tally.cases < 100, true);
 }

@@ -13,6 +13,7 @@ pub fn run(tally: &mut Tally) {
         let first = encode(&pieces);
         let plan = read(&first).expect("a good plan");
         tally.saw("extra bytes, 1 for some", u32::from(gen::has_extra(&pieces)));
+        tally.saw("jitter, 1 for some", u32::from(gen::has_jitter(&pieces)));
         let (one, counted) = ffi::load(&ffi::empty(), &first);
         let asked = durations(&plan, &mut rng);
         let ports = some_ports(&plan, &mut rng);
@@ -43,4 +44,5 @@ pub fn run(tally: &mut Tally) {
         }
     }
     tally.must_have_seen("extra bytes, 1 for some", &[0, 1]);
+    tally.must_have_seen("jitter, 1 for some", &[0, 1]);
 }

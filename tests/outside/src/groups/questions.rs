@@ -1,6 +1,9 @@
 //! The plain question and the spare at boundary durations and at every port.
 
-use super::{ask_check, ask_slack, durations, extra::with_extra, known::K, some_ports, span_ends};
+use super::extra::with_extra;
+use super::jitter::with_jitter;
+use super::known::K;
+use super::{ask_check, ask_slack, durations, some_ports, span_ends};
 use crate::answers::Planner;
 use crate::ffi;
 use crate::gen::{self, encode};
@@ -10,7 +13,7 @@ use crate::model::Plan;
 use crate::report::Tally;
 use std::ops::Range;
 
-/// K, or K with extra bytes, at every duration around its gaps, and at many others.
+/// K, or K with extra bytes or jitter, at every duration around its gaps, and at many others.
 fn all_of(tally: &mut Tally, bytes: &[u8], near: Range<u64>) {
     tally.case(0, bytes);
     let plan = read(bytes).expect("a plan");
@@ -32,6 +35,8 @@ pub fn run(tally: &mut Tally) {
     let empty = ffi::empty();
     all_of(tally, &K, 71_900..143_000);
     all_of(tally, &with_extra(32, false), 77_000..228_000);
+    all_of(tally, &with_jitter(1, 30_000, false), 69_900..143_000);
+    all_of(tally, &with_jitter(2, 38_000, false), 71_900..213_000);
     for duration in [0, 1, 1_000, 100_000_000, 100_000_001, u64::MAX] {
         ask_check(tally, &empty, None, duration);
         for port in (0..=65).chain([u64::MAX]) {

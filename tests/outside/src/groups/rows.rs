@@ -2,7 +2,7 @@
 
 use super::{ask_all, loads::one_load};
 use crate::ffi;
-use crate::gen::{self, damage, encode};
+use crate::gen::{self, damage, encode, sized};
 use crate::model::read::read;
 use crate::model::Plan;
 use crate::report::Tally;
@@ -20,7 +20,7 @@ pub fn run(tally: &mut Tally) {
             let bytes = match rng.below(8) {
                 0..=2 => encode(&other),
                 3 => damage::damaged(&mut rng, &good),
-                4 => damage::sized(&mut rng, &good, 16_385),
+                4 => sized::sized(&mut rng, &good, 16_385),
                 5 => Vec::new(),
                 _ => damage::damaged(&mut rng, &other),
             };

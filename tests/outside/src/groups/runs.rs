@@ -1,6 +1,6 @@
 //! Runs of frames: each 21 has a bad emission, and no emission is bad where a duration is accepted.
 
-use super::{durations, span_ends};
+use super::{durations, jitter::with_jitter, known::K, span_ends};
 use crate::answers::Planner;
 use crate::ffi;
 use crate::gen::{self, encode, fit::fit, kinds};
@@ -9,13 +9,14 @@ use crate::model::spans::spans;
 use crate::model::Plan;
 use crate::report::Tally;
 use crate::rng::Rng;
-use crate::simulate::{gathered_at, keeps_contract, random, Emission, Outcome, Run};
+use crate::simulate::emissions::{gathered_at, keeps_contract, nominals, random, Emission};
+use crate::simulate::{Outcome, Run};
 
 const FRAMES: u64 = 60_000;
 
 /// Frames that a gathered emission has at most.
 fn weight(plan: &Plan, duration: u64) -> u64 {
-    plan.flows.values().map(|flow| flow.count * (duration / flow.period + 1)).sum()
+    plan.flows.values().map(|flow| flow.count * ((duration + flow.jitter) / flow.period + 1)).sum()
 }
 
 fn left_unsent(tally: &mut Tally, plan: &Plan, duration: u64, emission: &Emission) -> bool {
@@ -66,7 +67,26 @@ fn accepted(tally: &mut Tally, plan: &Plan, duration: u64, rng: &mut Rng) {
     }
 }
 
+/// K with 38,000 of jitter for flow 2, at 72,001: flow 2 may come at 0 and 72,000, due at -38,000 and 72,000 and at no other
+/// instants, and then a frame is left unsent. One ns earlier it may not come, nor may it without the jitter.
+fn worked(tally: &mut Tally) {
+    let bytes = with_jitter(2, 38_000, false);
+    tally.case(0, &bytes);
+    let plan = read(&bytes).expect("a plan");
+    let emission = |second: u64| Emission::from([(1, vec![0]), (2, vec![0, second])]);
+    tally.same(format_args!("the worked nominal instants"), nominals(&plan.flows[&2], &[0, 72_000]), Some(vec![-38_000, 72_000]));
+    let unsent = left_unsent(tally, &plan, 72_001, &emission(72_000));
+    tally.same(format_args!("the worked emission leaves a frame unsent at 72,001"), unsent, true);
+    all_leave(tally, &plan, 72_000, &emission(72_000));
+    tally.same(format_args!("1 ns earlier"), keeps_contract(&plan, &emission(71_999)), false);
+    let k = read(&K).expect("K is a plan");
+    tally.same(format_args!("K: 72,000 after"), keeps_contract(&k, &emission(72_000)), false);
+    tally.same(format_args!("K: a period after"), keeps_contract(&k, &emission(110_000)), true);
+    tally.same(format_args!("K: 1 ns less than a period after"), keeps_contract(&k, &emission(109_999)), false);
+}
+
 pub fn run(tally: &mut Tally) {
+    worked(tally);
     for case in 0..tally.cases {
         let mut rng = tally.rng(case);
         let mut pieces = match rng.below(4) {
@@ -92,6 +112,9 @@ pub fn run(tally: &mut Tally) {
             if gen::has_extra(&pieces) {
                 tally.saw("check with extra bytes", answer.refusal);
             }
+            if gen::has_jitter(&pieces) {
+                tally.saw("check with jitter", answer.refusal);
+            }
             match answer.refusal {
                 0 => accepted(tally, &plan, duration, &mut rng),
                 21 => refused(tally, &plan, &planner, duration, answer.first, answer.second),
@@ -101,4 +124,5 @@ pub fn run(tally: &mut Tally) {
     }
     tally.must_have_seen("check", &[0, 21]);
     tally.must_have_seen("check with extra bytes", &[0, 21]);
+    tally.must_have_seen("check with jitter", &[0, 21]);
 }

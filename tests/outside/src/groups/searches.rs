@@ -37,7 +37,8 @@ fn tops(spans: &[Span], rng: &mut Rng) -> Vec<u64> {
 
 /// One more port, crossed by one more flow whose demand rises just at a duration: no other port is touched.
 fn with_side_port(pieces: &[Piece], duration: u64, rng: &mut Rng) -> Option<Vec<Piece>> {
-    let period = u32::try_from(duration - 1).ok().filter(|period| *period >= 1_000)?;
+    let jitter = rng.pick(&[0, 0, 1, 5_000]);
+    let period = u32::try_from(duration - 1 + u64::from(jitter)).ok().filter(|period| (1_000..=100_000_000).contains(period))?;
     let taken = |wanted: u16, port: bool| {
         pieces.iter().any(|piece| match piece {
             Piece::Port { number, .. } => port && *number == wanted,
@@ -50,6 +51,7 @@ fn with_side_port(pieces: &[Piece], duration: u64, rng: &mut Rng) -> Option<Vec<
     let mut more = pieces.to_vec();
     more.push(Piece::Port { number, rate: 100_000, blocker: 0 });
     more.push(Piece::Flow { number: flow, period, count: 1, length: 64, route: vec![number] });
+    more.push(Piece::Jitter { number: flow, jitter });
     Some(more)
 }
 
@@ -80,6 +82,9 @@ pub fn run(tally: &mut Tally) {
         let found = ask_lengths(tally, case, &pieces, &mut rng);
         tally.saw("spans, 2 for more", found.len().min(2) as u32);
         tally.saw("extra bytes, 1 for some", u32::from(gen::has_extra(&pieces)));
+        if gen::has_jitter(&pieces) {
+            tally.saw("spans with jitter, 2 for more", found.len().min(2) as u32);
+        }
         for duration in found.first().into_iter().chain(found.last()).map(|span| span.0) {
             if let Some(more) = with_side_port(&pieces, duration, &mut rng) {
                 ask_lengths(tally, case, &more, &mut rng);
@@ -93,6 +98,7 @@ pub fn run(tally: &mut Tally) {
     at_full_load(tally);
     tally.must_have_seen("spans, 2 for more", &[0, 1, 2]);
     tally.must_have_seen("extra bytes, 1 for some", &[0, 1]);
+    tally.must_have_seen("spans with jitter, 2 for more", &[0, 1, 2]);
     tally.must_have_seen("least", &[0, 11, 20, 22]);
     tally.must_have_seen("margin_safe", &[0, 11, 20, 23]);
 }

@@ -1,112 +1,9 @@
 //! Reading a plan's bytes, with refusals 1 to 9.
 
+use super::field::{field_at, repeats, Field};
 use super::{Flow, Plan, Port};
-use crate::answers::{Answer, FieldRead};
-use std::collections::{BTreeMap, BTreeSet};
-
-#[derive(Clone, Debug)]
-pub enum Field {
-    Header { guard: u64, top: u64 },
-    Port { number: u64, rate: u64, blocker: u64 },
-    Flow { number: u64, flow: Flow },
-    /// Bytes more per frame at the port of this number.
-    Extra { number: u64, bytes: u64 },
-}
-
-fn number(bytes: &[u8]) -> u64 {
-    bytes.iter().fold(0, |sum, byte| sum * 256 + u64::from(*byte))
-}
-
-fn length_allowed(tag: u8, length: usize) -> bool {
-    match tag {
-        1 | 2 => length == 8,
-        4 => length == 4,
-        _ => (1..=16).any(|hops| length == 10 + 2 * hops),
-    }
-}
-
-fn blocker_allowed(blocker: u64) -> bool {
-    blocker == 0 || (64..=2000).contains(&blocker)
-}
-
-/// The numbers of a value, or none where one is out of range (test 5).
-fn numbers_of(tag: u8, value: &[u8]) -> Option<Field> {
-    let (field, fits) = match tag {
-        1 => {
-            let (guard, top) = (number(&value[..4]), number(&value[4..]));
-            (Field::Header { guard, top }, guard <= 1_000_000 && (1..=100_000_000).contains(&top))
-        }
-        2 => {
-            let (own, rate, blocker) = (number(&value[..2]), number(&value[2..6]), number(&value[6..]));
-            let fits = (1..=64).contains(&own) && (1..=100_000).contains(&rate) && blocker_allowed(blocker);
-            (Field::Port { number: own, rate, blocker }, fits)
-        }
-        4 => {
-            let (port, bytes) = (number(&value[..2]), number(&value[2..]));
-            (Field::Extra { number: port, bytes }, (1..=64).contains(&port) && bytes <= 64)
-        }
-        _ => {
-            let own = number(&value[..2]);
-            let flow = Flow {
-                period: number(&value[2..6]),
-                count: number(&value[6..8]),
-                length: number(&value[8..10]),
-                route: value[10..].chunks(2).map(number).collect(),
-            };
-            let fits = (1..=256).contains(&own) && flow_fits(&flow);
-            (Field::Flow { number: own, flow }, fits)
-        }
-    };
-    fits.then_some(field)
-}
-
-fn flow_fits(flow: &Flow) -> bool {
-    (1_000..=100_000_000).contains(&flow.period)
-        && (1..=64).contains(&flow.count)
-        && (64..=2000).contains(&flow.length)
-        && flow.route.iter().all(|port| (1..=64).contains(port))
-}
-
-/// The field at an offset and the offset after it, by tests 2 to 5.
-pub fn field_at(plan: &[u8], offset: usize) -> Result<(Field, usize), u32> {
-    let rest = plan.get(offset..).unwrap_or(&[]);
-    let head = rest.get(..3).ok_or(2u32)?;
-    let (tag, length) = (head[0], number(&head[1..]) as usize);
-    let value = rest[3..].get(..length).ok_or(2u32)?;
-    if !(1..=4).contains(&tag) {
-        return Err(3);
-    }
-    if !length_allowed(tag, length) {
-        return Err(4);
-    }
-    let field = numbers_of(tag, value).ok_or(5u32)?;
-    Ok((field, offset + 3 + length))
-}
-
-/// What cp_field must answer.
-pub fn field_read(plan: &[u8], offset: usize) -> FieldRead {
-    let (field, after) = match field_at(plan, offset) {
-        Err(refusal) => return FieldRead { refusal, tag: 0, offset: offset as u64, numbers: [0; 5] },
-        Ok(found) => found,
-    };
-    let (tag, numbers) = match field {
-        Field::Header { guard, top } => (1, [guard, top, 0, 0, 0]),
-        Field::Port { number, rate, blocker } => (2, [number, rate, blocker, 0, 0]),
-        Field::Flow { number, flow } => (3, [number, flow.period, flow.count, flow.length, flow.route.len() as u64]),
-        Field::Extra { number, bytes } => (4, [number, bytes, 0, 0, 0]),
-    };
-    FieldRead { refusal: 0, tag, offset: after as u64, numbers }
-}
-
-pub fn repeats(route: &[u64]) -> bool {
-    route.iter().collect::<BTreeSet<_>>().len() < route.len()
-}
-
-/// What cp_repeats must answer for the value of a flow field.
-pub fn value_repeats(value: &[u8]) -> bool {
-    let route: Vec<u64> = value.get(10..).unwrap_or(&[]).chunks_exact(2).map(number).collect();
-    repeats(&route)
-}
+use crate::answers::Answer;
+use std::collections::BTreeMap;
 
 #[derive(Default)]
 struct Gathered {
@@ -115,6 +12,8 @@ struct Gathered {
     flows: BTreeMap<u64, Flow>,
     /// Extra bytes by port, each with the offset of its tag.
     extras: BTreeMap<u64, (u64, usize)>,
+    /// Jitter by flow, likewise.
+    jitters: BTreeMap<u64, (u64, usize)>,
     tags: BTreeMap<usize, u64>,
 }
 
@@ -126,6 +25,7 @@ impl Gathered {
             Field::Port { number, .. } => self.ports.contains_key(number),
             Field::Flow { number, .. } => self.flows.contains_key(number),
             Field::Extra { number, .. } => self.extras.contains_key(number),
+            Field::Jitter { number, .. } => self.jitters.contains_key(number),
         };
         if again {
             return Err(6);
@@ -138,6 +38,9 @@ impl Gathered {
             Field::Extra { number, bytes } => {
                 self.extras.insert(number, (bytes, offset));
             }
+            Field::Jitter { number, jitter } => {
+                self.jitters.insert(number, (jitter, offset));
+            }
             Field::Flow { flow, .. } if repeats(&flow.route) => return Err(7),
             Field::Flow { number, flow } => {
                 self.flows.insert(number, flow);
@@ -147,7 +50,7 @@ impl Gathered {
         Ok(())
     }
 
-    /// Tests 8 and 9, routes before extra bytes; then each port gets its own.
+    /// Tests 8 and 9, routes before jitter before extra bytes; then each flow and each port gets its own.
     fn close(mut self, plan_length: usize) -> Result<Plan, (u32, usize)> {
         let (guard, top) = self.header.ok_or((8, plan_length))?;
         if self.flows.is_empty() {
@@ -157,15 +60,23 @@ impl Gathered {
         if let Some((offset, _)) = self.tags.iter().find(|(_, number)| astray(&self.flows[number])) {
             return Err((9, *offset));
         }
-        let lost = self.extras.iter().filter(|(port, _)| !self.ports.contains_key(port));
-        if let Some(offset) = lost.map(|(_, (_, offset))| *offset).min() {
+        let late = first_lost(&self.jitters, |flow| !self.flows.contains_key(&flow));
+        if let Some(offset) = late.or_else(|| first_lost(&self.extras, |port| !self.ports.contains_key(&port))) {
             return Err((9, offset));
+        }
+        for (flow, (jitter, _)) in self.jitters {
+            self.flows.get_mut(&flow).expect("a known flow").jitter = jitter;
         }
         for (port, (bytes, _)) in self.extras {
             self.ports.get_mut(&port).expect("a known port").extra = bytes;
         }
         Ok(Plan { guard, top, ports: self.ports, flows: self.flows })
     }
+}
+
+/// The first tag among fields that are kept by number, of those whose number is absent.
+fn first_lost(fields: &BTreeMap<u64, (u64, usize)>, absent: impl Fn(u64) -> bool) -> Option<usize> {
+    fields.iter().filter(|(number, _)| absent(**number)).map(|(_, (_, offset))| *offset).min()
 }
 
 /// A plan from its bytes, or the refusal and its place.

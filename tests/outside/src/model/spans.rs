@@ -1,6 +1,6 @@
 //! The admissible durations as spans, found by walking the points where a demand rises.
 
-use super::Plan;
+use super::{Flow, Plan};
 use crate::answers::Answer;
 use std::collections::BTreeMap;
 
@@ -52,21 +52,32 @@ fn join(spans: &mut Vec<Span>, from: u64, to: u64) {
     }
 }
 
+/// The first duration that reaches, with the jitter, past so many periods.
+fn first_past(flow: &Flow, periods: u64) -> u64 {
+    (periods * flow.period + 1).saturating_sub(flow.jitter).max(1)
+}
+
+/// Periods begun at a duration, of which so many had begun before.
+fn periods_begun(flow: &Flow, before: u64, duration: u64) -> u64 {
+    (before..).find(|periods| first_past(flow, *periods) > duration).expect("a last period")
+}
+
 /// All admissible durations from 1 to top, rising.
 pub fn spans(plan: &Plan) -> Vec<Span> {
     let mut walk = Walk::new(plan);
-    let mut rises: BTreeMap<u64, Vec<u64>> = BTreeMap::new();
-    rises.insert(1, plan.flows.keys().copied().collect());
+    let mut rises: BTreeMap<u64, Vec<(u64, u64)>> = BTreeMap::new();
+    rises.insert(1, plan.flows.keys().map(|number| (*number, 0)).collect());
     let mut spans = Vec::new();
     while let Some(start) = rises.keys().next().copied() {
-        for number in rises.remove(&start).unwrap_or_default() {
+        for (number, before) in rises.remove(&start).unwrap_or_default() {
             let flow = &plan.flows[&number];
+            let begun = periods_begun(flow, before, start);
             for port in &flow.route {
-                walk.rise(*port, flow.count * plan.ports[port].wire_bits(flow.length));
+                walk.rise(*port, (begun - before) * flow.count * plan.ports[port].wire_bits(flow.length));
             }
-            let next = start + flow.period;
+            let next = first_past(flow, begun);
             if next <= plan.top {
-                rises.entry(next).or_default().push(number);
+                rises.entry(next).or_default().push((number, begun));
             }
         }
         let end = rises.keys().next().map_or(plan.top, |next| next - 1);
@@ -78,9 +89,9 @@ pub fn spans(plan: &Plan) -> Vec<Span> {
     spans
 }
 
-/// How many points the walk visits at most.
+/// How many periods the walk looks at, at most.
 pub fn effort(plan: &Plan) -> u64 {
-    plan.flows.values().map(|flow| plan.top / flow.period + 1).sum()
+    plan.flows.values().map(|flow| (plan.top + flow.jitter) / flow.period + 1).sum()
 }
 
 /// The same spans by trying every duration, for small tops.

@@ -1,6 +1,6 @@
 //! Planner values: the one that a load makes of a plan, which ones hold a plan that the rules accept, and the plan that such a one tells.
 
-use super::{read::repeats, Flow, Plan, Port};
+use super::{field::repeats, Flow, Plan, Port};
 use crate::answers::Planner;
 use std::collections::BTreeMap;
 
@@ -26,19 +26,21 @@ fn flow_of(tables: &Planner, slot: usize, ports: &BTreeMap<u64, Port>) -> Option
     let hops = usize::from(tables.hops[slot]);
     let period = u64::from(tables.periods[slot]);
     let (count, length) = (u64::from(tables.counts[slot]), u64::from(tables.lengths[slot]));
-    if (hops, period, count, length) == (0, 0, 0, 0) {
+    let jitter = u64::from(tables.jitters[slot]);
+    if (hops, period, count, length, jitter) == (0, 0, 0, 0, 0) {
         return Some(None);
     }
     let fits = (1..=16).contains(&hops)
         && (1_000..=100_000_000).contains(&period)
         && (1..=64).contains(&count)
-        && (64..=2000).contains(&length);
+        && (64..=2000).contains(&length)
+        && jitter <= 10_000_000;
     if !fits {
         return None;
     }
     let route: Vec<u64> = tables.routes[slot * 16..][..hops].iter().map(|port| u64::from(*port)).collect();
     let sound = !repeats(&route) && route.iter().all(|port| ports.contains_key(port));
-    sound.then_some(Some(Flow { period, count, length, route }))
+    sound.then_some(Some(Flow { period, count, length, jitter, route }))
 }
 
 /// The plan in a planner's tables, or none where the rules accept no such tables.
@@ -72,6 +74,7 @@ pub fn tables_of(plan: &Plan) -> Planner {
         tables.periods[slot] = flow.period as u32;
         tables.counts[slot] = flow.count as u16;
         tables.lengths[slot] = flow.length as u16;
+        tables.jitters[slot] = flow.jitter as u32;
         tables.hops[slot] = flow.route.len() as u8;
         for (hop, port) in flow.route.iter().enumerate() {
             tables.routes[slot * 16 + hop] = *port as u8;

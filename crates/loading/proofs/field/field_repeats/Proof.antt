@@ -18,6 +18,9 @@ route-repeats-requires c κs = search needs
 enum-told-4 : tie.Need-enum-told-4
 enum-told-4 c = search needs
 
+enum-told-5 : tie.Need-enum-told-5
+enum-told-5 c = search needs
+
 returns : tie.Need-returns
 returns c = search needs
 
@@ -30,6 +33,9 @@ returns-3 c = rw (c .before .enum-told3 .given .1) (c .route-repeats .ensures)
 returns-4 : tie.Need-returns-4
 returns-4 c = search needs
 
+returns-5 : tie.Need-returns-5
+returns-5 c = search needs
+
 pub field-repeats-spec : {M : Type 1} → statement M
 field-repeats-spec =
     tie.close
@@ -39,7 +45,9 @@ field-repeats-spec =
     enum-told-3
     route-repeats-requires
     enum-told-4
+    enum-told-5
     returns
     returns-2
     returns-3
-    returns-4)
+    returns-4
+    returns-5)

@@ -14,7 +14,7 @@ use Rattle.loading.proofs.field.step.Tie as tie
 abbrev held : tie.Start → Draft
 held c =
     draftOf (c .args .totals) (now (c .args .rates)) (now (c .args .blockings)) (now (c .args .extras)) (now (c .args .periods)) (now (c .args .counts))
-    (now (c .args .lengths)) (now (c .args .hops)) (now (c .args .routes)) (now (c .args .seen))
+    (now (c .args .lengths)) (now (c .args .jitters)) (now (c .args .hops)) (now (c .args .routes)) (now (c .args .seen))
 
 read-field-requires : tie.Need-read-field-requires
 read-field-requires c κs = search needs
@@ -24,8 +24,8 @@ enum-known-field c = search needs
 
 take-field-requires : tie.Need-take-field-requires
 take-field-requires c κs =
-    let a = c .before .before .before .before .before .before .before .before .before .before .before .before .before .before in
-    (a .pre .0, a .pre .1, sym (c .before .before .before .before .before .before .before .before .before .before .before .before .read-field .ensures) ∙ ap fieldReadOf (c .before .before .before .before .before .before .before .before .before .before .field .given .1))
+    let a = c .before .before .before .before .before .before .before .before .before .before .before .before .before .before .before in
+    (a .pre .0, a .pre .1, sym (c .before .before .before .before .before .before .before .before .before .before .before .before .before .read-field .ensures) ∙ ap fieldReadOf (c .before .before .before .before .before .before .before .before .before .before .before .field .given .1))
 
 enum-known-fault : tie.Need-enum-known-fault
 enum-known-fault c = search needs

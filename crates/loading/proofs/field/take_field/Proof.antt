@@ -22,11 +22,11 @@ use Rattle.loading.proofs.field.take_field.Tie as tie
 abbrev held : tie.Start → Draft
 held c =
     draftOf (c .args .totals) (now (c .args .rates)) (now (c .args .blockings)) (now (c .args .extras)) (now (c .args .periods)) (now (c .args .counts))
-    (now (c .args .lengths)) (now (c .args .hops)) (now (c .args .routes)) (now (c .args .seen))
+    (now (c .args .lengths)) (now (c .args .jitters)) (now (c .args .hops)) (now (c .args .routes)) (now (c .args .seen))
 
 -- the states on the way, each named once: past test 7, and the start from past test 6
-abbrev past-7 : tie.After-store-field-arg9 → tie.Else2
-past-7 c = c .before .before .before .before .before .before .before .before .before
+abbrev past-7 : tie.After-store-field-arg10 → tie.Else2
+past-7 c = c .before .before .before .before .before .before .before .before .before .before
 
 abbrev entry : tie.Else1 → tie.Start
 entry c = c .before .before .before .before

@@ -1,8 +1,8 @@
--- `first_absent` meets its contract: routes first, then extra bytes.
+-- `first_absent` meets its contract: routes first, then jitter, then extra bytes.
 use mathlib.Core.Path.{sym, _∙_}
 use borrow.Author.Needs.{needs}
 use denote.Ref.{now}
-use Rattle.plan.specs.laws.Absent.{first-route, first-extra}
+use Rattle.plan.specs.laws.Absent.{first-route, first-jitter, first-extra}
 use Rattle.loading.proofs.first.first_absent.Statement.{statement}
 use Rattle.loading.proofs.first.first_absent.Tie as tie
 
@@ -13,18 +13,33 @@ returns : tie.Need-returns
 returns c =
     let a = c .before .before .before .args in
     let f = c .before .first-field .ensures in
-    f ∙ sym (first-route (now (a .rates)) (now (a .plan)) (rw f at (c .if1 .taken)))
+    f ∙ sym (first-route (now (a .rates)) (now (a .periods)) (now (a .plan)) (rw f at (c .if1 .taken)))
 
 first-field-requires-2 : tie.Need-first-field-requires-2
 first-field-requires-2 c κs = search needs
 
 returns-2 : tie.Need-returns-2
 returns-2 c =
-    let a = c .before .before .before .before .args in
-    let f = c .before .before .first-field .ensures in
-    c .first-field2 .ensures ∙ sym (first-extra (now (a .rates)) (now (a .plan)) (rw f at (c .before .if1 .left)))
+    let past = c .before .before in
+    let a = past .before .before .before .args in
+    let f = past .before .first-field .ensures in
+    let g = c .before .first-field2 .ensures in
+    g ∙ sym (first-jitter (now (a .rates)) (now (a .periods)) (now (a .plan)) (rw f at (past .if1 .left)) (rw g at (c .if2 .taken)))
+
+first-field-requires-3 : tie.Need-first-field-requires-3
+first-field-requires-3 c κs = search needs
+
+returns-3 : tie.Need-returns-3
+returns-3 c =
+    let second = c .before .before in
+    let past = second .before in
+    let a = past .before .before .before .args in
+    let f = past .before .first-field .ensures in
+    let g = second .first-field2 .ensures in
+    c .first-field3 .ensures
+    ∙ sym (first-extra (now (a .rates)) (now (a .periods)) (now (a .plan)) (rw f at (past .if1 .left)) (rw g at (c .before .if2 .left)))
 
 pub first-absent-spec : {M : Type 1} → statement M
 first-absent-spec =
     tie.close
-    (tie.spec first-field-requires returns first-field-requires-2 returns-2)
+    (tie.spec first-field-requires returns first-field-requires-2 returns-2 first-field-requires-3 returns-3)

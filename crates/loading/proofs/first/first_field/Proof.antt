@@ -18,11 +18,11 @@ use Rattle.loading.proofs.first.first_field.Statement.{statement}
 use Rattle.loading.proofs.first.first_field.Tie as tie
 
 abbrev Inv-loop : tie.InvT-loop
-Inv-loop plan sought rates at₀ at =
-    (at ≤ length plan) × (firstField (soughtIn sought rates) plan ≡ firstFrom (soughtIn sought rates) (length plan) plan at)
+Inv-loop plan sought rates periods at₀ at =
+    (at ≤ length plan) × (firstField (soughtIn sought rates periods) plan ≡ firstFrom (soughtIn sought rates periods) (length plan) plan at)
 
 abbrev μ-loop : tie.MeasureT-loop
-μ-loop plan sought rates at₀ at = length plan - at
+μ-loop plan sought rates periods at₀ at = length plan - at
 
 -- the whole field that a turn finds
 module _ (c : tie.After-known-told Inv-loop μ-loop) where
@@ -30,7 +30,9 @@ module _ (c : tie.After-known-told Inv-loop μ-loop) where
   bytes = now (c .before .before .before .before .before .before .args .plan)
 
   abbrev seeks : List ℕ → ℕ → Bool
-  seeks = soughtIn (c .before .before .before .before .before .before .args .sought) (now (c .before .before .before .before .before .before .args .rates))
+  seeks =
+      let a = c .before .before .before .before .before .before .args in
+      soughtIn (a .sought) (now (a .rates)) (now (a .periods))
 
   abbrev offset : ℕ
   offset = c .before .before .before .before .loop .at
@@ -95,7 +97,7 @@ returns-2 c =
     let a = c .before .before .before .before .before .args in
     let h = sym (ap headOf (c .enum-told .given .1)) ∙ c .before .before .split-head .ensures in
     sym (c .before .before .before .loop .inv .1
-    ∙ first-cut (soughtIn (a .sought) (now (a .rates))) (now (a .plan)) (c .before .before .before .loop .at) (length (now (a .plan))) (read-cut _ _ h))
+    ∙ first-cut (soughtIn (a .sought) (now (a .rates)) (now (a .periods))) (now (a .plan)) (c .before .before .before .loop .at) (length (now (a .plan))) (read-cut _ _ h))
 
 pub first-field-spec : {M : Type 1} → statement M
 first-field-spec =

@@ -23,33 +23,33 @@ closed c p = record { tables = p; seen = now (c .args .seen); ports = c .args .p
 headed : (c : tie.Else1) (p : Plan) → hasKey (closed (c .before .before .before) p) headerKey ≡ true
 headed c p = lt-ltb 0 (getD (now (c .before .before .before .args .seen)) headerKey 0) (omega (arith, c .if1 .left))
 
--- what was found is the first field that names a port not in these tables
+-- what was found is the first field that names a port or a flow not in these tables
 found : (c : tie.After-first-absent) (p : Plan)
     → p .rates ≡ now (c .before .before .before .before .before .args .rates)
-    → c .first-absent .result ≡ firstAbsent (p .rates) (now (c .before .before .before .before .before .args .plan))
-found c p e =
-    c .first-absent .ensures ∙ ap (λ (l : List ℕ). firstAbsent l (now (c .before .before .before .before .before .args .plan))) (sym e)
+    → p .periods ≡ now (c .before .before .before .before .before .args .periods)
+    → c .first-absent .result ≡ firstAbsent (p .rates) (p .periods) (now (c .before .before .before .before .before .args .plan))
+found c p e g = rw (e, g) (c .first-absent .ensures)
 
 element-copy-out-if1 : tie.Need-element-copy-out-if1
 element-copy-out-if1 c = search needs
 
 returns : tie.Need-returns
-returns c = λ p e. sym (close-headless (now (c .before .before .before .args .plan)) (closed (c .before .before .before) p) (rw (c .if1 .taken)))
+returns c = λ p e g. sym (close-headless (now (c .before .before .before .args .plan)) (closed (c .before .before .before) p) (rw (c .if1 .taken)))
 
 returns-2 : tie.Need-returns-2
-returns-2 c = λ p e. sym (close-flowless (now (c .before .before .before .before .args .plan)) (closed (c .before .before .before .before) p) (c .if2 .taken))
+returns-2 c = λ p e g. sym (close-flowless (now (c .before .before .before .before .args .plan)) (closed (c .before .before .before .before) p) (c .if2 .taken))
 
 first-absent-requires : tie.Need-first-absent-requires
 first-absent-requires c κs = search needs
 
 returns-3 : tie.Need-returns-3
-returns-3 c = λ p e.
-    let f = found (c .before) p e in
+returns-3 c = λ p e g.
+    let f = found (c .before) p e g in
     rw f (sym (close-absent (now (c .before .before .before .before .before .before .args .plan)) (closed (c .before .before .before .before .before .before) p) (headed (c .before .before .before) p) (c .before .before .if2 .left) (rw f at (c .if3 .taken))))
 
 returns-4 : tie.Need-returns-4
-returns-4 c = λ p e.
-    let f = found (c .before) p e in
+returns-4 c = λ p e g.
+    let f = found (c .before) p e g in
     sym (close-accepted (now (c .before .before .before .before .before .before .args .plan)) (closed (c .before .before .before .before .before .before) p) (headed (c .before .before .before) p) (c .before .before .if2 .left) (rw f at (c .if3 .left)))
 
 pub close-spec : {M : Type 1} → statement M

@@ -30,19 +30,19 @@ record Reached (s : List ℕ) (d : Draft) (at : ℕ) : Type 0 where
   rest : readFrom loose (length s) s 0 blank ≡ readFrom loose (length s) s at d
 
 abbrev Inv-loop : tie.InvT-loop
-Inv-loop planner plan rates₀ blockings₀ extras₀ periods₀ counts₀ lengths₀ hops₀ routes₀ seen₀ totals₀ at₀ rates blockings extras periods counts lengths hops routes seen totals at =
-    Reached plan (draftOf totals rates blockings extras periods counts lengths hops routes seen) at
+Inv-loop planner plan rates₀ blockings₀ extras₀ periods₀ counts₀ lengths₀ jitters₀ hops₀ routes₀ seen₀ totals₀ at₀ rates blockings extras periods counts lengths jitters hops routes seen totals at =
+    Reached plan (draftOf totals rates blockings extras periods counts lengths jitters hops routes seen) at
 
 abbrev μ-loop : tie.MeasureT-loop
-μ-loop planner plan rates₀ blockings₀ extras₀ periods₀ counts₀ lengths₀ hops₀ routes₀ seen₀ totals₀ at₀ rates blockings extras periods counts lengths hops routes seen totals at =
+μ-loop planner plan rates₀ blockings₀ extras₀ periods₀ counts₀ lengths₀ jitters₀ hops₀ routes₀ seen₀ totals₀ at₀ rates blockings extras periods counts lengths jitters hops routes seen totals at =
     length plan - at
 
 -- the states on the way, each named once: in a turn from where its columns are lent, the loop's from its end, and the start
 abbrev in-turn : tie.After-seen Inv-loop μ-loop → tie.In-loop Inv-loop μ-loop
-in-turn c = c .before .before .before .before .before .before .before .before .before
+in-turn c = c .before .before .before .before .before .before .before .before .before .before
 
 abbrev at-last : tie.After-close Inv-loop μ-loop → tie.At-loop Inv-loop μ-loop
-at-last c = c .before .before .before .before
+at-last c = c .before .before .before .before .before
 
 abbrev entry : tie.At-loop Inv-loop μ-loop → tie.Start Inv-loop μ-loop
 entry c = c .before .before .before .before
@@ -58,7 +58,7 @@ module _ (c : tie.At-loop Inv-loop μ-loop) where
   abbrev held : Draft
   held =
       draftOf (c .loop .totals) (c .loop .rates) (c .loop .blockings) (c .loop .extras) (c .loop .periods) (c .loop .counts) (c .loop .lengths)
-      (c .loop .hops) (c .loop .routes) (c .loop .seen)
+      (c .loop .jitters) (c .loop .hops) (c .loop .routes) (c .loop .seen)
 
   -- test 1 was passed
   sized : within 1 maxBytes (length bytes) ≡ true
@@ -74,7 +74,7 @@ abbrev stepped-as : tie.After-step Inv-loop μ-loop → Progress → Step
 stepped-as c r =
     let l = c .step .last .1 .1 .1 in
     progressOf r (l .0) (l .1 .0) (l .1 .1 .0) (l .1 .1 .1 .0) (l .1 .1 .1 .1 .0) (l .1 .1 .1 .1 .1 .0) (l .1 .1 .1 .1 .1 .1 .0)
-    (l .1 .1 .1 .1 .1 .1 .1 .0) (l .1 .1 .1 .1 .1 .1 .1 .1 .0)
+    (l .1 .1 .1 .1 .1 .1 .1 .0) (l .1 .1 .1 .1 .1 .1 .1 .1 .0) (l .1 .1 .1 .1 .1 .1 .1 .1 .1 .0)
 
 -- a turn that goes on, as the definition steps
 module _ (c : tie.After-known-told Inv-loop μ-loop) where
@@ -91,7 +91,7 @@ module _ (c : tie.After-known-told Inv-loop μ-loop) where
   read =
       let l = c .before .before .before .step .last .1 .1 .1 in
       draftOf (c .before .next .given .0 .1 .0) (l .0) (l .1 .0) (l .1 .1 .0) (l .1 .1 .1 .0) (l .1 .1 .1 .1 .0) (l .1 .1 .1 .1 .1 .0)
-      (l .1 .1 .1 .1 .1 .1 .0) (l .1 .1 .1 .1 .1 .1 .1 .0) (l .1 .1 .1 .1 .1 .1 .1 .1 .0)
+      (l .1 .1 .1 .1 .1 .1 .0) (l .1 .1 .1 .1 .1 .1 .1 .0) (l .1 .1 .1 .1 .1 .1 .1 .1 .0) (l .1 .1 .1 .1 .1 .1 .1 .1 .1 .0)
 
   stepped : stepAt loose (bytes turn) (here turn) (held turn) ≡ more next read
   stepped = sym (c .before .before .before .step .ensures) ∙ ap (stepped-as (c .before .before .before)) (c .before .next .given .1)
@@ -104,8 +104,8 @@ at-end : (c : tie.After-close Inv-loop μ-loop) → readPlan (bytes (at-last c))
 at-end c =
     let l = at-last c in
     rest-read l
-    ∙ read-end loose (bytes l) (here l) (held l) _ (c .before .before .before .loop-test .left)
-    ∙ sym (c .close .ensures (held l .tables) refl)
+    ∙ read-end loose (bytes l) (here l) (held l) _ (c .before .before .before .before .loop-test .left)
+    ∙ sym (c .close .ensures (held l .tables) refl refl)
 
 size-ok-requires : tie.Need-size-ok-requires Inv-loop μ-loop
 size-ok-requires c κs = tt

@@ -36,6 +36,21 @@ cast-result-3 c = search needs
 add-result-4 : tie.Need-add-result-4
 add-result-4 c = search needs
 
+enum-known-field-4 : tie.Need-enum-known-field-4
+enum-known-field-4 c = search needs
+
+add-result-5 : tie.Need-add-result-5
+add-result-5 c = search needs
+
+add-result-6 : tie.Need-add-result-6
+add-result-6 c = search needs
+
+cast-result-4 : tie.Need-cast-result-4
+cast-result-4 c = search needs
+
+add-result-7 : tie.Need-add-result-7
+add-result-7 c = search needs
+
 returns : tie.Need-returns
 returns c = search needs
 
@@ -47,6 +62,9 @@ returns-3 c = rw (c .before .before .field2 .given .1)
 
 returns-4 : tie.Need-returns-4
 returns-4 c = rw (c .before .before .field3 .given .1)
+
+returns-5 : tie.Need-returns-5
+returns-5 c = rw (c .before .before .field4 .given .1)
 
 pub key-of-spec : {M : Type 1} → statement M
 key-of-spec =
@@ -63,7 +81,13 @@ key-of-spec =
     add-result-3
     cast-result-3
     add-result-4
+    enum-known-field-4
+    add-result-5
+    add-result-6
+    cast-result-4
+    add-result-7
     returns
     returns-2
     returns-3
-    returns-4)
+    returns-4
+    returns-5)

@@ -1,13 +1,63 @@
 -- `store_field` meets its contract, by the kind of field.
+use Prim.Native.Nat.{ℕ, _+_, _-_, _*_}
+use mathlib.Core.Path.{_≡_}
+use mathlib.Core.List.{List}
 use native.Mathlib.Nat.{add-zero}
 use native.Mathlib.Omega.{arith}
+use denote.Ref.{now}
+use lib.ListN.{set}
+use lib.Seq.{sets}
+use Rattle.cqf.specs.Limits.{routeStride}
+use Rattle.plan.specs.declared.Field.{Field}
+use Rattle.plan.specs.declared.Flow.{Flow}
+use Rattle.plan.specs.Field.{routePorts}
+use Rattle.plan.specs.Key.{keyOf}
 use Rattle.plan.specs.Store.{store}
-use Rattle.plan.specs.Draft.{added}
+use Rattle.plan.specs.Draft.{Draft, added}
 use Rattle.plan.specs.Answer.{fieldOf}
 use Rattle.plan.specs.laws.Kinds.{key-below}
+use Rattle.loading.specs.Loading.{draftOf}
 use borrow.Author.Needs.{needs}
 use Rattle.loading.proofs.store.store_field.Statement.{statement}
 use Rattle.loading.proofs.store.store_field.Tie as tie
+
+-- the draft that the function is lent
+abbrev held : tie.Start → Draft
+held c =
+    draftOf (c .args .totals) (now (c .args .rates)) (now (c .args .blockings)) (now (c .args .extras)) (now (c .args .periods)) (now (c .args .counts))
+    (now (c .args .lengths)) (now (c .args .jitters)) (now (c .args .hops)) (now (c .args .routes)) (now (c .args .seen))
+
+-- a flow stored into any draft: its five columns, its key and how many there are
+flow-added
+    : (d : Draft) (field : Field) (x : Flow) (r : List ℕ) (key : ℕ) {periods counts lengths hops routes : List ℕ}
+    → field ≡ Field.Flow x
+    → key ≡ keyOf (fieldOf field)
+    → periods ≡ set (d .tables .periods) (x .number - 1) (x .period)
+    → counts ≡ set (d .tables .counts) (x .number - 1) (x .count)
+    → lengths ≡ set (d .tables .lengths) (x .number - 1) (x .length)
+    → hops ≡ set (d .tables .hops) (x .number - 1) (x .hops)
+    → routes ≡ sets (d .tables .routes) ((x .number - 1) * routeStride) r
+    → record {
+      tables = record {
+        guard = d .tables .guard;
+        top = d .tables .top;
+        rates = d .tables .rates;
+        blockings = d .tables .blockings;
+        extras = d .tables .extras;
+        periods = periods;
+        counts = counts;
+        lengths = lengths;
+        jitters = d .tables .jitters;
+        hops = hops;
+        routes = routes;
+      };
+      seen = set (d .seen) key 1;
+      ports = d .ports;
+      flows = d .flows + 1;
+    }
+    ≡ added d (fieldOf field) r
+unfolding added store
+flow-added d field x r key kind k a b c e f = rw (k, kind, a, b, c, e, f, add-zero (d .ports))
 
 key-of-requires : tie.Need-key-of-requires
 key-of-requires c κs = search needs
@@ -42,6 +92,12 @@ enum-known-field-4 c = search needs
 store-extra-requires : tie.Need-store-extra-requires
 store-extra-requires c κs = rw (c .before .before .field4 .given .1) at (c .before .before .before .before .before .before .pre .2)
 
+enum-known-field-5 : tie.Need-enum-known-field-5
+enum-known-field-5 c = search needs
+
+store-jitter-requires : tie.Need-store-jitter-requires
+store-jitter-requires c κs = rw (c .before .before .field5 .given .1) at (c .before .before .before .before .before .before .pre .2)
+
 returns : tie.Need-returns
 unfolding added store
 returns c = rw (c .before .before .before .key-of .ensures, c .before .field .given .1, add-zero (c .before .before .before .before .before .args .totals .ports), add-zero (c .before .before .before .before .before .args .totals .flows))
@@ -51,12 +107,21 @@ unfolding added store
 returns-2 c = rw (c .before .before .before .before .before .before .before .key-of .ensures, c .before .before .before .before .before .field2 .given .1, c .before .store-port .ensures .0, c .before .store-port .ensures .1, add-zero (c .before .before .before .before .before .before .before .before .before .args .totals .flows))
 
 returns-3 : tie.Need-returns-3
-unfolding added store
-returns-3 c = rw (c .before .before .before .before .before .before .before .before .before .before .key-of .ensures, c .before .before .before .before .before .before .before .before .field3 .given .1, c .before .store-flow .ensures .0, c .before .store-flow .ensures .1, c .before .store-flow .ensures .2, c .before .store-flow .ensures .3, c .before .store-flow .ensures .4, add-zero (c .before .before .before .before .before .before .before .before .before .before .before .before .args .totals .ports))
+returns-3 c =
+    let s = c .before .store-flow .ensures in
+    let kind = c .before .before .before .before .before .before .before .before .field3 in
+    let key = c .before .before .before .before .before .before .before .before .before .before in
+    let a = key .before .before in
+    flow-added (held a) (a .args .field) (kind .given .0 .0) (routePorts (now (a .args .route))) (key .key-of .result) (kind .given .1) (key .key-of .ensures)
+    (s .0) (s .1) (s .2) (s .3) (s .4)
 
 returns-4 : tie.Need-returns-4
 unfolding added store
 returns-4 c = rw (c .before .before .before .before .before .key-of .ensures, c .before .before .before .field4 .given .1, c .store-extra .ensures, add-zero (c .before .before .before .before .before .before .before .args .totals .ports), add-zero (c .before .before .before .before .before .before .before .args .totals .flows))
+
+returns-5 : tie.Need-returns-5
+unfolding added store
+returns-5 c = rw (c .before .before .before .before .before .key-of .ensures, c .before .before .before .field5 .given .1, c .store-jitter .ensures, add-zero (c .before .before .before .before .before .before .before .args .totals .ports), add-zero (c .before .before .before .before .before .before .before .args .totals .flows))
 
 pub store-field-spec : {M : Type 1} → statement M
 store-field-spec =
@@ -73,7 +138,10 @@ store-field-spec =
     add-sums-2
     enum-known-field-4
     store-extra-requires
+    enum-known-field-5
+    store-jitter-requires
     returns
     returns-2
     returns-3
-    returns-4)
+    returns-4
+    returns-5)

@@ -1,7 +1,7 @@
 -- `field_of` meets its contract: test 3, and the field by its tag.
 use mathlib.Core.Path.{sym, _∙_}
 use borrow.Author.Needs.{needs}
-use Rattle.plan.specs.laws.Tested.{tag-header, tag-port, tag-flow, tag-extra, tag-unknown}
+use Rattle.plan.specs.laws.Tested.{tag-header, tag-port, tag-flow, tag-extra, tag-jitter, tag-unknown}
 use Rattle.plan.proofs.read.field_of.Statement.{statement}
 use Rattle.plan.proofs.read.field_of.Tie as tie
 
@@ -29,9 +29,22 @@ extra-of-requires c κs = search needs
 returns-4 : tie.Need-returns-4
 returns-4 c = c .extra-of .ensures ∙ sym (tag-extra _ _ _ _ (c .before .if4 .taken))
 
+jitter-of-requires : tie.Need-jitter-of-requires
+jitter-of-requires c κs = search needs
+
 returns-5 : tie.Need-returns-5
-returns-5 c =
-    sym (tag-unknown _ _ _ _ (c .before .before .before .if1 .left) (c .before .before .if2 .left) (c .before .if3 .left) (c .if4 .left))
+returns-5 c = c .jitter-of .ensures ∙ sym (tag-jitter _ _ _ _ (c .before .if5 .taken))
+
+returns-6 : tie.Need-returns-6
+returns-6 c =
+    let b = c .before in
+    sym
+    (tag-unknown _ _ _ _
+    (b .before .before .before .if1 .left)
+    (b .before .before .if2 .left)
+    (b .before .if3 .left)
+    (b .if4 .left)
+    (c .if5 .left))
 
 pub field-of-spec : {M : Type 1} → statement M
 field-of-spec =
@@ -45,4 +58,6 @@ field-of-spec =
     returns-3
     extra-of-requires
     returns-4
-    returns-5)
+    jitter-of-requires
+    returns-5
+    returns-6)

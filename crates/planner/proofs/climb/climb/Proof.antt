@@ -19,24 +19,24 @@ use Rattle.planner.proofs.climb.climb.Statement.{statement}
 use Rattle.planner.proofs.climb.climb.Tie as tie
 
 abbrev Inv-ports : tie.InvT-ports
-Inv-ports guard top rates blockings extras periods counts lengths hops routes out limit t available q₀ q =
-    Passed (planBy guard top rates blockings extras periods counts lengths hops routes) out t q × (available ≡ windowOf guard t)
+Inv-ports guard top rates blockings extras periods counts lengths jitters hops routes out limit t available q₀ q =
+    Passed (planBy guard top rates blockings extras periods counts lengths jitters hops routes) out t q × (available ≡ windowOf guard t)
 
 abbrev μ-ports : tie.MeasureT-ports
-μ-ports guard top rates blockings extras periods counts lengths hops routes out limit t available q₀ q = portSlots - q
+μ-ports guard top rates blockings extras periods counts lengths jitters hops routes out limit t available q₀ q = portSlots - q
 
 abbrev Inv-loop : tie.InvT-loop
-Inv-loop guard top rates blockings extras periods counts lengths hops routes out₀ limit t₀ out t =
-    (length out ≡ portSlots) × Climbed (planBy guard top rates blockings extras periods counts lengths hops routes) t
+Inv-loop guard top rates blockings extras periods counts lengths jitters hops routes out₀ limit t₀ out t =
+    (length out ≡ portSlots) × Climbed (planBy guard top rates blockings extras periods counts lengths jitters hops routes) t
 
 abbrev μ-loop : tie.MeasureT-loop
-μ-loop guard top rates blockings extras periods counts lengths hops routes out₀ limit t₀ out t = suc top - t
+μ-loop guard top rates blockings extras periods counts lengths jitters hops routes out₀ limit t₀ out t = suc top - t
 
 -- the plan of the tables
 abbrev plan : tie.Start Inv-ports μ-ports Inv-loop μ-loop → Plan
 plan s =
     let a = s .args in
-    planBy (a .guard) (a .top) (a .rates .now) (a .blockings .now) (a .extras .now) (a .periods .now) (a .counts .now) (a .lengths .now) (a .hops .now) (a .routes .now)
+    planBy (a .guard) (a .top) (a .rates .now) (a .blockings .now) (a .extras .now) (a .periods .now) (a .counts .now) (a .lengths .now) (a .jitters .now) (a .hops .now) (a .routes .now)
 
 -- where the function starts, a round of the search, and the demands in it
 abbrev start : tie.At-loop Inv-ports μ-ports Inv-loop μ-loop → tie.Start Inv-ports μ-ports Inv-loop μ-loop

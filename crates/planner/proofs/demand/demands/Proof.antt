@@ -1,27 +1,28 @@
 -- `planner::demand::demands` meets its contract. The loop's invariant: `out` has each port's demand by the flows passed.
-use mathlib.Core.Path.{_≡_, _∙_}
+use mathlib.Core.Path.{_≡_, sym, _∙_}
 use mathlib.Core.Logic.{⊎-elim}
 use mathlib.Core.List.{[]}
-use Prim.Native.Nat.{_-_, _*_, _≤_}
+use Prim.Native.Nat.{ℕ, _-_, _*_, _≤_, _<_}
 use native.Mathlib.Omega.{arith}
 use lib.ListN.{length}
 use borrow.Author.Needs.{needs}
-use Rattle.cqf.specs.Limits.{portSlots, flowSlots}
-use Rattle.cqf.specs.Plan.{Plan, extraOf, periodOf, countOf, lengthOf, hopsOf, routeOf}
+use Rattle.cqf.specs.Limits.{portSlots, flowSlots, maxJitter}
+use Rattle.cqf.specs.Plan.{Plan, extraOf, periodOf, countOf, lengthOf, jitterOf, hopsOf, routeOf}
 use Rattle.cqf.specs.Condition.{bitsOf, mostBits}
+use Rattle.cqf.specs.laws.Begun.{stretch-aligned}
 use Rattle.tables.specs.Columns.{columns, FlowInRange}
-use Rattle.planner.specs.laws.Sums.{Sums, sums-none, sums-skip, sums-add, sums-all, flow-most, sum-most}
+use Rattle.planner.specs.laws.Sums.{Sums, framed, sums-none, sums-skip, sums-add, sums-all, flow-most, sum-most}
 use Rattle.planner.proofs.demand.demands.Statement.{statement}
 use Rattle.planner.proofs.demand.demands.Tie as tie
 
 abbrev Inv-loop : tie.InvT-loop
-Inv-loop extras periods counts lengths hops routes duration out₀ at f₀ out f =
+Inv-loop extras periods counts lengths jitters hops routes duration out₀ stretch f₀ out f =
     (f ≤ flowSlots)
     × (length out ≡ portSlots)
-    × Sums (columns [] [] extras periods counts lengths hops routes) duration f out
+    × Sums (columns [] [] extras periods counts lengths jitters hops routes) duration f out
 
 abbrev μ-loop : tie.MeasureT-loop
-μ-loop extras periods counts lengths hops routes duration out₀ at f₀ out f = flowSlots - f
+μ-loop extras periods counts lengths jitters hops routes duration out₀ stretch f₀ out f = flowSlots - f
 
 -- where the function starts, from where the numbers are cleared and from the loop
 abbrev start : tie.After-clear Inv-loop μ-loop → tie.Start Inv-loop μ-loop
@@ -33,17 +34,21 @@ begin c = start (c .before .before .before)
 -- the plan of the columns
 abbrev plan : tie.Start Inv-loop μ-loop → Plan
 plan s =
-    columns [] [] (s .args .extras .now) (s .args .periods .now) (s .args .counts .now) (s .args .lengths .now) (s .args .hops .now) (s .args .routes .now)
+    columns [] [] (s .args .extras .now) (s .args .periods .now) (s .args .counts .now) (s .args .lengths .now) (s .args .jitters .now) (s .args .hops .now) (s .args .routes .now)
 
 -- the slot of the flow at hand
-slot : (c : tie.In-loop Inv-loop μ-loop) → (let f = c .before .loop .f in let p = plan (begin (c .before)) in FlowInRange (periodOf p f) (countOf p f) (lengthOf p f) (hopsOf p f) (routeOf p f))
+slot : (c : tie.In-loop Inv-loop μ-loop) → (let f = c .before .loop .f in let p = plan (begin (c .before)) in FlowInRange (periodOf p f) (countOf p f) (lengthOf p f) (jitterOf p f) (hopsOf p f) (routeOf p f))
 slot c = begin (c .before) .pre .0 .0 .slot (c .before .loop .f) (c .loop-test .taken)
+
+-- the jitter of any slot is in range
+jitter-within : (s : tie.Start Inv-loop μ-loop) {f : ℕ} → f < flowSlots → jitterOf (plan s) f ≤ maxJitter
+jitter-within s {f} l = s .pre .0 .0 .slot f l .jitter-most
 
 clear-requires : tie.Need-clear-requires Inv-loop μ-loop
 clear-requires c κs = c .before .before .pre .1 .1
 
-cast-at : tie.Need-cast-at Inv-loop μ-loop
-cast-at c = search needs
+cast-stretch : tie.Need-cast-stretch Inv-loop μ-loop
+cast-stretch c = search needs
 
 loop-holds : tie.Need-loop-holds Inv-loop μ-loop
 loop-holds c =
@@ -63,11 +68,17 @@ mul-flow-frames c = search needs
 element-copy-out-flow-frames : tie.Need-element-copy-out-flow-frames Inv-loop μ-loop
 element-copy-out-flow-frames c = search needs
 
+mul-flow-frames-2 : tie.Need-mul-flow-frames-2 Inv-loop μ-loop
+mul-flow-frames-2 c = search needs
+
+element-copy-out-flow-frames-2 : tie.Need-element-copy-out-flow-frames-2 Inv-loop μ-loop
+element-copy-out-flow-frames-2 c = search needs
+
 flow-frames-requires : tie.Need-flow-frames-requires Inv-loop μ-loop
 flow-frames-requires c κs =
-    let at = c .before .before .before in
+    let at = c .before .before .before .before in
     let r = slot at in
-    (r .period-least (c .before .if1 .taken), r .period-most, r .count-most, begin (at .before) .pre .1 .0)
+    (r .period-least (c .before .before .if1 .taken), r .period-most, r .count-most, jitter-within (begin (at .before)) (omega arith), begin (at .before) .pre .1 .0)
 
 mul-add-route : tie.Need-mul-add-route Inv-loop μ-loop
 mul-add-route c = search needs
@@ -76,7 +87,7 @@ element-copy-out-add-route : tie.Need-element-copy-out-add-route Inv-loop μ-loo
 element-copy-out-add-route c = search needs
 
 cast-add-route : tie.Need-cast-add-route Inv-loop μ-loop
-cast-add-route c = omega (arith, slot (c .before .before .before .before .before) .hops-most)
+cast-add-route c = omega (arith, slot (c .before .before .before .before .before .before) .hops-most)
 
 mul-add-route-2 : tie.Need-mul-add-route-2 Inv-loop μ-loop
 mul-add-route-2 c = search needs
@@ -86,20 +97,20 @@ element-copy-out-add-route-2 c = search needs
 
 add-route-requires : tie.Need-add-route-requires Inv-loop μ-loop
 add-route-requires c κs =
-    let at = c .before .before .before .before .before .before .before in
+    let at = c .before .before .before .before .before .before .before .before in
     let s = begin (at .before) in
     let p = plan s in
     let f = at .before .loop .f in
     let T = s .args .duration in
     let r = slot at in
-    let frames = c .before .before .before .flow-frames in
-    let there = c .before .before .before .before .before .if1 .taken in (
+    let brought = c .before .before .before .flow-frames in
+    let there = c .before .before .before .before .before .before .if1 .taken in (
       (omega (arith, r .hops-most), at .before .loop .inv .1),
       (
         (r .ports, r .once),
         λ q h.
-            let few : frames .result * bitsOf (lengthOf p f) (extraOf p q) ≤ mostBits =
-            rw (frames .ensures) (flow-most p (s .pre .0 .0 .slot) (s .pre .0 .1) T (s .pre .1 .0) f (at .loop-test .taken) there q h) in
+            let few : brought .result * bitsOf (lengthOf p f) (extraOf p q) ≤ mostBits =
+            rw (framed p T f (sym (stretch-aligned p T)) (brought .ensures)) (flow-most p (s .pre .0 .0 .slot) (s .pre .0 .1) T (s .pre .1 .0) f (at .loop-test .taken) there q h) in
             omega (arith, few, at .before .loop .inv .2 q h, sum-most p (s .pre .0 .0 .slot) (s .pre .0 .1) T (s .pre .1 .0) q f h (at .before .loop .inv .0)),
       ),
     )
@@ -121,8 +132,8 @@ loop-again c =
     ⊎-elim
     (λ w. (
       omega arith,
-      rw (w .9) (w .6 .kept .1 .1 .1 .1 .1 .1 .0 ∙ at .before .loop .inv .1),
-      rw (w .9) (sums-add p T f (w .2 .result) out (w .6 .last .1 .1 .1 .1 .1 .1 .0) (w .2 .ensures) (w .6 .ensures) sums),
+      rw (w .10) (w .7 .kept .1 .1 .1 .1 .1 .1 .0 ∙ at .before .loop .inv .1),
+      rw (w .10) (sums-add p T f (w .3 .result) out (w .7 .last .1 .1 .1 .1 .1 .1 .0) (framed p T f (sym (stretch-aligned p T)) (w .3 .ensures)) (w .7 .ensures) sums),
     ))
     (λ w.
     (omega arith, rw (w .1) (at .before .loop .inv .1), rw (w .1) (sums-skip p T f out (slot at .absent (w .0 .left)) sums)))
@@ -144,12 +155,14 @@ demands-spec =
     Inv-loop
     μ-loop
     clear-requires
-    cast-at
+    cast-stretch
     loop-holds
     mul-period
     element-copy-out-period
     mul-flow-frames
     element-copy-out-flow-frames
+    mul-flow-frames-2
+    element-copy-out-flow-frames-2
     flow-frames-requires
     mul-add-route
     element-copy-out-add-route

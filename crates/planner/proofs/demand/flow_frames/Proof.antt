@@ -4,6 +4,7 @@ use Prim.Native.Nat.{ℕ, _*_, _≤_}
 use native.Mathlib.Nat.{mul-le-mul}
 use native.Mathlib.Omega.{arith}
 use borrow.Author.Needs.{needs}
+use Rattle.cqf.specs.Limits.{mostBegun}
 use Rattle.cqf.specs.laws.Begun.{begun-most}
 use Rattle.planner.proofs.demand.flow_frames.Statement.{statement}
 use Rattle.planner.proofs.demand.flow_frames.Tie as tie
@@ -16,9 +17,10 @@ cast-result c = search needs
 
 mul-result : tie.Need-mul-result
 mul-result c =
-    let few : c .periods-begun .result ≤ 100000 =
-    rw (c .periods-begun .ensures) (begun-most (c .before .args .duration) (c .before .pre .3) (c .before .pre .0)) in
-    omega (arith, mul-le-mul (c .before .pre .2) few)
+    let s = c .before in
+    let few : c .periods-begun .result ≤ mostBegun =
+    rw (c .periods-begun .ensures) (begun-most (s .args .stretch) (s .args .jitter) (s .pre .4) (s .pre .3) (s .pre .0)) in
+    omega (arith, mul-le-mul (s .pre .2) few)
 
 returns : tie.Need-returns
 returns c = ap (λ (n : ℕ). c .before .args .count * n) (c .periods-begun .ensures)

@@ -17,17 +17,17 @@ use Rattle.planner.proofs.descend.descend.Statement.{statement}
 use Rattle.planner.proofs.descend.descend.Tie as tie
 
 abbrev Inv-loop : tie.InvT-loop
-Inv-loop guard top rates blockings extras periods counts lengths hops routes out₀ limit below₀ out below =
-    (length out ≡ portSlots) × Descended (planBy guard top rates blockings extras periods counts lengths hops routes) (suc below)
+Inv-loop guard top rates blockings extras periods counts lengths jitters hops routes out₀ limit below₀ out below =
+    (length out ≡ portSlots) × Descended (planBy guard top rates blockings extras periods counts lengths jitters hops routes) (suc below)
 
 abbrev μ-loop : tie.MeasureT-loop
-μ-loop guard top rates blockings extras periods counts lengths hops routes out₀ limit below₀ out below = below
+μ-loop guard top rates blockings extras periods counts lengths jitters hops routes out₀ limit below₀ out below = below
 
 -- the plan of the tables
 abbrev plan : tie.Start Inv-loop μ-loop → Plan
 plan s =
     let a = s .args in
-    planBy (a .guard) (a .top) (a .rates .now) (a .blockings .now) (a .extras .now) (a .periods .now) (a .counts .now) (a .lengths .now) (a .hops .now) (a .routes .now)
+    planBy (a .guard) (a .top) (a .rates .now) (a .blockings .now) (a .extras .now) (a .periods .now) (a .counts .now) (a .lengths .now) (a .jitters .now) (a .hops .now) (a .routes .now)
 
 -- where the function starts, a round of the search, and the demands in it
 abbrev start : tie.At-loop Inv-loop μ-loop → tie.Start Inv-loop μ-loop
@@ -39,7 +39,7 @@ round c = c .before .before
 abbrev filling : tie.After-largest-need-arg Inv-loop μ-loop → tie.After-demands Inv-loop μ-loop
 filling c = c .before .before .before
 
-full : (c : tie.After-demands Inv-loop μ-loop) → Filled (plan (start (round c))) (c .demands .last .1 .1 .1 .1 .1 .1 .1 .0) (round c .loop .below)
+full : (c : tie.After-demands Inv-loop μ-loop) → Filled (plan (start (round c))) (c .demands .last .1 .1 .1 .1 .1 .1 .1 .1 .0) (round c .loop .below)
 full c =
     let s = start (round c) in
     filled-by (plan s) (s .pre .0) (omega (arith, round c .loop .inv .1 .within)) (c .demands .ensures)
@@ -113,7 +113,7 @@ same-length-2 : tie.Need-same-length-2 Inv-loop μ-loop
 same-length-2 c =
     let d = c .before .before in
     let at = past d .before in
-    d .demands2 .kept .1 .1 .1 .1 .1 .1 .1 .0 ∙ filled-length (full (demanded at)) ∙ sym (begin at .pre .1)
+    d .demands2 .kept .1 .1 .1 .1 .1 .1 .1 .1 .0 ∙ filled-length (full (demanded at)) ∙ sym (begin at .pre .1)
 
 returns-2 : tie.Need-returns-2 Inv-loop μ-loop
 returns-2 c =

@@ -15,7 +15,7 @@ use Rattle.planner.proofs.failing.failing_at.Tie as tie
 abbrev plan : tie.Start → Plan
 plan s =
     let a = s .args in
-    planBy (a .guard) (a .duration) (a .rates .now) (a .blockings .now) (a .extras .now) (a .periods .now) (a .counts .now) (a .lengths .now) (a .hops .now) (a .routes .now)
+    planBy (a .guard) (a .duration) (a .rates .now) (a .blockings .now) (a .extras .now) (a .periods .now) (a .counts .now) (a .lengths .now) (a .jitters .now) (a .hops .now) (a .routes .now)
 
 -- where the function starts, and where the demands are there
 abbrev start : tie.After-demands → tie.Start
@@ -25,7 +25,7 @@ abbrev filling : tie.After-window → tie.After-demands
 filling c = c .before .before .before
 
 -- the demands at the duration
-at-duration : (c : tie.After-demands) → Filled (plan (start c)) (c .demands .last .1 .1 .1 .1 .1 .1 .1 .0) (start c .args .duration)
+at-duration : (c : tie.After-demands) → Filled (plan (start c)) (c .demands .last .1 .1 .1 .1 .1 .1 .1 .1 .0) (start c .args .duration)
 at-duration c = filled-by (plan (start c)) (start c .pre .0) (le-refl _) (c .demands .ensures)
 
 demands-requires : tie.Need-demands-requires

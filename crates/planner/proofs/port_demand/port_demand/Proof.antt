@@ -3,12 +3,13 @@ use mathlib.Core.Path.{_≡_, sym, _∙_}
 use mathlib.Core.Bool.{true}
 use mathlib.Core.Logic.{⊎-elim}
 use mathlib.Core.List.{[]}
-use Prim.Native.Nat.{_+_, _-_, _≤_}
+use Prim.Native.Nat.{ℕ, _+_, _-_, _≤_, _<_}
 use native.Mathlib.Omega.{arith}
 use borrow.Author.Needs.{needs}
 use Rattle.cqf.specs.Bounded.{sumTo}
-use Rattle.cqf.specs.Limits.{flowSlots}
-use Rattle.cqf.specs.Plan.{Plan, periodOf, countOf, lengthOf, hopsOf, routeOf, crosses}
+use Rattle.cqf.specs.Limits.{flowSlots, maxJitter}
+use Rattle.cqf.specs.Plan.{Plan, periodOf, countOf, lengthOf, jitterOf, hopsOf, routeOf, crosses}
+use Rattle.cqf.specs.laws.Begun.{stretch-aligned}
 use Rattle.cqf.specs.laws.Demand.{share, demand-sum}
 use Rattle.tables.specs.Columns.{columns, FlowInRange}
 use Rattle.planner.specs.laws.Sums.{sum-crossing, sum-apart, sum-most, crossing-period}
@@ -16,16 +17,16 @@ use Rattle.planner.proofs.port_demand.port_demand.Statement.{statement}
 use Rattle.planner.proofs.port_demand.port_demand.Tie as tie
 
 abbrev Inv-loop : tie.InvT-loop
-Inv-loop extras periods counts lengths hops routes duration q at bits₀ f₀ bits f =
-    (f ≤ flowSlots) × (bits ≡ sumTo f (share (columns [] [] extras periods counts lengths hops routes) q duration))
+Inv-loop extras periods counts lengths jitters hops routes duration q stretch bits₀ f₀ bits f =
+    (f ≤ flowSlots) × (bits ≡ sumTo f (share (columns [] [] extras periods counts lengths jitters hops routes) q duration))
 
 abbrev μ-loop : tie.MeasureT-loop
-μ-loop extras periods counts lengths hops routes duration q at bits₀ f₀ bits f = flowSlots - f
+μ-loop extras periods counts lengths jitters hops routes duration q stretch bits₀ f₀ bits f = flowSlots - f
 
 -- the plan of the columns
 abbrev plan : tie.Start Inv-loop μ-loop → Plan
 plan s =
-    columns [] [] (s .args .extras .now) (s .args .periods .now) (s .args .counts .now) (s .args .lengths .now) (s .args .hops .now) (s .args .routes .now)
+    columns [] [] (s .args .extras .now) (s .args .periods .now) (s .args .counts .now) (s .args .lengths .now) (s .args .jitters .now) (s .args .hops .now) (s .args .routes .now)
 
 -- the slot of the flow at hand
 module _ (c : tie.In-loop Inv-loop μ-loop) where
@@ -35,8 +36,12 @@ module _ (c : tie.In-loop Inv-loop μ-loop) where
   slot
       : (let f = c .before .loop .f in
       let p = plan start in
-      FlowInRange (periodOf p f) (countOf p f) (lengthOf p f) (hopsOf p f) (routeOf p f))
+      FlowInRange (periodOf p f) (countOf p f) (lengthOf p f) (jitterOf p f) (hopsOf p f) (routeOf p f))
   slot = start .pre .0 .0 .slot (c .before .loop .f) (c .loop-test .taken)
+
+-- the jitter of any slot is in range
+jitter-within : (s : tie.Start Inv-loop μ-loop) {f : ℕ} → f < flowSlots → jitterOf (plan s) f ≤ maxJitter
+jitter-within s {f} l = s .pre .0 .0 .slot f l .jitter-most
 
 -- the flow crosses the port
 abbrev inside : tie.Then1 Inv-loop μ-loop → tie.In-loop Inv-loop μ-loop
@@ -45,8 +50,8 @@ inside c = c .before .before .before
 crossing : (c : tie.Then1 Inv-loop μ-loop) → crosses (plan (start (inside c))) (inside c .before .loop .f) (start (inside c) .args .q) ≡ true
 crossing c = sym (c .before .route-holds .ensures) ∙ c .if1 .taken
 
-cast-at : tie.Need-cast-at Inv-loop μ-loop
-cast-at c = search needs
+cast-stretch : tie.Need-cast-stretch Inv-loop μ-loop
+cast-stretch c = search needs
 
 loop-holds : tie.Need-loop-holds Inv-loop μ-loop
 unfolding sumTo
@@ -82,28 +87,34 @@ mul-flow-bits-3 c = search needs
 element-copy-out-flow-bits-3 : tie.Need-element-copy-out-flow-bits-3 Inv-loop μ-loop
 element-copy-out-flow-bits-3 c = search needs
 
+mul-flow-bits-4 : tie.Need-mul-flow-bits-4 Inv-loop μ-loop
+mul-flow-bits-4 c = search needs
+
 element-copy-out-flow-bits-4 : tie.Need-element-copy-out-flow-bits-4 Inv-loop μ-loop
 element-copy-out-flow-bits-4 c = search needs
 
+element-copy-out-flow-bits-5 : tie.Need-element-copy-out-flow-bits-5 Inv-loop μ-loop
+element-copy-out-flow-bits-5 c = search needs
+
 flow-bits-requires : tie.Need-flow-bits-requires Inv-loop μ-loop
 flow-bits-requires c κs =
-    let branch = c .before .before .before .before in
+    let branch = c .before .before .before .before .before in
     let at = inside branch in
     let s = start at in
     let r = slot at in
     let least = crossing-period (plan s) (s .pre .0 .0 .slot) (s .args .q) (at .before .loop .f) (at .loop-test .taken) (crossing branch) in
-    (least, r .period-most, r .count-most, r .bytes-most, s .pre .0 .1 (s .args .q) (s .pre .1 .1), s .pre .1 .0)
+    (least, r .period-most, r .count-most, r .bytes-most, jitter-within s (omega arith), s .pre .0 .1 (s .args .q) (s .pre .1 .1), s .pre .1 .0)
 
 add-bits : tie.Need-add-bits Inv-loop μ-loop
 add-bits c =
-    let branch = c .before .before .before .before .before in
+    let branch = c .before .before .before .before .before .before in
     let at = inside branch in
     let s = start at in
     let p = plan s in
     let f = at .before .loop .f in
     let next : f + 1 ≤ flowSlots = omega (arith, at .loop-test .taken) in
     omega
-    (arith, sum-crossing p (s .args .q) (s .args .duration) f (at .before .loop .inv .1) (crossing branch) (c .flow-bits .ensures), sum-most p (s .pre .0 .0 .slot) (s .pre .0 .1) (s .args .duration) (s .pre .1 .0) (s .args .q) (f + 1) (s .pre .1 .1) next)
+    (arith, sum-crossing p (s .args .q) (s .args .duration) f (at .before .loop .inv .1) (crossing branch) (sym (stretch-aligned p (s .args .duration))) (c .flow-bits .ensures), sum-most p (s .pre .0 .0 .slot) (s .pre .0 .1) (s .args .duration) (s .pre .1 .0) (s .args .q) (f + 1) (s .pre .1 .1) next)
 
 add-f : tie.Need-add-f Inv-loop μ-loop
 add-f c = search needs
@@ -122,7 +133,7 @@ loop-again c =
     let sum = at .before .loop .inv .1 in
     let holds = c .before .route-holds .ensures in
     ⊎-elim
-    (λ w. (omega arith, w .6 ∙ sum-crossing p q T f sum (sym holds ∙ w .0 .taken) (w .5 .ensures)))
+    (λ w. (omega arith, w .7 ∙ sum-crossing p q T f sum (sym holds ∙ w .0 .taken) (sym (stretch-aligned p T)) (w .6 .ensures)))
     (λ w. (omega arith, w .1 ∙ sum-apart p q T f sum (sym holds ∙ w .0 .left)))
     (c .if1 .came)
 
@@ -138,7 +149,7 @@ port-demand-spec =
     (tie.spec
     Inv-loop
     μ-loop
-    cast-at
+    cast-stretch
     loop-holds
     mul-route-holds
     element-copy-out-route-holds
@@ -150,7 +161,9 @@ port-demand-spec =
     element-copy-out-flow-bits-2
     mul-flow-bits-3
     element-copy-out-flow-bits-3
+    mul-flow-bits-4
     element-copy-out-flow-bits-4
+    element-copy-out-flow-bits-5
     flow-bits-requires
     add-bits
     add-f

@@ -30,7 +30,7 @@ held s = planOf (s .args .t1)
 
 -- where the function starts, from past the test of the tables
 abbrev start : tie.After-valid-tables → tie.Start
-start c = c .before .before .before .before .before .before .before .before .before .before
+start c = c .before .before .before .before .before .before .before .before .before .before .before
 
 -- past the refusals: the plan is valid, the duration from 1 to top, and the port from 1 to 64
 valid : (c : tie.Else1) → validPlan (held (start (c .before))) ≡ true
@@ -67,7 +67,7 @@ module _ (c : tie.Else3) where
   small = slot-below portSlots (asked .args .port) (number c)
 
 abbrev past : tie.After-port-demand → tie.Else3
-past c = c .before .before .before .before .before .before .before .before
+past c = c .before .before .before .before .before .before .before .before .before
 
 module _ (c : tie.After-port-demand) where
   bits-are : c .port-demand .result ≡ demand (held (asked (past c))) (slot (past c)) (asked (past c) .args .duration)
@@ -113,7 +113,7 @@ sub-q c = within-low 1 portSlots _ (number c)
 
 port-demand-requires : tie.Need-port-demand-requires
 port-demand-requires c κs =
-    let e = c .before .before .before .before .before .before .before in
+    let e = c .before .before .before .before .before .before .before .before in
     let at = second e in
     ((record { slot = slot-in-range (held (asked e)) (valid (first at)) }, extra-most (held (asked e)) (valid (first at))), (fits at, small e))
 

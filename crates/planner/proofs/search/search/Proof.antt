@@ -19,7 +19,7 @@ use Rattle.planner.proofs.search.search.Tie as tie
 abbrev plan : tie.Start → Plan
 plan s =
     let a = s .args in
-    planBy (a .guard) (a .top) (a .rates .now) (a .blockings .now) (a .extras .now) (a .periods .now) (a .counts .now) (a .lengths .now) (a .hops .now) (a .routes .now)
+    planBy (a .guard) (a .top) (a .rates .now) (a .blockings .now) (a .extras .now) (a .periods .now) (a .counts .now) (a .lengths .now) (a .jitters .now) (a .hops .now) (a .routes .now)
 
 abbrev given : tie.Start → List ℕ
 given s = s .args .scratch .now

@@ -18,7 +18,7 @@ use Rattle.tables.proofs.flows.any_present.Statement.{statement}
 use Rattle.tables.proofs.flows.any_present.Tie as tie
 
 abbrev Inv-loop : tie.InvT-loop
-Inv-loop periods f₀ f = (f ≤ flowSlots) × (anyTo f (present (columns [] [] [] periods [] [] [] [])) ≡ false)
+Inv-loop periods f₀ f = (f ≤ flowSlots) × (anyTo f (present (columns [] [] [] periods [] [] [] [] [])) ≡ false)
 
 abbrev μ-loop : tie.MeasureT-loop
 μ-loop periods f₀ f = flowSlots - f

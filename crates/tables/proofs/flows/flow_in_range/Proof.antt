@@ -24,22 +24,30 @@ length-ok-requires c κs = search needs
 returns-3 : tie.Need-returns-3
 returns-3 c = simp (sym (c .before .length-ok .ensures) ∙ not-true _ (c .if3 .taken), and-false)
 
+jitter-ok-requires : tie.Need-jitter-ok-requires
+jitter-ok-requires c κs = search needs
+
+returns-4 : tie.Need-returns-4
+returns-4 c = simp (sym (c .before .jitter-ok .ensures) ∙ not-true _ (c .if4 .taken), and-false)
+
 hops-ok-requires : tie.Need-hops-ok-requires
 hops-ok-requires c κs = search needs
 
-returns-4 : tie.Need-returns-4
-returns-4 c =
-    let third = c .before .before in
+returns-5 : tie.Need-returns-5
+returns-5 c =
+    let fourth = c .before .before in
+    let third = fourth .before .before in
     let second = third .before .before in
     let first = second .before .before in
-    four
+    five
     (sym (first .period-ok .ensures) ∙ not-false _ (second .before .if1 .left))
     (sym (second .count-ok .ensures) ∙ not-false _ (third .before .if2 .left))
-    (sym (third .length-ok .ensures) ∙ not-false _ (c .before .if3 .left))
+    (sym (third .length-ok .ensures) ∙ not-false _ (fourth .before .if3 .left))
+    (sym (fourth .jitter-ok .ensures) ∙ not-false _ (c .before .if4 .left))
     (c .hops-ok .ensures)
   where
-    four : {x y z w r : Bool} → x ≡ true → y ≡ true → z ≡ true → r ≡ w → r ≡ x && y && z && w
-    four f g h e = rw (f, g, h, e)
+    five : {x y z v w r : Bool} → x ≡ true → y ≡ true → z ≡ true → v ≡ true → r ≡ w → r ≡ x && y && z && v && w
+    five f g h i e = rw (f, g, h, i, e)
 
 pub flow-in-range-spec : {M : Type 1} → statement M
 flow-in-range-spec =
@@ -51,5 +59,7 @@ flow-in-range-spec =
     returns-2
     length-ok-requires
     returns-3
+    jitter-ok-requires
+    returns-4
     hops-ok-requires
-    returns-4)
+    returns-5)

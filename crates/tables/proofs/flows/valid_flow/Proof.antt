@@ -7,23 +7,23 @@ use lib.ListN.{getD}
 use borrow.Author.Tests.{not-true, not-false}
 use borrow.Author.Needs.{needs}
 use Rattle.cqf.specs.Limits.{maxHops}
-use Rattle.cqf.specs.laws.Slot.{slot-count, slot-length, slot-hops, slot-range, slot-route, ranged-hops}
+use Rattle.cqf.specs.laws.Slot.{slot-count, slot-length, slot-jitter, slot-hops, slot-range, slot-route, ranged-hops}
 use Rattle.tables.specs.Columns.{columns}
 use Rattle.tables.proofs.flows.valid_flow.Statement.{statement}
 use Rattle.tables.proofs.flows.valid_flow.Tie as tie
 
 -- where the function starts, from past the test of the ranges
-abbrev start : tie.Else4 → tie.Start
-start c = c .before .before .before .before .before .before .before
+abbrev start : tie.Else5 → tie.Start
+start c = c .before .before .before .before .before .before .before .before
 
 -- a flow in range has at most 16 ports
-few : (c : tie.Else4) → getD (start c .args .hops .now) (start c .args .f) 0 ≤ maxHops
+few : (c : tie.Else5) → getD (start c .args .hops .now) (start c .args .f) 0 ≤ maxHops
 few c =
     let a = start c .args in
     ranged-hops
-    (columns (a .rates .now) [] [] (a .periods .now) (a .counts .now) (a .lengths .now) (a .hops .now) (a .routes .now))
+    (columns (a .rates .now) [] [] (a .periods .now) (a .counts .now) (a .lengths .now) (a .jitters .now) (a .hops .now) (a .routes .now))
     (a .f)
-    (sym (c .before .flow-in-range .ensures) ∙ not-false _ (c .if4 .left))
+    (sym (c .before .flow-in-range .ensures) ∙ not-false _ (c .if5 .left))
 
 mul-period : tie.Need-mul-period
 mul-period c = search needs
@@ -43,6 +43,12 @@ mul-bytes c = search needs
 element-copy-out-bytes : tie.Need-element-copy-out-bytes
 element-copy-out-bytes c = search needs
 
+mul-jitter : tie.Need-mul-jitter
+mul-jitter c = search needs
+
+element-copy-out-jitter : tie.Need-element-copy-out-jitter
+element-copy-out-jitter c = search needs
+
 element-copy-out-ports : tie.Need-element-copy-out-ports
 element-copy-out-ports c = search needs
 
@@ -54,13 +60,16 @@ returns-2 : tie.Need-returns-2
 returns-2 c = sym (slot-length _ _ (c .before .before .if1 .taken) (c .before .if2 .left) (c .if3 .taken))
 
 returns-3 : tie.Need-returns-3
-returns-3 c = sym (slot-hops _ _ (c .before .before .if1 .taken) (c .before .if2 .left) (c .if3 .left))
+returns-3 c = sym (slot-jitter _ _ (c .before .before .before .if1 .taken) (c .before .before .if2 .left) (c .before .if3 .left) (c .if4 .taken))
+
+returns-4 : tie.Need-returns-4
+returns-4 c = sym (slot-hops _ _ (c .before .before .before .if1 .taken) (c .before .before .if2 .left) (c .before .if3 .left) (c .if4 .left))
 
 flow-in-range-requires : tie.Need-flow-in-range-requires
 flow-in-range-requires c κs = search needs
 
-returns-4 : tie.Need-returns-4
-returns-4 c = sym (slot-range _ _ (c .before .before .if1 .left) (sym (c .before .flow-in-range .ensures) ∙ not-true _ (c .if4 .taken)))
+returns-5 : tie.Need-returns-5
+returns-5 c = sym (slot-range _ _ (c .before .before .if1 .left) (sym (c .before .flow-in-range .ensures) ∙ not-true _ (c .if5 .taken)))
 
 mul-valid-route : tie.Need-mul-valid-route
 mul-valid-route c = search needs
@@ -71,8 +80,8 @@ cast-valid-route c = omega (arith, few c)
 valid-route-requires : tie.Need-valid-route-requires
 valid-route-requires c κs = omega (arith, few c)
 
-returns-5 : tie.Need-returns-5
-returns-5 c = c .valid-route .ensures ∙ sym (slot-route _ _ (c .before .before .before .if1 .left) (sym (c .before .before .flow-in-range .ensures) ∙ not-false _ (c .before .if4 .left)))
+returns-6 : tie.Need-returns-6
+returns-6 c = c .valid-route .ensures ∙ sym (slot-route _ _ (c .before .before .before .if1 .left) (sym (c .before .before .flow-in-range .ensures) ∙ not-false _ (c .before .if5 .left)))
 
 pub valid-flow-spec : {M : Type 1} → statement M
 valid-flow-spec =
@@ -84,13 +93,16 @@ valid-flow-spec =
     element-copy-out-count
     mul-bytes
     element-copy-out-bytes
+    mul-jitter
+    element-copy-out-jitter
     element-copy-out-ports
     returns
     returns-2
     returns-3
-    flow-in-range-requires
     returns-4
+    flow-in-range-requires
+    returns-5
     mul-valid-route
     cast-valid-route
     valid-route-requires
-    returns-5)
+    returns-6)

@@ -15,10 +15,10 @@ use Rattle.tables.proofs.flows.valid_flows.Statement.{statement}
 use Rattle.tables.proofs.flows.valid_flows.Tie as tie
 
 abbrev Inv-loop : tie.InvT-loop
-Inv-loop rates periods counts lengths hops routes f₀ f = (f ≤ flowSlots) × (allTo f (validFlow (columns rates [] [] periods counts lengths hops routes)) ≡ true)
+Inv-loop rates periods counts lengths jitters hops routes f₀ f = (f ≤ flowSlots) × (allTo f (validFlow (columns rates [] [] periods counts lengths jitters hops routes)) ≡ true)
 
 abbrev μ-loop : tie.MeasureT-loop
-μ-loop rates periods counts lengths hops routes f₀ f = flowSlots - f
+μ-loop rates periods counts lengths jitters hops routes f₀ f = flowSlots - f
 
 loop-holds : tie.Need-loop-holds Inv-loop μ-loop
 unfolding allTo

@@ -15,7 +15,7 @@ use Rattle.tables.proofs.ports.valid_ports.Statement.{statement}
 use Rattle.tables.proofs.ports.valid_ports.Tie as tie
 
 abbrev Inv-loop : tie.InvT-loop
-Inv-loop rates blockings extras q₀ q = (q ≤ portSlots) × (allTo q (validPort (columns rates blockings extras [] [] [] [] [])) ≡ true)
+Inv-loop rates blockings extras q₀ q = (q ≤ portSlots) × (allTo q (validPort (columns rates blockings extras [] [] [] [] [] [])) ≡ true)
 
 abbrev μ-loop : tie.MeasureT-loop
 μ-loop rates blockings extras q₀ q = portSlots - q

@@ -1,0 +1,48 @@
+-- `has_flow` meets its contract.
+use mathlib.Core.Path.{_≡_, sym, _∙_}
+use mathlib.Core.Bool.{true}
+use denote.Ref.{now}
+use borrow.Author.Needs.{needs}
+use borrow.Author.Tests.{not-true, not-false}
+use Rattle.cqf.specs.Limits.{flowSlots, flowOk}
+use Rattle.cqf.specs.laws.Route.{rate-at}
+use Rattle.plan.specs.laws.Within.{within-low, slot-below}
+use Rattle.loading.proofs.first.has_flow.Statement.{statement}
+use Rattle.loading.proofs.first.has_flow.Tie as tie
+
+flow-ok-requires : tie.Need-flow-ok-requires
+flow-ok-requires c κs = search needs
+
+returns : tie.Need-returns
+returns c = rw (sym (c .before .flow-ok .ensures), not-true (c .before .flow-ok .result) (c .if1 .taken))
+
+-- the number passed its test
+in-range : (c : tie.Else1) → flowOk (c .before .before .args .number) ≡ true
+in-range c = sym (c .before .flow-ok .ensures) ∙ not-false (c .before .flow-ok .result) (c .if1 .left)
+
+sub-slot : tie.Need-sub-slot
+sub-slot c = within-low 1 flowSlots _ (in-range c)
+
+cast-slot : tie.Need-cast-slot
+cast-slot c = search needs
+
+mul-result : tie.Need-mul-result
+mul-result c = search needs
+
+element-copy-out-result : tie.Need-element-copy-out-result
+element-copy-out-result c = slot-below flowSlots _ (in-range c)
+
+returns-2 : tie.Need-returns-2
+returns-2 c = rw (in-range (c .before), rate-at (now (c .before .before .before .args .periods)) (c .before .before .before .args .number) (within-low 1 flowSlots _ (in-range (c .before))))
+
+pub has-flow-spec : {M : Type 1} → statement M
+has-flow-spec =
+    tie.close
+    (tie.spec
+    flow-ok-requires
+    returns
+    sub-slot
+    cast-slot
+    mul-result
+    element-copy-out-result
+    returns-2)
