@@ -6,7 +6,8 @@ use lib.Dec.{ltb}
 use lib.ListN.{getD, set, replicate}
 use Rattle.cqf.specs.Bounded.{distinct}
 use Rattle.cqf.specs.Plan.{Plan, noPlan}
-use Rattle.plan.specs.Field.{Field, ofPort, ofFlow}
+use Rattle.plan.specs.Field.{Field}
+use Rattle.plan.specs.Kind.{ofPort, ofFlow}
 use Rattle.plan.specs.Key.{keySlots, keyOf}
 use Rattle.plan.specs.Store.{store}
 

@@ -6,7 +6,8 @@ use mathlib.Core.Bool.{true}
 use lib.ListN.{length}
 use Rattle.cqf.specs.Bounded.{every}
 use Rattle.cqf.specs.Limits.{guardOk, topOk, portOk, rateOk, lengthOk, blockingOk, extraOk, flowOk, periodOk, countOk, jitterOk, hopsOk}
-use Rattle.plan.specs.Field.{Field, header, port, flow, extra, jitter, ofFlow}
+use Rattle.plan.specs.Field.{Field, header, port, flow, extra, jitter}
+use Rattle.plan.specs.Kind.{ofFlow}
 
 pub record HeaderOk (g t : ℕ) : Type 0 where
   pub guard : guardOk g ≡ true

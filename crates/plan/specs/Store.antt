@@ -4,7 +4,8 @@ use mathlib.Core.List.{List}
 use mathlib.Core.Option.{Option, some, none}
 use Rattle.cqf.specs.Limits.{routeStride}
 use Rattle.cqf.specs.Plan.{Plan}
-use Rattle.plan.specs.Field.{Field, ofHeader, ofPort, ofFlow, ofExtra, ofJitter}
+use Rattle.plan.specs.Field.{Field}
+use Rattle.plan.specs.Kind.{ofHeader, ofPort, ofFlow, ofExtra, ofJitter}
 use Rattle.plan.specs.Put.{Put, keep, number, run, put, given}
 
 -- a number of the header, of a port, of a flow: into the slot of its number

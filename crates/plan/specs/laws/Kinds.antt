@@ -4,7 +4,8 @@ use Prim.Native.Nat.{ℕ, _+_, _<_}
 use mathlib.Core.List.{List}
 use native.Mathlib.Omega.{arith}
 use Rattle.cqf.specs.Limits.{portSlots, flowSlots}
-use Rattle.plan.specs.Field.{Field, header, port, flow, extra, jitter, ofHeader, ofPort, ofFlow, ofExtra, ofJitter}
+use Rattle.plan.specs.Field.{Field, header, port, flow, extra, jitter}
+use Rattle.plan.specs.Kind.{ofHeader, ofPort, ofFlow, ofExtra, ofJitter}
 use Rattle.plan.specs.Key.{headerKey, keySlots, keyOf}
 use Rattle.plan.specs.Ranges.{HeaderOk, PortOk, FlowOk, ExtraOk, JitterOk, RouteOk, NumbersOk, RouteFits}
 use Rattle.plan.specs.laws.Within.{within-high}
