@@ -5,7 +5,6 @@
 #include <pthread.h>
 #include <stdio.h>
 #include <stdlib.h>
-#include <string.h>
 
 enum { PAINTED = 1 << 20, PORTS = 64, MAX_BYTES = 16384 };
 #define PAINT 0xa5c3965a0ff0695aULL
@@ -122,13 +121,6 @@ static void read_plan(const char *path, plan_bytes *plan) {
   fclose(file);
 }
 
-/* The load's answer stands behind the planner. */
-static uint32_t load_refusal(void) {
-  cp_answer numbers;
-  memcpy(&numbers, (char *)&loaded + sizeof(cp_planner), sizeof numbers);
-  return numbers.refusal;
-}
-
 static void questions(const char *check, const char *slack, const char *least, const char *margin_safe) {
   const size_t given = sizeof held;
   row(check, on_check, given, sizeof answer);
@@ -147,11 +139,11 @@ int main(int count, char **paths) {
   cp_planner overloaded = loaded.planner;
   read_plan(paths[1], &accepted);
   row("cp_load, longest plan", on_load, sizeof held, sizeof loaded);
-  if (load_refusal() != 0) return 1;
+  if (loaded.answer.refusal != 0) return 1;
   held = loaded.planner;
   read_plan(paths[2], &refused);
   row("cp_load, refused", on_refused_load, sizeof held, sizeof loaded);
-  if (load_refusal() == 0) return 1;
+  if (loaded.answer.refusal == 0) return 1;
   questions("cp_check", "cp_slack", "cp_least", "cp_margin_safe");
   if (answer.refusal != 0) return 1;
   held = overloaded;

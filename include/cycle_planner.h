@@ -2,7 +2,7 @@
  * an empty one too. A slice is a pointer and a length; a pointer that does not hold as many elements as its length says is
  * outside what is proved. An empty slice wants a pointer that is not null, aligned for its elements. A mutable slice overlaps nothing else.
  * Document 01's refusal number is in `refusal`, 0 where there is a result. Stack of a call, beside the planner and the answer that the
- * caller holds: cp_load 21 KB, a question 7.5 KB. No heap. */
+ * caller holds: cp_load 25 KB, a question 8.7 KB. No heap. */
 #ifndef CYCLE_PLANNER_H
 #define CYCLE_PLANNER_H
 #include <stddef.h>
@@ -12,9 +12,13 @@
 extern "C" {
 #endif
 
-/* Plain data, 7,880 bytes. Keep it as the last call left it; do not look inside. */
+/* How far clocks differ: drift in parts per million, timing jitter and synchronization error in ns. */
+typedef struct { uint32_t drift, timing_jitter, sync_error; } cp_clock;
+
+/* Plain data, 7,892 bytes. Keep it as the last call left it; do not look inside. */
 typedef struct {
   uint32_t guard, top;
+  cp_clock clock;
   uint32_t rates[64];
   uint16_t blockings[64];
   uint8_t extras[64];
@@ -48,9 +52,10 @@ cp_slack_answer cp_slack(cp_planner planner, uint64_t port, uint64_t duration);
 cp_answer cp_least(cp_planner planner, uint64_t *scratch, size_t length);
 cp_answer cp_margin_safe(cp_planner planner, uint64_t *scratch, size_t length);
 
-/* The field at an offset of a plan, by tests 2 to 5. Result: tag 1 to 5; offset = the one after the field; numbers:
+/* The field at an offset of a plan, by tests 2 to 5. Result: tag 1 to 6; offset = the one after the field; numbers:
  * 1, header: guard, top; 2, port: number, rate, blocker; 3, flow: number, period, count, length, hops; 4, extra bytes per
- * frame at a port: port number, extra bytes; 5, release jitter of a flow: flow number, jitter; 0 in the others.
+ * frame at a port: port number, extra bytes; 5, release jitter of a flow: flow number, jitter; 6, clocks: drift,
+ * timing jitter, synchronization error; 0 in the others.
  * Refusal 2 to 5: offset = the one asked, tag and numbers 0. */
 cp_field_read cp_field(const uint8_t *plan, size_t length, size_t offset);
 

@@ -32,14 +32,20 @@ fn add_route<const CHECKED: bool>(planner: &Planner, slot: usize, frames: u64, o
     }
 }
 
+/// The duration widened by the clocks: the length over which frames are counted.
+fn stretch(planner: &Planner, duration: u64) -> u64 {
+    let drifted = (duration * planner.drift as u64 + 999_999) / 1_000_000;
+    duration + (drifted + planner.timing_jitter as u64).min(2 * planner.sync_error as u64)
+}
+
 /// Every port's demand at a duration of 1 or more; 0 for a port not crossed.
 pub fn demands<const CHECKED: bool>(planner: &Planner, duration: u64, out: &mut [u64; PORTS]) {
     out.fill(0);
-    let at = duration as u32;
+    let length = stretch(planner, duration) as u32;
     for slot in 0..FLOWS {
         let period = planner.periods[slot];
         if period != 0 {
-            let begun = (at + planner.jitters[slot] + (period - 1)) / period;
+            let begun = (length + planner.jitters[slot] + (period - 1)) / period;
             let frames = planner.counts[slot] as u64 * begun as u64;
             add_route::<CHECKED>(planner, slot, frames, out);
         }

@@ -7,8 +7,11 @@ mod answers;
 #[path = "../../tests/outside/src/ffi.rs"]
 mod ffi;
 mod bytes;
+mod draft;
+mod figures;
 mod found;
 mod jump;
+mod paper;
 mod plans;
 mod reader;
 mod scan;
@@ -131,6 +134,7 @@ fn main() {
                 println!("{} {} {}", case.name, if case.timed { "timed" } else { "counted" }, case.searches.join(" "));
             }
         }
+        ["paper"] => figures::print(),
         ["loads"] => loads.iter().for_each(|plan| println!("{} {}", plan.0, plan.1.len())),
         ["bytes", name] => {
             let bytes = loaded(name).unwrap_or_else(|| &searched(name).bytes);
@@ -138,6 +142,6 @@ fn main() {
         }
         [part @ ("load" | "read" | "read-by-port"), name] => load(loaded(name).expect("no such plan"), part),
         [part, name] => search(searched(name), part),
-        _ => panic!("searches, loads, bytes PLAN, or PART PLAN"),
+        _ => panic!("searches, loads, paper, bytes PLAN, or PART PLAN"),
     }
 }

@@ -13,20 +13,20 @@ pub struct Case {
     pub searches: &'static [&'static str],
 }
 
-fn header(plan: &mut Vec<u8>, guard: u32, top: u32) {
+pub fn header(plan: &mut Vec<u8>, guard: u32, top: u32) {
     plan.extend([1, 0, 8]);
     plan.extend(guard.to_be_bytes());
     plan.extend(top.to_be_bytes());
 }
 
-fn port(plan: &mut Vec<u8>, number: u16, rate: u32, blocker: u16) {
+pub fn port(plan: &mut Vec<u8>, number: u16, rate: u32, blocker: u16) {
     plan.extend([2, 0, 8]);
     plan.extend(number.to_be_bytes());
     plan.extend(rate.to_be_bytes());
     plan.extend(blocker.to_be_bytes());
 }
 
-fn flow(plan: &mut Vec<u8>, number: u16, period: u32, length: u16, route: &[u16]) {
+pub fn flow(plan: &mut Vec<u8>, number: u16, period: u32, length: u16, route: &[u16]) {
     plan.push(3);
     plan.extend((10 + 2 * route.len() as u16).to_be_bytes());
     plan.extend(number.to_be_bytes());
@@ -46,6 +46,11 @@ fn jitter(plan: &mut Vec<u8>, number: u16, jitter: u32) {
     plan.extend([5, 0, 6]);
     plan.extend(number.to_be_bytes());
     plan.extend(jitter.to_be_bytes());
+}
+
+pub fn clocks(plan: &mut Vec<u8>, drift: u32, timing_jitter: u32, sync_error: u32) {
+    plan.extend([6, 0, 12]);
+    plan.extend([drift, timing_jitter, sync_error].iter().flat_map(|number| number.to_be_bytes()));
 }
 
 pub fn k() -> Vec<u8> {
@@ -90,6 +95,13 @@ fn late(load: f64) -> Vec<u8> {
     for number in 1..=256 {
         jitter(&mut plan, number, u32::from(number) * 7_919 % 20_001);
     }
+    plan
+}
+
+/// The same with the clocks that document 000 gives.
+fn late_clocks(load: f64) -> Vec<u8> {
+    let mut plan = late(load);
+    clocks(&mut plan, 100, 2, 1_000);
     plan
 }
 
@@ -158,6 +170,7 @@ pub fn searches() -> Vec<Case> {
         case("large-90", large(0.9), 2_000, BOTH),
         case("large-99.9", large(0.999), 2_000, BOTH),
         case("late-90", late(0.9), 2_000, BOTH),
+        case("clocks-90", late_clocks(0.9), 2_000, BOTH),
         case("one-flow", one_flow(), 20_000, &["least"]),
         case("149-flows", spread(), 5_000, &["least"]),
         case("up-one-port", found_ports(1, found::UP), 5_000, &["least"]),
@@ -169,12 +182,12 @@ pub fn searches() -> Vec<Case> {
 }
 
 /// The plans whose load is measured. The second and third differ in the field of port 64, which the third lacks (refusal 9); the
-/// last has jitter for every flow and extra bytes for every port too.
+/// last has jitter for every flow, extra bytes for every port and clocks too.
 pub fn loads() -> Vec<(&'static str, Vec<u8>)> {
     let longest = large(0.6);
     let port_64 = 11 + 63 * 11;
     let lacking = [&longest[..port_64], &longest[port_64 + 11..]].concat();
-    let mut every_field = late(0.6);
+    let mut every_field = late_clocks(0.6);
     (1..=64).for_each(|number| extra(&mut every_field, number, number));
     vec![("K", k()), ("longest", longest), ("longest-lacking", lacking), ("every-field", every_field)]
 }

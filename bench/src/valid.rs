@@ -41,6 +41,9 @@ fn valid_flow(planner: &Planner, slot: usize) -> bool {
 pub fn valid_plan(planner: &Planner) -> bool {
     (1..=100_000_000).contains(&planner.top)
         && planner.guard <= 1_000_000
+        && planner.drift <= 1_000
+        && planner.timing_jitter <= 1_000
+        && planner.sync_error <= 1_000_000
         && (0..PORTS).all(|slot| valid_port(planner.rates[slot], planner.blockings[slot], planner.extras[slot]))
         && (0..FLOWS).all(|slot| valid_flow(planner, slot))
         && planner.periods.iter().any(|period| *period != 0)

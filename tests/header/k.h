@@ -53,6 +53,16 @@ static void rows(const char *plan, cp_planner planner, const row *table, size_t 
   same_slack("cp_slack of a port not in K", cp_slack(planner, 2, 72000), 24, 0);
 }
 
+/* The rows of K's table. */
+static void rows_of_k(cp_planner k) {
+  static const row table[] = {
+      {71999, 21, -100},      {72000, 0, 0},          {100000, 0, 2800000}, {110000, 0, 1800000},
+      {110001, 21, -3199900}, {120000, 21, -2200000}, {141999, 21, -100},   {142000, 0, 0},
+      {1000, 21, -7000000},   {0, 10, 0},             {1000001, 10, 0},
+  };
+  rows("K", k, table, sizeof table / sizeof table[0]);
+}
+
 typedef cp_answer (*search)(cp_planner planner, uint64_t *scratch, size_t length);
 
 /* A search on a scratch whose numbers were 1000 + position: the first 64 become port 1's demand and 0s, or nothing changes. */

@@ -75,3 +75,66 @@ static void jitter(cp_planner k) {
   left.jitters[0] = 10000001;
   same_answer("cp_check, jitter 10,000,001", cp_check(left, 1000000), answer(20, 0, 0));
 }
+
+/* K with 32 extra bytes at port 1 and jitter 30,000 for flow 1 where these are wanted, and then so many bytes of a field for clocks
+ * (tag 6). */
+static cp_planner apart(const char *call, cp_planner before, int with_both, const uint32_t *numbers, size_t bytes, cp_answer want,
+                        cp_planner left) {
+  static const uint8_t both[] = {0x04, 0x00, 0x04, 0x00, 0x01, 0x00, 0x20, 0x05, 0x00, 0x06, 0x00, 0x01, 0x00, 0x00, 0x75, 0x30};
+  uint8_t plan[sizeof K + sizeof both + 15] = {0};
+  size_t at = sizeof K;
+  memcpy(plan, K, sizeof K);
+  if (with_both) {
+    memcpy(plan + at, both, sizeof both);
+    at += sizeof both;
+  }
+  plan[at] = 0x06;
+  plan[at + 2] = 0x0C;
+  for (size_t byte = 0; byte < 12; byte++) plan[at + 3 + byte] = (uint8_t)(numbers[byte / 4] >> 8 * (3 - byte % 4));
+  return loaded(call, before, plan, at + bytes, want, left);
+}
+
+static void clocks(cp_planner k) {
+  static const row with_clocks[] = {
+      {71999, 21, -100},    {72000, 0, 0},      {99988, 0, 2798800},  {99989, 0, 798900},   {109987, 0, 1798700},
+      {109988, 21, -3201200}, {141999, 21, -100}, {142000, 0, 0},     {199978, 0, 5797800}, {199979, 0, 3797900},
+      {219976, 0, 5797600}, {219977, 0, 797700}, {1000, 21, -7000000}, {0, 10, 0},          {1000001, 10, 0},
+  };
+  static const row with_all[] = {
+      {99679, 21, -100},    {99680, 0, 0},         {109987, 0, 1030700}, {109988, 21, -4225200},
+      {152239, 21, -100},   {152240, 0, 0},        {169981, 0, 1774100}, {169982, 21, -481800},
+      {174799, 21, -100},   {174800, 0, 0},        {219976, 0, 4517600}, {219977, 21, -738300},
+  };
+  static const uint32_t paper[] = {100, 2, 1000}, error_only[] = {0, 0, 5000}, no_error[] = {1000, 1000, 0};
+  static const uint32_t small_error[] = {1000, 1000, 5}, none[] = {0, 0, 0};
+  static const uint32_t much_drift[] = {1001, 2, 1000}, much_jitter[] = {100, 1001, 1000}, much_error[] = {100, 2, 1000001};
+  cp_planner left = planner_of_k();
+  left.clock.drift = 100, left.clock.timing_jitter = 2, left.clock.sync_error = 1000;
+  k = apart("cp_load of K with clocks", k, 0, paper, 15, answer(0, 1, 2), left);
+  rows("K with clocks", k, with_clocks, sizeof with_clocks / sizeof with_clocks[0]);
+  searched("cp_least of K with clocks", cp_least, k, SCRATCH, answer(0, 72000, 0), 7000);
+  searched("cp_margin_safe of K with clocks", cp_margin_safe, k, SCRATCH, answer(0, 142000, 0), 14000);
+  k = apart("cp_load of K with drift 1,001", k, 0, much_drift, 15, answer(5, sizeof K, 0), left);
+  k = apart("cp_load of K with timing jitter 1,001", k, 0, much_jitter, 15, answer(5, sizeof K, 0), left);
+  k = apart("cp_load of K with synchronization error 1,000,001", k, 0, much_error, 15, answer(5, sizeof K, 0), left);
+  k = apart("cp_load of K with clocks cut short", k, 0, paper, 14, answer(2, sizeof K, 0), left);
+  left.extras[0] = 32, left.jitters[0] = 30000;
+  k = apart("cp_load of K with extra bytes, jitter and clocks", k, 1, paper, 15, answer(0, 1, 2), left);
+  rows("K with extra bytes, jitter and clocks", k, with_all, sizeof with_all / sizeof with_all[0]);
+  searched("cp_least of that", cp_least, k, SCRATCH, answer(0, 99680, 0), 9768);
+  searched("cp_margin_safe of that", cp_margin_safe, k, SCRATCH, answer(0, 227360, 0), 22536);
+  left = planner_of_k();
+  left.clock.sync_error = 5000;
+  k = apart("cp_load of K with clocks 0, 0, 5,000", k, 0, error_only, 15, answer(0, 1, 2), left);
+  rows_of_k(k);
+  left.clock.drift = left.clock.timing_jitter = 1000, left.clock.sync_error = 5;
+  k = apart("cp_load of K with clocks 1,000, 1,000, 5", k, 0, small_error, 15, answer(0, 1, 2), left);
+  same_answer("cp_check of that at 109,990", cp_check(k, 109990), answer(0, 0, 0));
+  same_answer("cp_check of that at 109,991", cp_check(k, 109991), answer(21, 1, 1));
+  left.clock.sync_error = 0;
+  k = apart("cp_load of K with clocks 1,000, 1,000, 0", k, 0, no_error, 15, answer(0, 1, 2), left);
+  rows_of_k(k);
+  apart("cp_load of K with clocks of 0", k, 0, none, 15, answer(0, 1, 2), planner_of_k());
+  left.clock.drift = 1001;
+  same_answer("cp_check, drift 1,001", cp_check(left, 1000000), answer(20, 0, 0));
+}

@@ -3,20 +3,11 @@
 #include "k.h"
 #include "later.h"
 
-_Static_assert(sizeof(cp_planner) == 7880, "a planner has 7,880 bytes");
-_Static_assert(offsetof(cp_planner, extras) == 392, "extra bytes come after the blockers");
-_Static_assert(offsetof(cp_planner, jitters) == 2504, "jitters come after the frame lengths");
-_Static_assert(offsetof(cp_load_outcome, answer) == 7880, "a load's answer comes after the planner");
-
-/* The rows of K's table. */
-static void rows_of_k(cp_planner k) {
-  static const row table[] = {
-      {71999, 21, -100},      {72000, 0, 0},          {100000, 0, 2800000}, {110000, 0, 1800000},
-      {110001, 21, -3199900}, {120000, 21, -2200000}, {141999, 21, -100},   {142000, 0, 0},
-      {1000, 21, -7000000},   {0, 10, 0},             {1000001, 10, 0},
-  };
-  rows("K", k, table, sizeof table / sizeof table[0]);
-}
+_Static_assert(sizeof(cp_planner) == 7892, "a planner has 7,892 bytes");
+_Static_assert(offsetof(cp_planner, clock) == 8, "clocks come after top");
+_Static_assert(offsetof(cp_planner, extras) == 404, "extra bytes come after the blockers");
+_Static_assert(offsetof(cp_planner, jitters) == 2516, "jitters come after the frame lengths");
+_Static_assert(offsetof(cp_load_outcome, answer) == 7896, "a load's answer comes after the planner, at a multiple of 8 bytes");
 
 static void searches(cp_planner empty, cp_planner k) {
   searched("cp_least of K", cp_least, k, SCRATCH, answer(0, 72000, 0), 7000);
@@ -81,6 +72,7 @@ static void field(const char *call, size_t length, size_t offset, cp_field_read 
 static void fields(void) {
   static const uint8_t extra[] = {0x04, 0x00, 0x04, 0x00, 0x40, 0x00, 0x20};
   static const uint8_t jitter_256[] = {0x05, 0x00, 0x06, 0x01, 0x00, 0x00, 0x98, 0x96, 0x80};
+  static const uint8_t clocks_most[] = {0x06, 0x00, 0x0C, 0x00, 0x00, 0x03, 0xE8, 0x00, 0x00, 0x03, 0xE7, 0x00, 0x0F, 0x42, 0x40};
   static const uint8_t twice[] = {0, 1, 0, 1, 0x86, 0xA0, 0, 1, 0, 0xE6, 0, 1, 0, 2, 0, 1};
   field("cp_field of K's header", sizeof K, 0, (cp_field_read){.tag = 1, .offset = PORT_AT, .numbers = {1000, 1000000}});
   field("cp_field of K's port", sizeof K, PORT_AT, (cp_field_read){.tag = 2, .offset = FLOW_1_AT, .numbers = {1, 100}});
@@ -94,6 +86,8 @@ static void fields(void) {
            (cp_field_read){.tag = 4, .offset = sizeof extra, .numbers = {64, 32}});
   field_of("cp_field of jitter 10,000,000 of flow 256", jitter_256, sizeof jitter_256, 0,
            (cp_field_read){.tag = 5, .offset = sizeof jitter_256, .numbers = {256, 10000000}});
+  field_of("cp_field of clocks 1,000, 999, 1,000,000", clocks_most, sizeof clocks_most, 0,
+           (cp_field_read){.tag = 6, .offset = sizeof clocks_most, .numbers = {1000, 999, 1000000}});
   same("cp_repeats of ports 1, 2, 1", "the answer", cp_repeats(twice, sizeof twice), 1);
   same("cp_repeats of ports 1, 2", "the answer", cp_repeats(twice, sizeof twice - 2), 0);
   same("cp_repeats of K's flow 2", "the answer", cp_repeats(K + FLOW_2_AT + 3, 12), 0);
@@ -117,6 +111,7 @@ int main(void) {
   uncrossed_port(k);
   extra_bytes(k);
   jitter(k);
+  clocks(k);
   fields();
   printf("header: %u passed, %u failed\n", passed, failed);
   return failed != 0;

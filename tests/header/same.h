@@ -28,6 +28,9 @@ static void same_slot(const char *call, const char *table, size_t slot, uint64_t
 static void same_planner(const char *call, cp_planner got, cp_planner want) {
   same(call, "guard", got.guard, want.guard);
   same(call, "top", got.top, want.top);
+  same(call, "drift", got.clock.drift, want.clock.drift);
+  same(call, "timing_jitter", got.clock.timing_jitter, want.clock.timing_jitter);
+  same(call, "sync_error", got.clock.sync_error, want.clock.sync_error);
   SAME_TABLE(call, rates, got, want);
   SAME_TABLE(call, blockings, got, want);
   SAME_TABLE(call, extras, got, want);

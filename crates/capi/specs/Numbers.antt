@@ -3,7 +3,7 @@ use Prim.Native.Nat.{ℕ}
 use mathlib.Core.List.{List, [], _∷_}
 use lib.IntN.{ℤ, pos}
 use Rattle.loading.specs.Outcome.{Answer, result, refusal, Fields}
-use Rattle.plan.specs.Field.{header, port, flow, extra, jitter, FieldRead, field, refused, headerTag, portTag, flowTag, extraTag, jitterTag}
+use Rattle.plan.specs.Field.{header, port, flow, extra, jitter, clock, FieldRead, field, refused, headerTag, portTag, flowTag, extraTag, jitterTag, clockTag}
 use Rattle.capi.specs.declared.AnswerNumbers.{AnswerNumbers}
 use Rattle.capi.specs.declared.SlackAnswerNumbers.{SlackAnswerNumbers}
 use Rattle.capi.specs.declared.FieldReadNumbers.{FieldReadNumbers}
@@ -43,4 +43,5 @@ fieldNumbers (field (port n r b) next) = record { refusal = 0; tag = portTag; of
 fieldNumbers (field (flow n p c l h) next) = record { refusal = 0; tag = flowTag; offset = next; numbers = n ∷ p ∷ c ∷ l ∷ h ∷ [] }
 fieldNumbers (field (extra n b) next) = record { refusal = 0; tag = extraTag; offset = next; numbers = n ∷ b ∷ 0 ∷ 0 ∷ 0 ∷ [] }
 fieldNumbers (field (jitter n j) next) = record { refusal = 0; tag = jitterTag; offset = next; numbers = n ∷ j ∷ 0 ∷ 0 ∷ 0 ∷ [] }
+fieldNumbers (field (clock k) next) = record { refusal = 0; tag = clockTag; offset = next; numbers = k .drift ∷ k .timingJitter ∷ k .syncError ∷ 0 ∷ 0 ∷ [] }
 fieldNumbers (refused number offset) = record { refusal = number; tag = 0; offset = offset; numbers = 0 ∷ 0 ∷ 0 ∷ 0 ∷ 0 ∷ [] }

@@ -32,6 +32,8 @@ const EXTRA: u32 = plan::read::EXTRA_TAG as u32;
 
 const JITTER: u32 = plan::read::JITTER_TAG as u32;
 
+const CLOCK: u32 = plan::read::CLOCK_TAG as u32;
+
 fn numbered(refusal: u32, first: u64, second: u64) -> AnswerNumbers
     ensures { λ r. ⌜ r ≡ (record { refusal = refusal; first = first; second = second }) ⌝ }
 {
@@ -146,6 +148,18 @@ pub(crate) fn field_numbers(reading: FieldRead) -> FieldReadNumbers
                 tag: JITTER,
                 offset: next as u64,
                 numbers: [j.number as u64, j.jitter as u64, 0, 0, 0],
+            },
+            Field::Clock(k) => FieldReadNumbers {
+                refusal: 0,
+                tag: CLOCK,
+                offset: next as u64,
+                numbers: [
+                    k.drift as u64,
+                    k.timing_jitter as u64,
+                    k.sync_error as u64,
+                    0,
+                    0,
+                ],
             },
         },
     }

@@ -1,12 +1,12 @@
 -- The condition of document 01: Theorem 1 of the source paper in whole ns, with the IEEE 802.3 overhead.
 -- T is a cycle duration in ns, f the slot of a flow, q the slot of a port.
-use Prim.Native.Nat.{ℕ, suc, pred, _+_, _-_, _*_, _/_}
+use Prim.Native.Nat.{ℕ, suc, pred, min, _+_, _-_, _*_, _/_}
 use mathlib.Core.Bool.{Bool, cond, not, _&&_}
 use lib.Dec.{eqb, ltb, leb}
 use lib.IntN.{ℤ, subℕ}
 use Rattle.cqf.specs.Bounded.{sumTo, maxTo, countTo, anyTo, lowest}
-use Rattle.cqf.specs.Limits.{portSlots, flowSlots, maxCount, maxLength, maxExtra, mostBegun}
-use Rattle.cqf.specs.Plan.{Plan, rateOf, blockingOf, extraOf, periodOf, countOf, lengthOf, jitterOf, crosses}
+use Rattle.cqf.specs.Limits.{portSlots, flowSlots, maxCount, maxLength, maxExtra, million, mostBegun}
+use Rattle.cqf.specs.Plan.{Clock, Plan, rateOf, blockingOf, extraOf, periodOf, countOf, lengthOf, jitterOf, crosses}
 
 -- preamble and start delimiter 8, gap 12
 abbrev pub overhead : ℕ
@@ -59,13 +59,19 @@ begunBy stretch jitter period = ceilDiv (stretch + jitter) period
 abbrev pub framesBy : (count stretch jitter period : ℕ) → ℕ
 framesBy count stretch jitter period = count * begunBy stretch jitter period
 
+-- The length over which frames are counted at T where clocks differ, in ns (document 02: the widened T): what drift and timing
+-- jitter make of it, or what the synchronization error at its two ends does, whichever is smaller.
+abbrev pub stretchBy : Clock → (T : ℕ) → ℕ
+stretchBy k T = min (T + ceilDiv (T * k .drift) million + k .timingJitter) (T + 2 * k .syncError)
+
 -- The same of a plan. The wire bits of one frame of flow f at the port in slot q.
 unfoldable pub wireBits : Plan → ℕ → ℕ → ℕ
 wireBits p f q = bitsOf (lengthOf p f) (extraOf p q)
 
 -- the length over which frames are counted at T, in ns
 unfoldable pub stretch : Plan → ℕ → ℕ
-stretch p T = T
+unfolding ceilDiv
+stretch p T = stretchBy (p .clock) T
 
 -- the periods of flow f that begin in it or within its jitter before it
 unfoldable pub begun : Plan → ℕ → ℕ → ℕ

@@ -1,8 +1,8 @@
 -- Emissions and the contract that they keep (document 01, "Emissions and runs", with release jitter as document 02 adds it).
 use mathlib.Core.Path.{_≡_}
-use mathlib.Core.List.{List, [], map}
+use mathlib.Core.List.{List, []}
 use mathlib.Core.Bool.{false}
-use Prim.Native.Nat.{ℕ, suc, _+_, _/_, _≤_, _<_}
+use Prim.Native.Nat.{ℕ, suc, _+_, _≤_, _<_}
 use lib.ListN.{length, getD}
 use Rattle.cqf.specs.Plan.{Plan, present, periodOf, countOf, jitterOf}
 
@@ -34,10 +34,3 @@ pub record KeepsNominal (p : Plan) (e : Emission) : Type 0 where
 -- the nominal instants never fall, which the contract does not ask
 abbrev pub InOrder : {p : Plan} {e : Emission} → Keeps p e → Type 0
 InOrder {p} {e} keeps = (f k : ℕ) → suc k < length (e f) → keeps .nominal f k ≤ keeps .nominal f (suc k)
-
--- the cycle of each frame: cycle c covers the instants from c T up to but not including (c + 1) T
-abbrev pub Cycles : Type 0
-Cycles = ℕ → List ℕ
-
-abbrev pub cyclesOf : ℕ → Emission → Cycles
-cyclesOf T e f = map (λ (t : ℕ). t / T) (e f)

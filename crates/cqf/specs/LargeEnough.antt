@@ -2,38 +2,48 @@
 use mathlib.Core.Path.{_≡_}
 use mathlib.Core.Logic.{_↔_}
 use mathlib.Core.Bool.{true, false}
-use Prim.Native.Nat.{ℕ, suc, _+_, _*_, _/_, _≤_, _<_}
+use Prim.Native.Nat.{ℕ, suc, _+_, _*_, _≤_, _<_}
 use lib.ListN.{length, getD}
-use Rattle.cqf.specs.Plan.{Plan, routeOf}
+use Rattle.cqf.specs.Plan.{Plan, routeOf, synchronized}
 use Rattle.cqf.specs.Condition.{admissible}
-use Rattle.cqf.specs.Emission.{Emission, Keeps, Cycles, cyclesOf}
+use Rattle.cqf.specs.Emission.{Emission, Keeps}
+use Rattle.cqf.specs.Cycles.{Cycles, Permitted}
 use Rattle.cqf.specs.Run.{Overruns, Leaves, MayEnd}
 
--- an emission that keeps every contract and leaves a frame unsent
+-- an emission that keeps every contract and, in some permitted cycles, leaves a frame unsent
 pub record Counterexample (p : Plan) (T : ℕ) : Type 0 where
   pub emission : Emission
   pub keeps : Keeps p emission
-  pub overruns : Overruns p T (cyclesOf T emission)
+  pub cycles : Cycles
+  pub permitted : Permitted p T emission cycles
+  pub overruns : Overruns p T cycles
 
--- Frame k of flow f, emitted at t and with h ports on its route, leaves the last of them in the h-th cycle after its own and
--- in no other. In every cycle in which it leaves that port, and for every instant at which its sending in that cycle may end, its
--- delay, from t to that end, is at least (h - 1) T and at most (h + 1) T.
-pub record OnTime (p : Plan) (T : ℕ) (cycles : Cycles) (f k t h : ℕ) : Type 0 where
-  pub leaves : Leaves p T cycles f k (t / T + h)
-  pub once : (c : ℕ) → Leaves p T cycles f k c → c ≡ t / T + h
-  pub delay : (c end : ℕ) → Leaves p T cycles f k c → MayEnd p T c end → (t + h * T ≤ end + T) × (end ≤ t + suc h * T)
+-- Frame k of flow f, emitted at t in the cycle own and with h ports on its route, leaves the last of them in the h-th cycle after
+-- its own and in no other. Where clocks are taken as equal, in every cycle in which it leaves that port, and for every instant at
+-- which its sending in that cycle may end, its delay, from t to that end, is at least (h - 1) T and at most (h + 1) T.
+pub record OnTime (p : Plan) (T : ℕ) (cycles : Cycles) (f k t own h : ℕ) : Type 0 where
+  pub leaves : Leaves p T cycles f k (own + h)
+  pub once : (c : ℕ) → Leaves p T cycles f k c → c ≡ own + h
+  pub delay
+      : synchronized p ≡ true
+      → (c end : ℕ)
+      → Leaves p T cycles f k c
+      → MayEnd p T c end
+      → (t + h * T ≤ end + T) × (end ≤ t + suc h * T)
 
--- every frame of every emission that keeps the contracts is on time
+-- every frame of every emission that keeps the contracts is on time, in all permitted cycles
 abbrev pub AllOnTime : Plan → ℕ → Type 0
 AllOnTime p T =
     (e : Emission)
     → Keeps p e
+    → (cycles : Cycles)
+    → Permitted p T e cycles
     → (f k : ℕ)
     → k < length (e f)
-    → OnTime p T (cyclesOf T e) f k (getD (e f) k 0) (length (routeOf p f))
+    → OnTime p T cycles f k (getD (e f) k 0) (getD (cycles f) k 0) (length (routeOf p f))
 
--- T is refused exactly when some emission that keeps every contract leaves a frame unsent; where it is accepted, every frame
--- of every such emission is on time
+-- T is refused exactly when some emission that keeps every contract leaves a frame unsent in some permitted cycles; where it is
+-- accepted, every frame of every such emission is on time in all of them
 pub record LargeEnough (p : Plan) (T : ℕ) : Type 0 where
   pub refused : admissible p T ≡ false ↔ Counterexample p T
   pub accepted : admissible p T ≡ true → AllOnTime p T

@@ -1,5 +1,5 @@
 -- The numbers of a plan and their ranges (document 01, "The plan's bytes").
-use Prim.Native.Nat.{ℕ, pred, _+_, _/_}
+use Prim.Native.Nat.{ℕ, pred, _+_, _*_, _/_}
 use mathlib.Core.Bool.{Bool, _||_}
 use lib.Dec.{eqb}
 use Rattle.cqf.specs.Bounded.{within}
@@ -38,9 +38,26 @@ maxLength = 2000
 abbrev pub maxJitter : ℕ
 maxJitter = 10000000
 
--- the most periods that begin in a duration and the jitter before it
+-- the most that clocks drift apart, in parts per million; their largest timing jitter and synchronization error, in ns
+abbrev pub maxDrift : ℕ
+maxDrift = 1000
+
+abbrev pub maxTimingJitter : ℕ
+maxTimingJitter = 1000
+
+abbrev pub maxSyncError : ℕ
+maxSyncError = 1000000
+
+-- parts of one
+abbrev pub million : ℕ
+million = 1000000
+
+-- the longest stretch over which frames are counted, and the most periods that begin in it and the jitter before it
+abbrev pub mostStretch : ℕ
+mostStretch = maxTop + (maxTop * maxDrift + pred million) / million + maxTimingJitter
+
 abbrev pub mostBegun : ℕ
-mostBegun = (maxTop + maxJitter + pred minPeriod) / minPeriod
+mostBegun = (mostStretch + maxJitter + pred minPeriod) / minPeriod
 
 -- guard band S in ns
 abbrev pub guardOk : ℕ → Bool
@@ -49,6 +66,16 @@ guardOk n = within 0 1000000 n
 -- the longest duration that is asked about, in ns
 abbrev pub topOk : ℕ → Bool
 topOk n = within 1 maxTop n
+
+-- the three numbers of the clocks
+abbrev pub driftOk : ℕ → Bool
+driftOk n = within 0 maxDrift n
+
+abbrev pub timingJitterOk : ℕ → Bool
+timingJitterOk n = within 0 maxTimingJitter n
+
+abbrev pub syncErrorOk : ℕ → Bool
+syncErrorOk n = within 0 maxSyncError n
 
 -- a port's number
 abbrev pub portOk : ℕ → Bool

@@ -6,11 +6,19 @@ use mathlib.Core.Bool.{Bool, _&&_, _||_}
 use lib.ListN.{getD, replicate}
 use lib.Dec.{eqb, ltb}
 use Rattle.cqf.specs.Bounded.{anyTo, allTo, elem, distinct, every, sublist}
-use Rattle.cqf.specs.Limits.{portSlots, flowSlots, routeStride, guardOk, topOk, portOk, rateOk, lengthOk, blockingOk, extraOk, periodOk, countOk, jitterOk, hopsOk}
+use Rattle.cqf.specs.Limits.{portSlots, flowSlots, routeStride, guardOk, topOk, driftOk, timingJitterOk, syncErrorOk, portOk, rateOk, lengthOk, blockingOk, extraOk, periodOk, countOk, jitterOk, hopsOk}
+
+-- how far the clocks of sources and ports differ (document 02): drift in parts per million, timing jitter and synchronization
+-- error in ns
+pub record Clock : Type 0 where
+  pub drift : ℕ
+  pub timingJitter : ℕ
+  pub syncError : ℕ
 
 pub record Plan : Type 0 where
   pub guard : ℕ
   pub top : ℕ
+  pub clock : Clock
   pub rates : List ℕ
   pub blockings : List ℕ
   pub extras : List ℕ
@@ -21,12 +29,17 @@ pub record Plan : Type 0 where
   pub hops : List ℕ
   pub routes : List ℕ
 
+-- clocks that are taken as equal
+abbrev pub equalClocks : Clock
+equalClocks = record { drift = 0; timingJitter = 0; syncError = 0 }
+
 -- the plan that holds nothing
 unfoldable pub noPlan : Plan
 noPlan =
     record {
       guard = 0;
       top = 0;
+      clock = equalClocks;
       rates = replicate portSlots 0;
       blockings = replicate portSlots 0;
       extras = replicate portSlots 0;
@@ -37,6 +50,10 @@ noPlan =
       hops = replicate flowSlots 0;
       routes = replicate (flowSlots * routeStride) 0;
     }
+
+-- whether the clocks of sources and ports are taken as equal: all three of their numbers are 0
+abbrev pub synchronized : Plan → Bool
+synchronized p = eqb (p .clock .drift) 0 && eqb (p .clock .timingJitter) 0 && eqb (p .clock .syncError) 0
 
 -- the numbers of the port in slot q
 abbrev pub rateOf : Plan → ℕ → ℕ
@@ -100,12 +117,17 @@ validFlow p f =
     && every (portIn (p .rates)) (routeOf p f)
     && distinct (routeOf p f))
 
+-- whether the numbers of the clocks are in range
+abbrev pub clockOk : Clock → Bool
+clockOk k = driftOk (k .drift) && timingJitterOk (k .timingJitter) && syncErrorOk (k .syncError)
+
 -- whether the tables hold a plan that the rules accept: what every accepted plan is, and what the questions test first
 unfoldable pub validPlan : Plan → Bool
 unfolding validPort validFlow
 validPlan p =
     topOk (p .top)
     && guardOk (p .guard)
+    && clockOk (p .clock)
     && allTo portSlots (validPort p)
     && allTo flowSlots (validFlow p)
     && anyTo flowSlots (present p)

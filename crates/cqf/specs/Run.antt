@@ -9,7 +9,7 @@ use Rattle.cqf.specs.Bounded.{sumTo, countTo, anyTo}
 use Rattle.cqf.specs.Limits.{portSlots, flowSlots}
 use Rattle.cqf.specs.Plan.{Plan, rateOf, blockingOf, extraOf, routeOf}
 use Rattle.cqf.specs.Condition.{wireBits, window, failsBy}
-use Rattle.cqf.specs.Emission.{Cycles}
+use Rattle.cqf.specs.Cycles.{Cycles}
 
 -- where a frame is when a cycle starts: not yet emitted; received by a port in the cycle before, with the ports that it meets
 -- after that one; or gone from its last port
@@ -79,7 +79,7 @@ unfoldable pub run : Plan → ℕ → Cycles → ℕ → Network
 run p T cycles zero = running (λ f k. source)
 run p T cycles (suc c) = next p T cycles c (run p T cycles c)
 
--- A sent frame is wholly sent between S after its cycle's start and S before its end: the end of its sending in cycle c may be
+-- Where cycles are aligned, a sent frame is wholly sent between S after its cycle's start and S before its end: the end of its sending in cycle c may be
 -- any whole instant from the one to the other, both included.
 pub record MayEnd (p : Plan) (T c end : ℕ) : Type 0 where
   pub opened : c * T + p .guard ≤ end

@@ -9,8 +9,9 @@ use lib.Dec.{eqb, lit≤}
 use Rattle.cqf.specs.Bounded.{sumTo, countTo, anyTo, allTo, elem, distinct, every, sublist}
 use Rattle.cqf.specs.Limits.{routeStride}
 use Rattle.cqf.specs.Plan.{Plan, noPlan, routeOf, present, periodOf, countOf, validPlan, validPort, validFlow}
-use Rattle.cqf.specs.Condition.{bitsOf, wireBits, ceilDiv, stretch, begun, frames, demand, window, capacity, workload, crossed, fails, failing}
-use Rattle.cqf.specs.Emission.{Emission, Keeps, cyclesOf}
+use Rattle.cqf.specs.Condition.{wireBits, ceilDiv, stretch, begun, frames, demand, window, capacity, workload, crossed, fails, failing}
+use Rattle.cqf.specs.Emission.{Emission, Keeps}
+use Rattle.cqf.specs.Cycles.{cyclesOf, aligned}
 use Rattle.cqf.specs.Run.{Places, source, advance, Network, running, stopped, run, queuedBits, overrunAt, overrun, Leaves}
 use Rattle.cqf.specs.LargeEnough.{Counterexample}
 
@@ -20,6 +21,7 @@ planK =
     record {
       guard = 1000;
       top = 1000000;
+      clock = noPlan .clock;
       rates = set (noPlan .rates) 0 100;
       blockings = noPlan .blockings;
       extras = noPlan .extras;
@@ -38,6 +40,7 @@ planK2 =
     record {
       guard = planK .guard;
       top = planK .top;
+      clock = planK .clock;
       rates = set (planK .rates) 1 1;
       blockings = set (planK .blockings) 1 2000;
       extras = planK .extras;
@@ -77,18 +80,18 @@ unfolding planK2 planK noPlan failing countTo fails crossed anyTo elem sublist c
 failures = (refl, refl)
 
 -- both flows of K emit at the cycle's start and once more as soon as they may
-early : Emission
+unfoldable pub early : Emission
 early zero = 0 ∷ 100000 ∷ []
 early (suc zero) = 0 ∷ 110000 ∷ []
 early (suc (suc f)) = []
 
-early-absent : (f : ℕ) → present planK f ≡ false → early f ≡ []
+pub early-absent : (f : ℕ) → present planK f ≡ false → early f ≡ []
 unfolding planK noPlan early
 early-absent zero h = absurd (true≢false h)
 early-absent (suc zero) h = absurd (true≢false h)
 early-absent (suc (suc f)) h = refl
 
-early-rising : (f k : ℕ) → suc k < length (early f) → getD (early f) k 0 ≤ getD (early f) (suc k) 0
+pub early-rising : (f k : ℕ) → suc k < length (early f) → getD (early f) k 0 ≤ getD (early f) (suc k) 0
 unfolding early
 early-rising zero zero h = lit≤ tt
 early-rising zero (suc k) h = absurd (omega arith)
@@ -96,7 +99,7 @@ early-rising (suc zero) zero h = lit≤ tt
 early-rising (suc zero) (suc k) h = absurd (omega arith)
 early-rising (suc (suc f)) k h = absurd (omega arith)
 
-early-spaced
+pub early-spaced
     : (f k : ℕ)
     → k + countOf planK f < length (early f)
     → getD (early f) k 0 + periodOf planK f ≤ getD (early f) (k + countOf planK f) 0
@@ -120,7 +123,14 @@ early-keeps =
 -- at 120,000 all four frames fall into cycle 0, and port 1 cannot send them in cycle 1
 broken : Counterexample planK 120000
 unfolding planK noPlan early run overrun queuedBits overrunAt anyTo sumTo countTo sublist capacity window workload wireBits
-broken = record { emission = early; keeps = early-keeps; overruns = record { cycle = 2; unsent = refl } }
+broken =
+    record {
+      emission = early;
+      keeps = early-keeps;
+      cycles = cyclesOf 120000 early;
+      permitted = aligned refl (λ f. refl);
+      overruns = record { cycle = 2; unsent = refl };
+    }
 
 -- at 72,000, where the slack is 0, port 1 sends just as much as it can in cycles 1 and 2
 isRunning : Network → Bool

@@ -11,6 +11,7 @@ use Rattle.cqf.specs.Bounded.{sumTo, countTo, anyTo, allTo, elem, distin
 use Rattle.cqf.specs.Plan.{Plan, noPlan, present, periodOf, countOf, jitterOf, validPlan, validPort, validFlow}
 use Rattle.cqf.specs.Condition.{wireBits, ceilDiv, stretch, begun, frames, demand, window, capacity, workload, crossed, fails, failing}
 use Rattle.cqf.specs.Emission.{Emission, Released, Keeps}
+use Rattle.cqf.specs.Cycles.{cyclesOf, aligned}
 use Rattle.cqf.specs.Run.{run, queuedBits, overrunAt, overrun}
 use Rattle.cqf.specs.LargeEnough.{Counterexample}
 use Rattle.cqf.specs.Worked.{planK}
@@ -21,6 +22,7 @@ planKJ =
     record {
       guard = planK .guard;
       top = planK .top;
+      clock = planK .clock;
       rates = planK .rates;
       blockings = planK .blockings;
       extras = planK .extras;
@@ -110,4 +112,11 @@ only keeps =
 -- at 72,001 all three frames fall into cycle 0, and port 1 cannot send them in cycle 1
 broken : Counterexample planKJ 72001
 unfolding planKJ planK noPlan close run overrun queuedBits overrunAt anyTo sumTo countTo sublist capacity window workload wireBits
-broken = record { emission = close; keeps = close-keeps; overruns = record { cycle = 2; unsent = refl } }
+broken =
+    record {
+      emission = close;
+      keeps = close-keeps;
+      cycles = cyclesOf 72001 close;
+      permitted = aligned refl (λ f. refl);
+      overruns = record { cycle = 2; unsent = refl };
+    }

@@ -9,6 +9,7 @@ pub mod Tabulate
 pub mod Ceil
 pub mod Begun
 pub mod Jitter
+pub mod Partition
 pub mod Arrivals
 pub mod Burst
 pub mod Condition
@@ -17,6 +18,7 @@ pub mod Slack
 pub mod Places
 pub mod Sending
 pub mod Accepted
+pub mod Worst
 pub mod Refused
 pub mod Monotone
 pub mod Need

@@ -4,6 +4,7 @@ use mathlib.Core.Path.{_≡_}
 use mathlib.Core.Bool.{Bool}
 use mathlib.Core.List.{List}
 use Rattle.cqf.specs.Plan.{Plan}
+use Rattle.numbers.specs.Clock.{clockOf}
 use Rattle.plan.specs.Answer.{faultNumber}
 use Rattle.plan.specs.Draft.{Draft}
 use Rattle.plan.specs.Reading.{PlanRead, accepted, rejected, Step, stop, more, namesAbsent, jitterAbsent, extraAbsent, closing}
@@ -19,6 +20,7 @@ draftOf t rates blockings extras periods counts lengths jitters hops routes seen
       tables = record {
         guard = t .guard;
         top = t .top;
+        clock = clockOf (t .clock);
         rates = rates;
         blockings = blockings;
         extras = extras;

@@ -35,6 +35,7 @@ fn field_repeats(field: Field, route: &[u8]) -> bool
         Field::Flow(_) => route_repeats(route),
         Field::Extra(_) => false,
         Field::Jitter(_) => false,
+        Field::Clock(_) => false,
     }
 }
 

@@ -9,6 +9,7 @@ use crate::first::first_absent;
 use crate::store::HEADER_KEY;
 use crate::store::KEYS;
 use crate::store::Totals;
+use numbers::clock::Clock;
 use plan::Fault;
 use tables::Planner;
 ghost use mathlib.Core.Path.{_≡_};
@@ -88,6 +89,11 @@ pub fn load(planner: Planner, plan: &[u8]) -> LoadOutcome
     let mut totals = Totals {
         guard: 0,
         top: 0,
+        clock: Clock {
+            drift: 0,
+            timing_jitter: 0,
+            sync_error: 0,
+        },
         ports: 0,
         flows: 0,
     };
@@ -121,11 +127,13 @@ pub fn load(planner: Planner, plan: &[u8]) -> LoadOutcome
         }
     }
     let answer = close(plan, totals.ports, totals.flows, &rates, &periods, &seen);
+    let clock = totals.clock;
     match answer {
         LoadAnswer::Held { ports: _, flows: _ } => {
             let mut held = planner;
             held.guard = totals.guard;
             held.top = totals.top;
+            held.clock = clock;
             held.rates = rates;
             held.blockings = blockings;
             held.extras = extras;

@@ -1,5 +1,6 @@
 // A field stored into the columns of a plan that is being read.
 
+use numbers::clock::Clock;
 use plan::Extra;
 use plan::Field;
 use plan::Flow;
@@ -22,15 +23,18 @@ ghost use Rattle.plan.specs.Ranges.{PortOk, FlowOk, ExtraOk, JitterOk, NumbersO
 ghost use Rattle.plan.specs.Answer.{fieldOf};
 ghost use Rattle.loading.specs.Loading.{draftOf};
 
-// A flag for each key: the header's, the ports', the flows', those of the ports' extra bytes and of the flows' jitter.
+// A flag for each key: the header's, the ports', the flows', those of the ports' extra bytes and of the flows' jitter, the clock's.
 pub(crate) const HEADER_KEY: usize = 0;
 
-pub(crate) const KEYS: usize = 1 + PORTS + FLOWS + PORTS + FLOWS;
+const CLOCK_KEY: usize = 1 + PORTS + FLOWS + PORTS + FLOWS;
 
-// The header's numbers, and how many port and flow fields were read.
+pub(crate) const KEYS: usize = CLOCK_KEY + 1;
+
+// The header's and the clock's numbers, and how many port and flow fields were read.
 pub(crate) struct Totals {
     pub guard: u32,
     pub top: u32,
+    pub clock: Clock,
     pub ports: u16,
     pub flows: u16,
 }
@@ -44,6 +48,7 @@ pub(crate) fn key_of(field: Field) -> usize
         Field::Flow(x) => PORTS + x.number as usize,
         Field::Extra(x) => PORTS + FLOWS + x.number as usize,
         Field::Jitter(x) => PORTS + FLOWS + PORTS + x.number as usize,
+        Field::Clock(_) => CLOCK_KEY,
     }
 }
 
@@ -148,6 +153,10 @@ pub(crate) fn store_field(
         }
         Field::Jitter(x) => {
             store_jitter(jitters, x);
+            sums
+        }
+        Field::Clock(x) => {
+            sums.clock = x;
             sums
         }
     }

@@ -1,12 +1,13 @@
 -- Document 01's number and values for each case of the answers.
 use Prim.Native.Nat.{ℕ}
+use Rattle.numbers.specs.Clock.{clockOf}
 use Rattle.plan.specs.declared.Fault.{Fault}
 use Rattle.plan.specs.declared.Fault.the-variants.{Size, Truncated, UnknownTag, WrongLength, OutOfRange, Duplicate, RepeatedPort, Incomplete, UnknownPort}
 use Rattle.plan.specs.declared.Head.{Head}
 use Rattle.plan.specs.declared.Head.the-variants.{Whole, Cut}
 use Rattle.plan.specs.declared.Field as declaredField
 use Rattle.plan.specs.declared.FieldRead as declaredRead
-use Rattle.plan.specs.Field.{HeadRead, head, cut, Field, header, port, flow, extra, jitter, FieldRead, field, refused}
+use Rattle.plan.specs.Field.{HeadRead, head, cut, Field, header, port, flow, extra, jitter, clock, FieldRead, field, refused}
 
 abbrev pub faultNumber : Fault → ℕ
 faultNumber Size = 1
@@ -34,6 +35,7 @@ fieldOf (declaredField.Field.Port p) = port (p .number) (p .rate) (p .blocking)
 fieldOf (declaredField.Field.Flow f) = flow (f .number) (f .period) (f .count) (f .length) (f .hops)
 fieldOf (declaredField.Field.Extra e) = extra (e .number) (e .extra)
 fieldOf (declaredField.Field.Jitter j) = jitter (j .number) (j .jitter)
+fieldOf (declaredField.Field.Clock k) = clock (clockOf k)
 
 abbrev pub fieldReadOf : declaredRead.FieldRead → FieldRead
 fieldReadOf (declaredRead.FieldRead.Field x next) = field (fieldOf x) next

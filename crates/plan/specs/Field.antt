@@ -6,6 +6,7 @@ use lib.Dec.{eqb}
 use lib.ListN.{length, getD, drop}
 use Rattle.cqf.specs.Bounded.{every, distinct}
 use Rattle.cqf.specs.Limits.{guardOk, topOk, portOk, rateOk, lengthOk, blockingOk, extraOk, flowOk, periodOk, countOk, jitterOk, hopsOk}
+use Rattle.cqf.specs.Plan.{Clock, clockOk}
 use Rattle.plan.specs.Bytes.{number2, number4, numbers2, headSize, tagAt, sizeAt, wholeAt, valueAt}
 
 -- a field's numbers. A flow's route stays in its value; hops is how many ports it has.
@@ -15,6 +16,7 @@ pub data Field : Type 0 where
   flow : (number period count length hops : ℕ) → Field
   extra : (number bytes : ℕ) → Field
   jitter : (number ns : ℕ) → Field
+  clock : (numbers : Clock) → Field
 
 -- a field's head: its tag and its value's length, or cut where the plan does not hold the whole field (refusal 2)
 pub data HeadRead : Type 0 where
@@ -50,6 +52,9 @@ extraTag = 4
 abbrev pub jitterTag : ℕ
 jitterTag = 5
 
+abbrev pub clockTag : ℕ
+clockTag = 6
+
 abbrev pub headerSize : ℕ
 headerSize = 8
 
@@ -61,6 +66,9 @@ extraSize = 4
 
 abbrev pub jitterSize : ℕ
 jitterSize = 6
+
+abbrev pub clockSize : ℕ
+clockSize = 12
 
 -- a flow's value before its route
 abbrev pub flowSize : ℕ
@@ -133,16 +141,28 @@ jitterIn v at next =
     (unless 5 at (flowOk (number2 v 0) && jitterOk (number4 v 2))
     (field (jitter (number2 v 0) (number4 v 2)) next))
 
+-- the three numbers in a clock field's value
+abbrev pub clockNumbers : List ℕ → Clock
+clockNumbers v = record { drift = number4 v 0; timingJitter = number4 v 4; syncError = number4 v 8 }
+
+unfoldable pub clockIn : List ℕ → ℕ → ℕ → FieldRead
+unfolding number4
+clockIn v at next =
+    unless 4 at (eqb (length v) clockSize)
+    (unless 5 at (clockOk (clockNumbers v))
+    (field (clock (clockNumbers v)) next))
+
 -- the field by its tag: test 3
 unfoldable pub fieldIn : ℕ → List ℕ → ℕ → ℕ → FieldRead
-unfolding headerIn portInValue flowIn extraIn jitterIn
+unfolding headerIn portInValue flowIn extraIn jitterIn clockIn
 fieldIn tag v at next =
     cond (eqb tag headerTag) (headerIn v at next)
     (cond (eqb tag portTag) (portInValue v at next)
     (cond (eqb tag flowTag) (flowIn v at next)
     (cond (eqb tag extraTag) (extraIn v at next)
     (cond (eqb tag jitterTag) (jitterIn v at next)
-    (refused 3 at)))))
+    (cond (eqb tag clockTag) (clockIn v at next)
+    (refused 3 at))))))
 
 -- the field at this offset: test 2 first
 unfoldable pub fieldAt : List ℕ → ℕ → FieldRead

@@ -4,8 +4,9 @@ use mathlib.Core.Path.{_≡_}
 use mathlib.Core.List.{List, [], _∷_, flatten, List·Permᴰ}
 use Prim.Native.Nat.{ℕ, _+_, _≤_}
 use lib.ListN.{length}
+use Rattle.cqf.specs.Plan.{equalClocks}
 use Rattle.plan.specs.Bytes.{headSize, sizeAt}
-use Rattle.plan.specs.Field.{Field, header, port, flow, extra, jitter, field, fieldAt}
+use Rattle.plan.specs.Field.{Field, header, port, flow, extra, jitter, clock, field, fieldAt}
 
 -- bytes that are one whole field: a head, and as many bytes after it as the head says
 pub record IsField (b : List ℕ) : Type 0 where
@@ -32,6 +33,7 @@ SaysNothing (port n rate blocking) = ⊥
 SaysNothing (flow n period count length hops) = ⊥
 SaysNothing (extra n bytes) = bytes ≡ 0
 SaysNothing (jitter n ns) = ns ≡ 0
+SaysNothing (clock k) = k ≡ equalClocks
 
 -- s is the fields of t, and among them, anywhere, one that says nothing
 pub record ZeroMore (s t : List ℕ) : Type 0 where

@@ -1,14 +1,14 @@
 -- A field's key: one number for each thing that a plan may say once. Test 6 asks for the key, and fields of different keys may
 -- stand in any order. The header has key 0, port n key n, flow n the n-th key after the ports, the extra bytes of port n the n-th
--- after the flows, the jitter of flow n the n-th after those; a later kind goes on from there.
+-- after the flows, the jitter of flow n the n-th after those, the clock the one after these; a later kind goes on from there.
 use Prim.Native.Nat.{ℕ, _+_}
 use Rattle.cqf.specs.Limits.{portSlots, flowSlots}
-use Rattle.plan.specs.Field.{Field, header, port, flow, extra, jitter}
+use Rattle.plan.specs.Field.{Field, header, port, flow, extra, jitter, clock}
 
 abbrev pub headerKey : ℕ
 headerKey = 0
 
--- the key of port 1, of flow 1, of port 1's extra bytes, of flow 1's jitter, and the first that no field has
+-- the key of port 1, of flow 1, of port 1's extra bytes, of flow 1's jitter, of the clock, and the first that no field has
 abbrev pub portKeys : ℕ
 portKeys = headerKey + 1
 
@@ -21,8 +21,11 @@ extraKeys = flowKeys + flowSlots
 abbrev pub jitterKeys : ℕ
 jitterKeys = extraKeys + portSlots
 
+abbrev pub clockKey : ℕ
+clockKey = jitterKeys + flowSlots
+
 abbrev pub keySlots : ℕ
-keySlots = jitterKeys + flowSlots
+keySlots = clockKey + 1
 
 -- numbers are from 1 on
 abbrev pub keyOf : Field → ℕ
@@ -31,3 +34,4 @@ keyOf (port n rate blocking) = headerKey + n
 keyOf (flow n period count length hops) = portSlots + n
 keyOf (extra n bytes) = portSlots + flowSlots + n
 keyOf (jitter n ns) = portSlots + flowSlots + portSlots + n
+keyOf (clock k) = clockKey

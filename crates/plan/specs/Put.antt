@@ -1,4 +1,4 @@
--- What a field puts into a column of the tables, or into a number that stands alone, if anything.
+-- What a field puts into a column of the tables, or in place of what stands alone, if anything.
 use Prim.Native.Nat.{ℕ}
 use mathlib.Core.List.{List}
 use mathlib.Core.Option.{Option, some, none}
@@ -16,7 +16,7 @@ put l keep = l
 put l (number slot value) = set l slot value
 put l (run position values) = sets l position values
 
--- the number that is given, or the one before
-abbrev pub given : ℕ → Option ℕ → ℕ
-given n (some m) = m
-given n none = n
+-- what is given, or what was before
+abbrev pub given : {A : Type 0} → A → Option A → A
+given a (some b) = b
+given a none = a

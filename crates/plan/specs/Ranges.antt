@@ -6,7 +6,8 @@ use mathlib.Core.Bool.{true}
 use lib.ListN.{length}
 use Rattle.cqf.specs.Bounded.{every}
 use Rattle.cqf.specs.Limits.{guardOk, topOk, portOk, rateOk, lengthOk, blockingOk, extraOk, flowOk, periodOk, countOk, jitterOk, hopsOk}
-use Rattle.plan.specs.Field.{Field, header, port, flow, extra, jitter}
+use Rattle.cqf.specs.Plan.{clockOk}
+use Rattle.plan.specs.Field.{Field, header, port, flow, extra, jitter, clock}
 use Rattle.plan.specs.Kind.{ofFlow}
 
 pub record HeaderOk (g t : ℕ) : Type 0 where
@@ -40,6 +41,7 @@ NumbersOk (port n r b) = PortOk n r b
 NumbersOk (flow n p c l h) = FlowOk n p c l h
 NumbersOk (extra n b) = ExtraOk n b
 NumbersOk (jitter n j) = JitterOk n j
+NumbersOk (clock k) = clockOk k ≡ true
 
 -- a route of h ports, each with a number in range
 pub record RouteOk (h : ℕ) (r : List ℕ) : Type 0 where

@@ -3,9 +3,9 @@ use Prim.Native.Nat.{ℕ, _-_, _*_}
 use mathlib.Core.List.{List}
 use mathlib.Core.Option.{Option, some, none}
 use Rattle.cqf.specs.Limits.{routeStride}
-use Rattle.cqf.specs.Plan.{Plan}
+use Rattle.cqf.specs.Plan.{Clock, Plan}
 use Rattle.plan.specs.Field.{Field}
-use Rattle.plan.specs.Kind.{ofHeader, ofPort, ofFlow, ofExtra, ofJitter}
+use Rattle.plan.specs.Kind.{ofHeader, ofPort, ofFlow, ofExtra, ofJitter, ofClock}
 use Rattle.plan.specs.Put.{Put, keep, number, run, put, given}
 
 -- a number of the header, of a port, of a flow: into the slot of its number
@@ -24,6 +24,9 @@ putsGuard = headerNumber (λ guard top. guard)
 
 abbrev pub putsTop : Field → Option ℕ
 putsTop = headerNumber (λ guard top. top)
+
+abbrev pub putsClock : Field → Option Clock
+putsClock = ofClock none (λ k. some k)
 
 abbrev pub putsRate : Field → Put
 putsRate = portNumber (λ n rate blocking. rate)
@@ -57,6 +60,7 @@ store p x r =
     record {
       guard = given (p .guard) (putsGuard x);
       top = given (p .top) (putsTop x);
+      clock = given (p .clock) (putsClock x);
       rates = put (p .rates) (putsRate x);
       blockings = put (p .blockings) (putsBlocking x);
       extras = put (p .extras) (putsExtra x);

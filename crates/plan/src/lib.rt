@@ -1,5 +1,6 @@
 // The plan's bytes: a field's head and value, the fields, and the tests of one field.
 
+use numbers::clock::Clock;
 ghost use mathlib.Core.Path.{_≡_};
 ghost use Rattle.plan.specs.Answer.{faultNumber, headNumber};
 
@@ -76,6 +77,7 @@ pub enum Field {
     Flow(Flow),
     Extra(Extra),
     Jitter(Jitter),
+    Clock(Clock),
 }
 
 pub enum FieldRead {

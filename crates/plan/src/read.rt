@@ -9,6 +9,7 @@ use crate::Header;
 use crate::Port;
 use crate::number::be16;
 use crate::number::be32;
+use crate::optional::clock_of;
 use crate::optional::extra_of;
 use crate::optional::jitter_of;
 use crate::ranges::flow_in_range;
@@ -33,6 +34,8 @@ pub const FLOW_TAG: u8 = 3;
 pub const EXTRA_TAG: u8 = 4;
 
 pub const JITTER_TAG: u8 = 5;
+
+pub const CLOCK_TAG: u8 = 6;
 
 const HEADER_SIZE: usize = 8;
 
@@ -143,6 +146,9 @@ fn field_of(tag: u8, value: &[u8], at: usize, next: usize) -> FieldRead
     }
     if tag == JITTER_TAG {
         return jitter_of(value, at, next);
+    }
+    if tag == CLOCK_TAG {
+        return clock_of(value, at, next);
     }
     FieldRead::Refused {
         fault: Fault::UnknownTag,

@@ -9,7 +9,7 @@ use Rattle.cqf.specs.Condition.{wireBits, ceilDiv, stretch, begun, frames, dema
 use Rattle.cqf.specs.Worked.{planK}
 use Rattle.cqf.specs.WorkedJitter.{planKJ}
 use Rattle.plan.specs.Bytes.{number2, number4, sizeAt, wholeAt, valueAt, numbers2}
-use Rattle.plan.specs.Field.{routePorts, routeIn, headerIn, portInValue, flowIn, extraIn, jitterIn, fieldIn, fieldAt, repeats}
+use Rattle.plan.specs.Field.{routePorts, routeIn, headerIn, portInValue, flowIn, extraIn, jitterIn, clockIn, fieldIn, fieldAt, repeats}
 use Rattle.plan.specs.Store.{store}
 use Rattle.plan.specs.Draft.{blank, added}
 use Rattle.plan.specs.Reading.{stepAt, namesAbsent, jitterAbsent, extraAbsent, firstFrom, firstAbsent, closing, readFrom, readAs, readPlan, accepted}
@@ -20,11 +20,11 @@ use Rattle.plan_k.specs.PlanK.{bytesK, Line, at, fails-one, linesOf}
 use Rattle.plan_k.specs.Extra.{extra, flow3}
 
 -- the field that says a jitter for flow n, by the last three bytes of the jitter
-unfoldable jitter : (n a b c : ℕ) → List ℕ
+unfoldable pub jitter : (n a b c : ℕ) → List ℕ
 jitter n a b c = 0x05 ∷ 0x00 ∷ 0x06 ∷ 0x00 ∷ n ∷ 0x00 ∷ a ∷ b ∷ c ∷ []
 
 -- 30,000 ns for flow 1, and 38,000 ns for flow 2
-unfoldable late1 : List ℕ
+unfoldable pub late1 : List ℕ
 unfolding jitter
 late1 = jitter 1 0x00 0x75 0x30
 
@@ -34,12 +34,12 @@ late2 = jitter 2 0x00 0x94 0x70
 
 -- a field that says 0 leaves K as it is, with one port and two flows; it may stand before its flow
 readZero : readPlan (jitter 1 0x00 0x00 0x00 ++ bytesK) ≡ accepted planK 1 2
-unfolding jitter bytesK planK noPlan readPlan readAs readFrom blank stepAt fieldAt fieldIn headerIn portInValue flowIn extraIn jitterIn number2 number4 sizeAt wholeAt valueAt numbers2 routePorts routeIn repeats every distinct elem store added closing firstFrom firstAbsent namesAbsent jitterAbsent extraAbsent
+unfolding jitter bytesK planK noPlan readPlan readAs readFrom blank stepAt fieldAt fieldIn headerIn portInValue flowIn extraIn jitterIn clockIn number2 number4 sizeAt wholeAt valueAt numbers2 routePorts routeIn repeats every distinct elem store added closing firstFrom firstAbsent namesAbsent jitterAbsent extraAbsent
 readZero = refl
 
 -- with the second field the tables are those that are worked out in cqf
 readLate2 : readPlan (late2 ++ bytesK) ≡ accepted planKJ 1 2
-unfolding late2 jitter bytesK planKJ planK noPlan readPlan readAs readFrom blank stepAt fieldAt fieldIn headerIn portInValue flowIn extraIn jitterIn number2 number4 sizeAt wholeAt valueAt numbers2 routePorts routeIn repeats every distinct elem store added closing firstFrom firstAbsent namesAbsent jitterAbsent extraAbsent
+unfolding late2 jitter bytesK planKJ planK noPlan readPlan readAs readFrom blank stepAt fieldAt fieldIn headerIn portInValue flowIn extraIn jitterIn clockIn number2 number4 sizeAt wholeAt valueAt numbers2 routePorts routeIn repeats every distinct elem store added closing firstFrom firstAbsent namesAbsent jitterAbsent extraAbsent
 readLate2 = refl
 
 -- 30,000 ns for flow 1: two of its frames from 70,001 on, so the least duration is 92,000; the margin-safe one stays at 142,000
@@ -56,7 +56,7 @@ table1 =
     ∷ []
 
 tableOf1 : linesOf (after (load (late1 ++ bytesK) ∷ [])) table1 ≡ table1
-unfolding late1 jitter bytesK table1 after afterFrom loadLeaves noPlan readPlan readAs readFrom blank stepAt fieldAt fieldIn headerIn portInValue flowIn extraIn jitterIn number2 number4 sizeAt wholeAt valueAt numbers2 routePorts routeIn repeats every distinct elem store added closing firstFrom firstAbsent namesAbsent jitterAbsent extraAbsent checkAnswer slackAnswer validPlan validPort validFlow allTo anyTo sublist admissible failing lowestFailing lowest countTo fails crossed capacity window workload demand sumTo frames begun stretch ceilDiv wireBits slack
+unfolding late1 jitter bytesK table1 after afterFrom loadLeaves noPlan readPlan readAs readFrom blank stepAt fieldAt fieldIn headerIn portInValue flowIn extraIn jitterIn clockIn number2 number4 sizeAt wholeAt valueAt numbers2 routePorts routeIn repeats every distinct elem store added closing firstFrom firstAbsent namesAbsent jitterAbsent extraAbsent checkAnswer slackAnswer validPlan validPort validFlow allTo anyTo sublist admissible failing lowestFailing lowest countTo fails crossed capacity window workload demand sumTo frames begun stretch ceilDiv wireBits slack
 tableOf1 = refl
 
 -- 38,000 ns for flow 2: the least duration stays at 72,000, 1 ns more is refused, and the margin-safe one is 212,000
@@ -75,7 +75,7 @@ table2 =
     ∷ []
 
 tableOf2 : linesOf (after (load (late2 ++ bytesK) ∷ [])) table2 ≡ table2
-unfolding late2 jitter bytesK table2 after afterFrom loadLeaves noPlan readPlan readAs readFrom blank stepAt fieldAt fieldIn headerIn portInValue flowIn extraIn jitterIn number2 number4 sizeAt wholeAt valueAt numbers2 routePorts routeIn repeats every distinct elem store added closing firstFrom firstAbsent namesAbsent jitterAbsent extraAbsent checkAnswer slackAnswer validPlan validPort validFlow allTo anyTo sublist admissible failing lowestFailing lowest countTo fails crossed capacity window workload demand sumTo frames begun stretch ceilDiv wireBits slack
+unfolding late2 jitter bytesK table2 after afterFrom loadLeaves noPlan readPlan readAs readFrom blank stepAt fieldAt fieldIn headerIn portInValue flowIn extraIn jitterIn clockIn number2 number4 sizeAt wholeAt valueAt numbers2 routePorts routeIn repeats every distinct elem store added closing firstFrom firstAbsent namesAbsent jitterAbsent extraAbsent checkAnswer slackAnswer validPlan validPort validFlow allTo anyTo sublist admissible failing lowestFailing lowest countTo fails crossed capacity window workload demand sumTo frames begun stretch ceilDiv wireBits slack
 tableOf2 = refl
 
 -- 10,000,001 ns, and a flow 0; a second field of a flow whose first said 0; an absent flow, with extra bytes of an absent port before
@@ -96,5 +96,5 @@ refusals
     ∷ refusal 9 (7 ∷ [])
     ∷ refusal 9 (61 ∷ [])
     ∷ []
-unfolding jitter late1 extra flow3 bytesK loadAnswer noPlan readPlan readAs readFrom blank stepAt fieldAt fieldIn headerIn portInValue flowIn extraIn jitterIn number2 number4 sizeAt wholeAt valueAt numbers2 routePorts routeIn repeats every distinct elem store added closing firstFrom firstAbsent namesAbsent jitterAbsent extraAbsent
+unfolding jitter late1 extra flow3 bytesK loadAnswer noPlan readPlan readAs readFrom blank stepAt fieldAt fieldIn headerIn portInValue flowIn extraIn jitterIn clockIn number2 number4 sizeAt wholeAt valueAt numbers2 routePorts routeIn repeats every distinct elem store added closing firstFrom firstAbsent namesAbsent jitterAbsent extraAbsent
 refusals = refl

@@ -2,4 +2,5 @@
 pub mod PlanK
 pub mod Extra
 pub mod Jitter
+pub mod Clock
 pub mod Order

@@ -9,7 +9,7 @@ use Rattle.cqf.specs.Plan.{Plan, noPlan, validPlan, validPort, validFlow}
 use Rattle.cqf.specs.Condition.{bitsOf, wireBits, ceilDiv, stretch, begun, frames, demand, window, capacity, workload, slack, crossed, fails, failing, lowestFailing, admissible}
 use Rattle.cqf.specs.Worked.{planK}
 use Rattle.plan.specs.Bytes.{number2, number4, sizeAt, wholeAt, valueAt, numbers2}
-use Rattle.plan.specs.Field.{routePorts, routeIn, headerIn, portInValue, flowIn, extraIn, jitterIn, fieldIn, fieldAt, repeats}
+use Rattle.plan.specs.Field.{routePorts, routeIn, headerIn, portInValue, flowIn, extraIn, jitterIn, clockIn, fieldIn, fieldAt, repeats}
 use Rattle.plan.specs.Store.{store}
 use Rattle.plan.specs.Draft.{blank, added}
 use Rattle.plan.specs.Reading.{stepAt, namesAbsent, jitterAbsent, extraAbsent, firstFrom, firstAbsent, closing, readFrom, readAs, readPlan, accepted}
@@ -41,7 +41,7 @@ fails-one = refusal 21 (1 ∷ 1 ∷ [])
 abbrev pub linesOf : Plan → List Line → List Line
 linesOf p = map (λ (r : Line). at (r .duration) (checkAnswer p (r .duration)) (slackAnswer p 1 (r .duration)))
 
-table : List Line
+unfoldable pub table : List Line
 table =
     at 71999 fails-one (result (negsuc 99))
     ∷ at 72000 (result tt) (result (pos 0))
@@ -58,20 +58,20 @@ table =
 
 -- K is accepted, with one port and two flows, and its tables are planK
 readK : readPlan bytesK ≡ accepted planK 1 2
-unfolding bytesK planK noPlan readPlan readAs readFrom blank stepAt fieldAt fieldIn headerIn portInValue flowIn extraIn jitterIn number2 number4 sizeAt wholeAt valueAt numbers2 routePorts routeIn repeats every distinct elem store added closing firstFrom firstAbsent namesAbsent jitterAbsent extraAbsent
+unfolding bytesK planK noPlan readPlan readAs readFrom blank stepAt fieldAt fieldIn headerIn portInValue flowIn extraIn jitterIn clockIn number2 number4 sizeAt wholeAt valueAt numbers2 routePorts routeIn repeats every distinct elem store added closing firstFrom firstAbsent namesAbsent jitterAbsent extraAbsent
 readK = refl
 
 -- K is the plan held after its load
 pub heldK : heldBytes (load bytesK ∷ []) ≡ some bytesK
-unfolding bytesK noPlan heldBytes heldFrom readPlan readAs readFrom blank stepAt fieldAt fieldIn headerIn portInValue flowIn extraIn jitterIn number2 number4 sizeAt wholeAt valueAt numbers2 routePorts routeIn repeats every distinct elem store added closing firstFrom firstAbsent namesAbsent jitterAbsent extraAbsent
+unfolding bytesK noPlan heldBytes heldFrom readPlan readAs readFrom blank stepAt fieldAt fieldIn headerIn portInValue flowIn extraIn jitterIn clockIn number2 number4 sizeAt wholeAt valueAt numbers2 routePorts routeIn repeats every distinct elem store added closing firstFrom firstAbsent namesAbsent jitterAbsent extraAbsent
 heldK = refl
 
 -- every line of the table, of the planner that holds the plan in K's bytes
 tableOfK : linesOf (after (load bytesK ∷ [])) table ≡ table
-unfolding bytesK table after afterFrom loadLeaves noPlan readPlan readAs readFrom blank stepAt fieldAt fieldIn headerIn portInValue flowIn extraIn jitterIn number2 number4 sizeAt wholeAt valueAt numbers2 routePorts routeIn repeats every distinct elem store added closing firstFrom firstAbsent namesAbsent jitterAbsent extraAbsent checkAnswer slackAnswer validPlan validPort validFlow allTo anyTo sublist admissible failing lowestFailing lowest countTo fails crossed capacity window workload demand sumTo frames begun stretch ceilDiv wireBits slack
+unfolding bytesK table after afterFrom loadLeaves noPlan readPlan readAs readFrom blank stepAt fieldAt fieldIn headerIn portInValue flowIn extraIn jitterIn clockIn number2 number4 sizeAt wholeAt valueAt numbers2 routePorts routeIn repeats every distinct elem store added closing firstFrom firstAbsent namesAbsent jitterAbsent extraAbsent checkAnswer slackAnswer validPlan validPort validFlow allTo anyTo sublist admissible failing lowestFailing lowest countTo fails crossed capacity window workload demand sumTo frames begun stretch ceilDiv wireBits slack
 tableOfK = refl
 
 -- a field cut short is 2 at its tag and not 3, whether its tag is known or not
 cutShort : map (λ (tag : ℕ). loadAnswer (tag ∷ 0x00 ∷ 0x01 ∷ [])) (0x04 ∷ 0x07 ∷ []) ≡ refusal 2 (0 ∷ []) ∷ refusal 2 (0 ∷ []) ∷ []
-unfolding loadAnswer readPlan readAs readFrom blank stepAt fieldAt fieldIn headerIn portInValue flowIn extraIn jitterIn number2 number4 sizeAt wholeAt valueAt numbers2 routePorts routeIn every
+unfolding loadAnswer readPlan readAs readFrom blank stepAt fieldAt fieldIn headerIn portInValue flowIn extraIn jitterIn clockIn number2 number4 sizeAt wholeAt valueAt numbers2 routePorts routeIn every
 cutShort = refl

@@ -17,7 +17,8 @@ pub record Refuses (answer : Answer (Unit {0})) : Type 0 where
   pub is : answer ≡ refusal 21 (lowest ∷ count ∷ [])
 
 -- An answer that refuses T, and one that accepts it. T is refused exactly when some emission that keeps every flow's contract
--- leaves a frame unsent; it is accepted exactly when none does; and then every frame of every such emission is on time.
+-- leaves a frame unsent in some permitted cycles; it is accepted exactly when none does; and then every frame of every such
+-- emission is on time in all of them.
 pub record Means (p : Plan) (T : ℕ) (refuses accepts : Type 0) : Type 0 where
   pub refused : refuses ↔ Counterexample p T
   pub accepted : accepts ↔ (Counterexample p T → ⊥)

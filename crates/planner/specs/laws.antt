@@ -1,6 +1,7 @@
 -- Laws of the calls.
 pub mod Calls
 pub mod Sums
+pub mod Stretched
 pub mod Sets
 pub mod Fails
 pub mod Topped

@@ -2,6 +2,7 @@
 use super::demand::demands;
 use super::failing::port_fails;
 use super::need::largest_need;
+use numbers::clock::Clock;
 use numbers::port::window;
 use tables::PORTS;
 ghost use mathlib.Core.Path.{_≡_};
@@ -10,6 +11,7 @@ ghost use lib.ListN.{length};
 ghost use Rattle.cqf.specs.Limits.{portSlots};
 ghost use Rattle.cqf.specs.Plan.{validPlan};
 ghost use Rattle.cqf.specs.Condition.{least};
+ghost use Rattle.numbers.specs.Clock.{clockOf};
 ghost use Rattle.tables.specs.Columns.{planBy};
 ghost use Rattle.planner.specs.Search.{Found};
 
@@ -18,6 +20,7 @@ ghost use Rattle.planner.specs.Search.{Found};
 pub(crate) fn climb<'a>(
     guard: u32,
     top: u32,
+    clock: Clock,
     rates: &'a [u32; 64],
     blockings: &'a [u16; 64],
     extras: &'a [u8; 64],
@@ -29,13 +32,14 @@ pub(crate) fn climb<'a>(
     routes: &'a [u8; 4096],
     out: &mut [u64],
 ) -> u64
-    requires { ⌜ (validPlan (planBy guard top (now rates) (now blockings) (now extras) (now periods) (now counts) (now lengths) (now jitters) (now hops) (now routes)) ≡ true) × (length (now out) ≡ portSlots) ⌝ }
-    ensures { λ r. ⌜ Found least (planBy guard top (now (rates .entry)) (now (blockings .entry)) (now (extras .entry)) (now (periods .entry)) (now (counts .entry)) (now (lengths .entry)) (now (jitters .entry)) (now (hops .entry)) (now (routes .entry))) r (now (out .exit)) ⌝ }
+    requires { ⌜ (validPlan (planBy guard top (clockOf clock) (now rates) (now blockings) (now extras) (now periods) (now counts) (now lengths) (now jitters) (now hops) (now routes)) ≡ true) × (length (now out) ≡ portSlots) ⌝ }
+    ensures { λ r. ⌜ Found least (planBy guard top (clockOf clock) (now (rates .entry)) (now (blockings .entry)) (now (extras .entry)) (now (periods .entry)) (now (counts .entry)) (now (lengths .entry)) (now (jitters .entry)) (now (hops .entry)) (now (routes .entry))) r (now (out .exit)) ⌝ }
 {
     let limit = top as u64;
     let mut t: u64 = 1;
     let found = loop {
         demands(
+            clock,
             extras,
             periods,
             counts,

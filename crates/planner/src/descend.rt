@@ -2,12 +2,14 @@
 use super::demand::demands;
 use super::need::larger;
 use super::need::largest_need;
+use numbers::clock::Clock;
 ghost use mathlib.Core.Path.{_≡_};
 ghost use mathlib.Core.Bool.{true};
 ghost use lib.ListN.{length};
 ghost use Rattle.cqf.specs.Limits.{portSlots};
 ghost use Rattle.cqf.specs.Plan.{validPlan};
 ghost use Rattle.cqf.specs.Condition.{marginSafe};
+ghost use Rattle.numbers.specs.Clock.{clockOf};
 ghost use Rattle.tables.specs.Columns.{planBy};
 ghost use Rattle.planner.specs.Search.{Found};
 
@@ -17,6 +19,7 @@ ghost use Rattle.planner.specs.Search.{Found};
 pub(crate) fn descend<'a>(
     guard: u32,
     top: u32,
+    clock: Clock,
     rates: &'a [u32; 64],
     blockings: &'a [u16; 64],
     extras: &'a [u8; 64],
@@ -28,13 +31,14 @@ pub(crate) fn descend<'a>(
     routes: &'a [u8; 4096],
     out: &mut [u64],
 ) -> u64
-    requires { ⌜ (validPlan (planBy guard top (now rates) (now blockings) (now extras) (now periods) (now counts) (now lengths) (now jitters) (now hops) (now routes)) ≡ true) × (length (now out) ≡ portSlots) ⌝ }
-    ensures { λ r. ⌜ Found marginSafe (planBy guard top (now (rates .entry)) (now (blockings .entry)) (now (extras .entry)) (now (periods .entry)) (now (counts .entry)) (now (lengths .entry)) (now (jitters .entry)) (now (hops .entry)) (now (routes .entry))) r (now (out .exit)) ⌝ }
+    requires { ⌜ (validPlan (planBy guard top (clockOf clock) (now rates) (now blockings) (now extras) (now periods) (now counts) (now lengths) (now jitters) (now hops) (now routes)) ≡ true) × (length (now out) ≡ portSlots) ⌝ }
+    ensures { λ r. ⌜ Found marginSafe (planBy guard top (clockOf clock) (now (rates .entry)) (now (blockings .entry)) (now (extras .entry)) (now (periods .entry)) (now (counts .entry)) (now (lengths .entry)) (now (jitters .entry)) (now (hops .entry)) (now (routes .entry))) r (now (out .exit)) ⌝ }
 {
     let limit = top as u64;
     let mut below = limit;
     let found = loop {
         demands(
+            clock,
             extras,
             periods,
             counts,
@@ -55,6 +59,7 @@ pub(crate) fn descend<'a>(
         return found;
     }
     demands(
+        clock,
         extras,
         periods,
         counts,

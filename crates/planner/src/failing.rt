@@ -1,5 +1,6 @@
 // Which ports fail at a duration, from each port's demand.
 use super::demand::demands;
+use numbers::clock::Clock;
 use numbers::frame::blocking_bits;
 use numbers::port::FailingPorts;
 use numbers::port::failing_ports;
@@ -12,6 +13,7 @@ ghost use lib.ListN.{length, getD};
 ghost use Rattle.cqf.specs.Limits.{portSlots, maxTop};
 ghost use Rattle.cqf.specs.Plan.{validPlan};
 ghost use Rattle.cqf.specs.Condition.{workloadOf, failsBy, mostDemand};
+ghost use Rattle.numbers.specs.Clock.{clockOf};
 ghost use Rattle.tables.specs.Columns.{planBy};
 ghost use Rattle.planner.specs.Failing.{setTo, failsIn, FailingAt};
 
@@ -63,6 +65,7 @@ pub(crate) fn failing_set<'a>(
 // for their top hold a valid plan.
 pub(crate) fn failing_at<'a>(
     guard: u32,
+    clock: Clock,
     rates: &'a [u32; 64],
     blockings: &'a [u16; 64],
     extras: &'a [u8; 64],
@@ -75,10 +78,11 @@ pub(crate) fn failing_at<'a>(
     duration: u64,
     out: &mut [u64],
 ) -> FailingPorts
-    requires { ⌜ (validPlan (planBy guard duration (now rates) (now blockings) (now extras) (now periods) (now counts) (now lengths) (now jitters) (now hops) (now routes)) ≡ true) × (length (now out) ≡ portSlots) ⌝ }
-    ensures { λ r. ⌜ FailingAt (planBy guard duration (now (rates .entry)) (now (blockings .entry)) (now (extras .entry)) (now (periods .entry)) (now (counts .entry)) (now (lengths .entry)) (now (jitters .entry)) (now (hops .entry)) (now (routes .entry))) duration (r .port) (r .count) (now (out .exit)) ⌝ }
+    requires { ⌜ (validPlan (planBy guard duration (clockOf clock) (now rates) (now blockings) (now extras) (now periods) (now counts) (now lengths) (now jitters) (now hops) (now routes)) ≡ true) × (length (now out) ≡ portSlots) ⌝ }
+    ensures { λ r. ⌜ FailingAt (planBy guard duration (clockOf clock) (now (rates .entry)) (now (blockings .entry)) (now (extras .entry)) (now (periods .entry)) (now (counts .entry)) (now (lengths .entry)) (now (jitters .entry)) (now (hops .entry)) (now (routes .entry))) duration (r .port) (r .count) (now (out .exit)) ⌝ }
 {
     demands(
+        clock,
         extras,
         periods,
         counts,

@@ -1,5 +1,7 @@
 // The demand of one port at a duration, in bits.
 use super::demand::flow_frames;
+use numbers::clock::Clock;
+use numbers::clock::stretch;
 use numbers::frame::wire_bits;
 use tables::FLOWS;
 use tables::STRIDE;
@@ -7,13 +9,14 @@ ghost use mathlib.Core.Path.{_≡_};
 ghost use mathlib.Core.List.{[]};
 ghost use Prim.Native.Nat.{suc, _+_, _*_, _≤_, _<_};
 ghost use Rattle.cqf.specs.Bounded.{elem, sublist};
-ghost use Rattle.cqf.specs.Limits.{portSlots, flowSlots, routeStride, maxTop, minPeriod, maxPeriod, maxCount, maxLength, maxJitter, maxExtra};
-ghost use Rattle.cqf.specs.Condition.{bitsOf, framesBy, demand};
+ghost use Rattle.cqf.specs.Limits.{portSlots, flowSlots, routeStride, minPeriod, maxPeriod, maxCount, maxLength, maxJitter, maxExtra, mostStretch};
+ghost use Rattle.cqf.specs.Condition.{bitsOf, framesBy, stretchBy, demand};
+ghost use Rattle.numbers.specs.Clock.{clockOf};
 ghost use Rattle.tables.specs.Columns.{columns, FlowsInRange, ExtrasInRange};
 
 // The wire bits of the frames that a flow brings to a port.
 fn flow_bits(period: u32, count: u16, bytes: u16, jitter: u32, extra: u8, stretch: u32) -> u64
-    requires { ⌜ (minPeriod ≤ period) × (period ≤ maxPeriod) × (count ≤ maxCount) × (bytes ≤ maxLength) × (jitter ≤ maxJitter) × (extra ≤ maxExtra) × (stretch ≤ maxTop) ⌝ }
+    requires { ⌜ (minPeriod ≤ period) × (period ≤ maxPeriod) × (count ≤ maxCount) × (bytes ≤ maxLength) × (jitter ≤ maxJitter) × (extra ≤ maxExtra) × (stretch ≤ mostStretch) ⌝ }
     ensures { λ r. ⌜ r ≡ framesBy count stretch jitter period * bitsOf bytes extra ⌝ }
 {
     flow_frames(period, count, jitter, stretch) * wire_bits(bytes, extra)
@@ -37,6 +40,7 @@ fn route_holds<'a>(routes: &'a [u8; 4096], base: usize, hops: usize, q: usize) -
 
 // The demand of the port in slot q.
 pub(crate) fn port_demand<'a>(
+    clock: Clock,
     extras: &'a [u8; 64],
     periods: &'a [u32; 256],
     counts: &'a [u16; 256],
@@ -48,10 +52,11 @@ pub(crate) fn port_demand<'a>(
     q: usize,
 ) -> u64
     requires { ⌜ FlowsInRange (now periods) (now counts) (now lengths) (now jitters) (now hops) (now routes) × ExtrasInRange (now extras) ⌝ }
-    requires { ⌜ (duration ≤ maxTop) × (q < portSlots) ⌝ }
-    ensures { λ r. ⌜ r ≡ demand (columns [] [] (now (extras .entry)) (now (periods .entry)) (now (counts .entry)) (now (lengths .entry)) (now (jitters .entry)) (now (hops .entry)) (now (routes .entry))) q duration ⌝ }
+    requires { ⌜ (stretchBy (clockOf clock) duration ≤ mostStretch) × (q < portSlots) ⌝ }
+    ensures { λ r. ⌜ r ≡ demand (columns (clockOf clock) [] [] (now (extras .entry)) (now (periods .entry)) (now (counts .entry)) (now (lengths .entry)) (now (jitters .entry)) (now (hops .entry)) (now (routes .entry))) q duration ⌝ }
 {
-    let stretch = duration as u32;
+    let at = duration as u32;
+    let over = stretch(clock, at) as u32;
     let mut bits: u64 = 0;
     let mut f: usize = 0;
     while f < FLOWS {
@@ -62,7 +67,7 @@ pub(crate) fn port_demand<'a>(
                 lengths[f],
                 jitters[f],
                 extras[q],
-                stretch,
+                over,
             );
         }
         f += 1;

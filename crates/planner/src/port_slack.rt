@@ -33,6 +33,7 @@ pub fn slack(planner: Planner, port: u64, duration: u64) -> SlackAnswer
     if !valid_tables(
         planner.guard,
         planner.top,
+        planner.clock,
         &planner.rates,
         &planner.blockings,
         &planner.extras,
@@ -53,6 +54,7 @@ pub fn slack(planner: Planner, port: u64, duration: u64) -> SlackAnswer
     }
     let q = (port - 1) as usize;
     let bits = port_demand(
+        planner.clock,
         &planner.extras,
         &planner.periods,
         &planner.counts,

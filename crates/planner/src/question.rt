@@ -18,6 +18,7 @@ pub fn check(planner: Planner, duration: u64) -> CheckAnswer
     if !valid_tables(
         planner.guard,
         planner.top,
+        planner.clock,
         &planner.rates,
         &planner.blockings,
         &planner.extras,
@@ -36,6 +37,7 @@ pub fn check(planner: Planner, duration: u64) -> CheckAnswer
     let mut out = [0u64; 64];
     let ports = failing_at(
         planner.guard,
+        planner.clock,
         &planner.rates,
         &planner.blockings,
         &planner.extras,

@@ -3,6 +3,7 @@ use super::SearchAnswer;
 use super::failing::failing_at;
 use super::seek::Goal;
 use super::seek::seek;
+use numbers::clock::Clock;
 use tables::PORTS;
 use tables::Planner;
 use tables::valid_tables;
@@ -11,6 +12,7 @@ ghost use mathlib.Core.Bool.{true};
 ghost use lib.ListN.{length};
 ghost use Rattle.cqf.specs.Limits.{portSlots};
 ghost use Rattle.cqf.specs.Plan.{validPlan};
+ghost use Rattle.numbers.specs.Clock.{clockOf};
 ghost use Rattle.tables.specs.Columns.{planBy};
 ghost use Rattle.tables.specs.Tables.{planOf};
 ghost use Rattle.planner.specs.Answer.{searchOf, leastOf, marginSafeOf};
@@ -22,6 +24,7 @@ fn answer<'a>(
     goal: Goal,
     guard: u32,
     top: u32,
+    clock: Clock,
     rates: &'a [u32; 64],
     blockings: &'a [u16; 64],
     extras: &'a [u8; 64],
@@ -33,13 +36,14 @@ fn answer<'a>(
     routes: &'a [u8; 4096],
     out: &mut [u64],
 ) -> SearchAnswer
-    requires { ⌜ (validPlan (planBy guard top (now rates) (now blockings) (now extras) (now periods) (now counts) (now lengths) (now jitters) (now hops) (now routes)) ≡ true) × (length (now out) ≡ portSlots) ⌝ }
-    ensures { λ r. ⌜ Answers (noneNumber goal) (wanted goal) (planBy guard top (now (rates .entry)) (now (blockings .entry)) (now (extras .entry)) (now (periods .entry)) (now (counts .entry)) (now (lengths .entry)) (now (jitters .entry)) (now (hops .entry)) (now (routes .entry))) (searchOf (noneNumber goal) r) (now (out .exit)) ⌝ }
+    requires { ⌜ (validPlan (planBy guard top (clockOf clock) (now rates) (now blockings) (now extras) (now periods) (now counts) (now lengths) (now jitters) (now hops) (now routes)) ≡ true) × (length (now out) ≡ portSlots) ⌝ }
+    ensures { λ r. ⌜ Answers (noneNumber goal) (wanted goal) (planBy guard top (clockOf clock) (now (rates .entry)) (now (blockings .entry)) (now (extras .entry)) (now (periods .entry)) (now (counts .entry)) (now (lengths .entry)) (now (jitters .entry)) (now (hops .entry)) (now (routes .entry))) (searchOf (noneNumber goal) r) (now (out .exit)) ⌝ }
 {
     let found = seek(
         goal,
         guard,
         top,
+        clock,
         rates,
         blockings,
         extras,
@@ -57,6 +61,7 @@ fn answer<'a>(
     }
     let ports = failing_at(
         guard,
+        clock,
         rates,
         blockings,
         extras,
@@ -80,6 +85,7 @@ fn search<'a>(
     goal: Goal,
     guard: u32,
     top: u32,
+    clock: Clock,
     rates: &'a [u32; 64],
     blockings: &'a [u16; 64],
     extras: &'a [u8; 64],
@@ -91,11 +97,12 @@ fn search<'a>(
     routes: &'a [u8; 4096],
     scratch: &mut [u64],
 ) -> SearchAnswer
-    ensures { λ r. ⌜ Ends (noneNumber goal) (wanted goal) (planBy guard top (now (rates .entry)) (now (blockings .entry)) (now (extras .entry)) (now (periods .entry)) (now (counts .entry)) (now (lengths .entry)) (now (jitters .entry)) (now (hops .entry)) (now (routes .entry))) (now (scratch .entry)) (searchOf (noneNumber goal) r) (now (scratch .exit)) ⌝ }
+    ensures { λ r. ⌜ Ends (noneNumber goal) (wanted goal) (planBy guard top (clockOf clock) (now (rates .entry)) (now (blockings .entry)) (now (extras .entry)) (now (periods .entry)) (now (counts .entry)) (now (lengths .entry)) (now (jitters .entry)) (now (hops .entry)) (now (routes .entry))) (now (scratch .entry)) (searchOf (noneNumber goal) r) (now (scratch .exit)) ⌝ }
 {
     if !valid_tables(
         guard,
         top,
+        clock,
         rates,
         blockings,
         extras,
@@ -116,6 +123,7 @@ fn search<'a>(
         goal,
         guard,
         top,
+        clock,
         rates,
         blockings,
         extras,
@@ -137,6 +145,7 @@ pub fn least(planner: Planner, scratch: &mut [u64]) -> SearchAnswer
         Goal::Least,
         planner.guard,
         planner.top,
+        planner.clock,
         &planner.rates,
         &planner.blockings,
         &planner.extras,
@@ -158,6 +167,7 @@ pub fn margin_safe(planner: Planner, scratch: &mut [u64]) -> SearchAnswer
         Goal::MarginSafe,
         planner.guard,
         planner.top,
+        planner.clock,
         &planner.rates,
         &planner.blockings,
         &planner.extras,

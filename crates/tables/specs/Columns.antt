@@ -6,14 +6,15 @@ use Prim.Native.Nat.{ℕ, suc, _+_, _*_, _≤_, _<_}
 use lib.ListN.{getD}
 use Rattle.cqf.specs.Bounded.{elem, distinct, every, sublist}
 use Rattle.cqf.specs.Limits.{portSlots, flowSlots, maxHops, routeStride, portOk, minPeriod, maxPeriod, maxCount, maxLength, maxJitter, maxExtra}
-use Rattle.cqf.specs.Plan.{Plan}
+use Rattle.cqf.specs.Plan.{Clock, Plan}
 
 -- the plan of these tables
-abbrev pub planBy : (guard top : ℕ) (rates blockings extras periods counts lengths jitters hops routes : List ℕ) → Plan
-planBy guard top rates blockings extras periods counts lengths jitters hops routes =
+abbrev pub planBy : (guard top : ℕ) (clock : Clock) (rates blockings extras periods counts lengths jitters hops routes : List ℕ) → Plan
+planBy guard top clock rates blockings extras periods counts lengths jitters hops routes =
     record {
       guard = guard;
       top = top;
+      clock = clock;
       rates = rates;
       blockings = blockings;
       extras = extras;
@@ -25,8 +26,8 @@ planBy guard top rates blockings extras periods counts lengths jitters hops rout
       routes = routes;
     }
 
--- the same where guard and top are not given; a column that the function is not lent is empty
-abbrev pub columns : (rates blockings extras periods counts lengths jitters hops routes : List ℕ) → Plan
+-- the same where guard and top are not given; a column that the function is not lent is empty, clocks that it is not given are equal
+abbrev pub columns : (clock : Clock) (rates blockings extras periods counts lengths jitters hops routes : List ℕ) → Plan
 columns = planBy 0 0
 
 -- a flow's slot that is empty or in range, over distinct ports; whether the ports are in the plan does not matter here

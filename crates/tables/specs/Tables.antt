@@ -1,5 +1,6 @@
 -- The plan that a planner's tables hold.
 use Rattle.cqf.specs.Plan.{Plan}
+use Rattle.numbers.specs.Clock.{clockOf}
 use Rattle.tables.specs.declared.Planner.{Planner}
 
 abbrev pub planOf : Planner → Plan
@@ -7,6 +8,7 @@ planOf s =
     record {
       guard = s .guard;
       top = s .top;
+      clock = clockOf (s .clock);
       rates = s .rates;
       blockings = s .blockings;
       extras = s .extras;

@@ -12,7 +12,7 @@ ghost use mathlib.Core.List.{[]};
 ghost use Prim.Native.Nat.{_+_, _*_, _≤_, _<_};
 ghost use Rattle.cqf.specs.Bounded.{anyTo, allTo, distinct, every, sublist};
 ghost use Rattle.cqf.specs.Limits.{flowSlots, routeStride, periodOk, countOk, lengthOk, jitterOk, hopsOk};
-ghost use Rattle.cqf.specs.Plan.{portIn, present, validFlow};
+ghost use Rattle.cqf.specs.Plan.{equalClocks, portIn, present, validFlow};
 ghost use Rattle.tables.specs.Columns.{columns};
 
 const LAST_PORT: u8 = numbers::limits::MAX_PORT as u8;
@@ -76,7 +76,7 @@ fn valid_flow<'a>(
     f: usize,
 ) -> bool
     requires { ⌜ f < flowSlots ⌝ }
-    ensures { λ r. ⌜ r ≡ validFlow (columns (now (rates .entry)) [] [] (now (periods .entry)) (now (counts .entry)) (now (lengths .entry)) (now (jitters .entry)) (now (hops .entry)) (now (routes .entry))) f ⌝ }
+    ensures { λ r. ⌜ r ≡ validFlow (columns equalClocks (now (rates .entry)) [] [] (now (periods .entry)) (now (counts .entry)) (now (lengths .entry)) (now (jitters .entry)) (now (hops .entry)) (now (routes .entry))) f ⌝ }
 {
     let period = periods[f];
     let count = counts[f];
@@ -110,7 +110,7 @@ pub(crate) fn valid_flows<'a>(
     hops: &'a [u8; 256],
     routes: &'a [u8; 4096],
 ) -> bool
-    ensures { λ r. ⌜ r ≡ allTo flowSlots (validFlow (columns (now (rates .entry)) [] [] (now (periods .entry)) (now (counts .entry)) (now (lengths .entry)) (now (jitters .entry)) (now (hops .entry)) (now (routes .entry)))) ⌝ }
+    ensures { λ r. ⌜ r ≡ allTo flowSlots (validFlow (columns equalClocks (now (rates .entry)) [] [] (now (periods .entry)) (now (counts .entry)) (now (lengths .entry)) (now (jitters .entry)) (now (hops .entry)) (now (routes .entry)))) ⌝ }
 {
     let mut f: usize = 0;
     while f < FLOWS {
@@ -123,7 +123,7 @@ pub(crate) fn valid_flows<'a>(
 }
 
 pub(crate) fn any_present(periods: &[u32; 256]) -> bool
-    ensures { λ r. ⌜ r ≡ anyTo flowSlots (present (columns [] [] [] (now (periods .entry)) [] [] [] [] [])) ⌝ }
+    ensures { λ r. ⌜ r ≡ anyTo flowSlots (present (columns equalClocks [] [] [] (now (periods .entry)) [] [] [] [] [])) ⌝ }
 {
     let mut f: usize = 0;
     while f < FLOWS {

@@ -1,4 +1,5 @@
 // The tables of a held plan, and whether they hold a plan that the rules accept.
+use numbers::clock::Clock;
 ghost use mathlib.Core.Path.{_≡_};
 ghost use Rattle.cqf.specs.Plan.{noPlan};
 ghost use Rattle.tables.specs.Tables.{planOf};
@@ -23,6 +24,7 @@ pub use valid::valid_tables;
 pub struct Planner {
     pub guard: u32,
     pub top: u32,
+    pub clock: Clock,
     pub rates: [u32; 64],
     pub blockings: [u16; 64],
     pub extras: [u8; 64],
@@ -41,6 +43,11 @@ pub fn empty() -> Planner
     Planner {
         guard: 0,
         top: 0,
+        clock: Clock {
+            drift: 0,
+            timing_jitter: 0,
+            sync_error: 0,
+        },
         rates: [0; 64],
         blockings: [0; 64],
         extras: [0; 64],

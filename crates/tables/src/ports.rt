@@ -9,7 +9,7 @@ ghost use mathlib.Core.List.{[]};
 ghost use lib.Dec.{eqb};
 ghost use Rattle.cqf.specs.Bounded.{allTo};
 ghost use Rattle.cqf.specs.Limits.{portSlots, rateOk, blockingOk, extraOk};
-ghost use Rattle.cqf.specs.Plan.{validPort};
+ghost use Rattle.cqf.specs.Plan.{equalClocks, validPort};
 ghost use Rattle.tables.specs.Columns.{columns};
 
 // Whether a port's slot is empty, or in range.
@@ -36,7 +36,7 @@ pub(crate) fn valid_ports<'a>(
     blockings: &'a [u16; 64],
     extras: &'a [u8; 64],
 ) -> bool
-    ensures { λ r. ⌜ r ≡ allTo portSlots (validPort (columns (now (rates .entry)) (now (blockings .entry)) (now (extras .entry)) [] [] [] [] [] [])) ⌝ }
+    ensures { λ r. ⌜ r ≡ allTo portSlots (validPort (columns equalClocks (now (rates .entry)) (now (blockings .entry)) (now (extras .entry)) [] [] [] [] [] [])) ⌝ }
 {
     let mut q: usize = 0;
     while q < PORTS {

@@ -3,10 +3,13 @@ use crate::Planner;
 use crate::flows::any_present;
 use crate::flows::valid_flows;
 use crate::ports::valid_ports;
+use numbers::clock::Clock;
+use numbers::clock::clock_ok;
 use numbers::limits::guard_ok;
 use numbers::limits::top_ok;
 ghost use mathlib.Core.Path.{_≡_};
 ghost use Rattle.cqf.specs.Plan.{validPlan};
+ghost use Rattle.numbers.specs.Clock.{clockOf};
 ghost use Rattle.tables.specs.Tables.{planOf};
 ghost use Rattle.tables.specs.Columns.{planBy};
 
@@ -14,6 +17,7 @@ ghost use Rattle.tables.specs.Columns.{planBy};
 pub fn valid_tables<'a>(
     guard: u32,
     top: u32,
+    clock: Clock,
     rates: &'a [u32; 64],
     blockings: &'a [u16; 64],
     extras: &'a [u8; 64],
@@ -24,12 +28,15 @@ pub fn valid_tables<'a>(
     hops: &'a [u8; 256],
     routes: &'a [u8; 4096],
 ) -> bool
-    ensures { λ r. ⌜ r ≡ validPlan (planBy guard top (now (rates .entry)) (now (blockings .entry)) (now (extras .entry)) (now (periods .entry)) (now (counts .entry)) (now (lengths .entry)) (now (jitters .entry)) (now (hops .entry)) (now (routes .entry))) ⌝ }
+    ensures { λ r. ⌜ r ≡ validPlan (planBy guard top (clockOf clock) (now (rates .entry)) (now (blockings .entry)) (now (extras .entry)) (now (periods .entry)) (now (counts .entry)) (now (lengths .entry)) (now (jitters .entry)) (now (hops .entry)) (now (routes .entry))) ⌝ }
 {
     if !top_ok(top) {
         return false;
     }
     if !guard_ok(guard) {
+        return false;
+    }
+    if !clock_ok(clock) {
         return false;
     }
     if !valid_ports(rates, blockings, extras) {
@@ -47,6 +54,7 @@ pub fn valid_plan(planner: Planner) -> bool
     valid_tables(
         planner.guard,
         planner.top,
+        planner.clock,
         &planner.rates,
         &planner.blockings,
         &planner.extras,

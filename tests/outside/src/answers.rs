@@ -30,6 +30,9 @@ pub struct FieldRead {
 pub struct Planner {
     pub guard: u32,
     pub top: u32,
+    pub drift: u32,
+    pub timing_jitter: u32,
+    pub sync_error: u32,
     pub rates: [u32; 64],
     pub blockings: [u16; 64],
     pub extras: [u8; 64],
@@ -41,7 +44,7 @@ pub struct Planner {
     pub routes: [u8; 4096],
 }
 
-pub const PLANNER_BYTES: usize = 7880;
+pub const PLANNER_BYTES: usize = 7892;
 const _: () = assert!(std::mem::size_of::<Planner>() == PLANNER_BYTES);
 
 impl Planner {
@@ -59,7 +62,10 @@ impl Planner {
         fn first<T: PartialEq>(name: &'static str, one: &[T], other: &[T]) -> Option<(&'static str, usize)> {
             (0..one.len()).find(|slot| one[*slot] != other[*slot]).map(|slot| (name, slot))
         }
-        first("guard, top", &[self.guard, self.top], &[other.guard, other.top])
+        let header = |planner: &Planner| [planner.guard, planner.top];
+        let clocks = |planner: &Planner| [planner.drift, planner.timing_jitter, planner.sync_error];
+        first("guard, top", &header(self), &header(other))
+            .or_else(|| first("clocks", &clocks(self), &clocks(other)))
             .or_else(|| first("rates", &self.rates, &other.rates))
             .or_else(|| first("blockings", &self.blockings, &other.blockings))
             .or_else(|| first("extras", &self.extras, &other.extras))

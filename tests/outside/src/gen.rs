@@ -17,6 +17,7 @@ pub enum Piece {
     Flow { number: u16, period: u32, count: u16, length: u16, route: Vec<u16> },
     Extra { number: u16, extra: u16 },
     Jitter { number: u16, jitter: u32 },
+    Clocks { drift: u32, timing_jitter: u32, sync_error: u32 },
     Raw(Vec<u8>),
 }
 
@@ -54,6 +55,10 @@ impl Piece {
                 bytes.extend(number.to_be_bytes());
                 bytes.extend(jitter.to_be_bytes());
             }
+            Piece::Clocks { drift, timing_jitter, sync_error } => {
+                bytes.extend([6, 0, 12]);
+                bytes.extend([drift, timing_jitter, sync_error].iter().flat_map(|number| number.to_be_bytes()));
+            }
             Piece::Raw(raw) => bytes.extend(raw),
         }
         bytes
@@ -90,6 +95,30 @@ pub fn jitter_of(pieces: &[Piece], flow: u16) -> u64 {
 /// Whether some flow has jitter.
 pub fn has_jitter(pieces: &[Piece]) -> bool {
     pieces.iter().any(|piece| matches!(piece, Piece::Jitter { jitter, .. } if *jitter > 0))
+}
+
+/// A duration widened by the clocks that the pieces give.
+pub fn widened(pieces: &[Piece], duration: u64) -> u64 {
+    let more = pieces.iter().find_map(|piece| match piece {
+        Piece::Clocks { drift, timing_jitter, sync_error } => {
+            let drifted = (duration * u64::from(*drift) + 999_999) / 1_000_000;
+            Some((drifted + u64::from(*timing_jitter)).min(2 * u64::from(*sync_error)))
+        }
+        _ => None,
+    });
+    duration + more.unwrap_or(0)
+}
+
+/// What the pieces say of clocks: 0 for equal ones, 1 where no duration up to this is widened, 2 where it is.
+pub fn clocks_kind(pieces: &[Piece], duration: u64) -> u32 {
+    let numbers = |piece: &Piece| match piece {
+        Piece::Clocks { drift, timing_jitter, sync_error } => drift + timing_jitter + sync_error,
+        _ => 0,
+    };
+    if pieces.iter().all(|piece| numbers(piece) == 0) {
+        return 0;
+    }
+    1 + u32::from(widened(pieces, duration) > duration)
 }
 
 pub fn set_top(pieces: &mut [Piece], new: u64) {

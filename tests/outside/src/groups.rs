@@ -1,10 +1,12 @@
 //! The named groups of comparisons, and what they share.
 
+pub mod clocks;
 pub mod extra;
 pub mod fields;
 pub mod foreign;
 pub mod jitter;
 pub mod known;
+mod later_fields;
 pub mod loads;
 pub mod model;
 pub mod order;
@@ -12,10 +14,11 @@ pub mod questions;
 pub mod rows;
 pub mod runs;
 pub mod searches;
+mod worked;
 
 use crate::answers::Planner;
 use crate::ffi;
-use crate::model::spans::{search, spans, Search, Span};
+use crate::model::spans::{first_past, search, spans, Search, Span};
 use crate::model::{self as judge, Flow, Plan};
 use crate::report::Tally;
 use crate::rng::Rng;
@@ -32,8 +35,8 @@ pub fn durations(plan: &Plan, rng: &mut Rng) -> Vec<u64> {
     for _ in 0..8 {
         let flow = rng.pick(&flows);
         let periods = rng.range(flow.jitter / flow.period, (plan.top + flow.jitter) / flow.period);
-        let rise = (flow.period * periods).saturating_sub(flow.jitter);
-        asked.extend([rise.saturating_sub(1), rise, rise + 1]);
+        let rise = first_past(&plan.clocks, flow, periods);
+        asked.extend([rise.saturating_sub(2), rise - 1, rise, rise + 1]);
         asked.push(rng.range(1, plan.top));
     }
     asked

@@ -26,10 +26,19 @@ pub struct Flow {
     pub route: Vec<u64>,
 }
 
+/// By how much clocks differ: drift in parts per million, timing jitter and synchronization error in ns.
+#[derive(Clone, Copy, Debug, Default, PartialEq, Eq)]
+pub struct Clocks {
+    pub drift: u64,
+    pub timing_jitter: u64,
+    pub sync_error: u64,
+}
+
 #[derive(Clone, Debug, PartialEq, Eq)]
 pub struct Plan {
     pub guard: u64,
     pub top: u64,
+    pub clocks: Clocks,
     pub ports: BTreeMap<u64, Port>,
     pub flows: BTreeMap<u64, Flow>,
 }
@@ -49,14 +58,28 @@ impl Port {
 }
 
 impl Flow {
-    /// Frames that this flow brings to each of its ports at a duration.
-    pub fn frames_at(&self, duration: u64) -> u64 {
-        let reach = duration + self.jitter;
+    /// Frames that this flow brings to each of its ports when they are counted over a length.
+    pub fn frames_over(&self, length: u64) -> u64 {
+        let reach = length + self.jitter;
         let mut rounds = reach / self.period;
         if reach % self.period != 0 {
             rounds += 1;
         }
         rounds * self.count
+    }
+}
+
+impl Clocks {
+    pub fn are_equal(&self) -> bool {
+        *self == Clocks::default()
+    }
+
+    /// The duration widened: the length over which frames are counted.
+    pub fn widened(&self, duration: u64) -> u64 {
+        let parts = duration * self.drift;
+        let drifted = parts / 1_000_000 + u64::from(parts % 1_000_000 != 0);
+        let (by_drift, by_error) = (drifted + self.timing_jitter, 2 * self.sync_error);
+        duration + by_drift.min(by_error)
     }
 }
 
@@ -72,8 +95,9 @@ impl Plan {
     /// Demand of every port that a flow crosses.
     pub fn demands(&self, duration: u64) -> BTreeMap<u64, u64> {
         let mut demands = BTreeMap::new();
+        let length = self.clocks.widened(duration);
         for flow in self.flows.values() {
-            let frames = flow.frames_at(duration);
+            let frames = flow.frames_over(length);
             for port in &flow.route {
                 *demands.entry(*port).or_insert(0) += frames * self.ports[port].wire_bits(flow.length);
             }

@@ -1,23 +1,32 @@
 //! Runs of frames through ports with two queues each, one filling while the other empties.
 
+pub mod cuts;
 pub mod emissions;
 
 use crate::model::Plan;
-use emissions::Emission;
+use cuts::Cut;
 use std::collections::BTreeMap;
 
 #[derive(Clone, Copy, Debug)]
 struct Frame {
     flow: u64,
-    instant: u64,
+    index: usize,
+    own_cycle: u64,
     hop: usize,
+}
+
+/// A frame, by its flow and its place in the flow's list, that left its last port in a cycle.
+#[derive(Clone, Copy, Debug)]
+pub struct Left {
+    pub flow: u64,
+    pub index: usize,
+    pub cycle: u64,
 }
 
 #[derive(Debug)]
 pub enum Outcome {
     Unsent { cycle: u64, port: u64 },
-    /// Of every frame: flow, cycle of its instant, cycle in which it left its last port.
-    AllSent(Vec<(u64, u64, u64)>),
+    AllSent(Vec<Left>),
 }
 
 #[derive(Default)]
@@ -31,16 +40,18 @@ pub struct Run<'a> {
     duration: u64,
     queues: BTreeMap<u64, Queues>,
     waiting: Vec<Frame>,
-    left: Vec<(u64, u64, u64)>,
+    left: Vec<Left>,
 }
 
 impl<'a> Run<'a> {
-    pub fn new(plan: &'a Plan, duration: u64, emission: &Emission) -> Run<'a> {
+    /// Of an emission only the cycles of its frames matter to the run.
+    pub fn new(plan: &'a Plan, duration: u64, cut: &Cut) -> Run<'a> {
         let mut waiting = Vec::new();
-        for (flow, instants) in emission {
-            waiting.extend(instants.iter().map(|instant| Frame { flow: *flow, instant: *instant, hop: 0 }));
+        for (flow, cycles) in cut {
+            let frame = |(index, own_cycle): (usize, &u64)| Frame { flow: *flow, index, own_cycle: *own_cycle, hop: 0 };
+            waiting.extend(cycles.iter().enumerate().map(frame));
         }
-        waiting.sort_by_key(|frame| std::cmp::Reverse(frame.instant));
+        waiting.sort_by_key(|frame| std::cmp::Reverse(frame.own_cycle));
         let queues = plan.ports.keys().map(|port| (*port, Queues::default())).collect();
         Run { plan, duration, queues, waiting, left: Vec::new() }
     }
@@ -84,7 +95,7 @@ impl<'a> Run<'a> {
                 self.pass_on(frame, now);
             }
         }
-        while let Some(frame) = self.waiting.last().copied().filter(|frame| frame.instant / self.duration == now) {
+        while let Some(frame) = self.waiting.last().copied().filter(|frame| frame.own_cycle == now) {
             self.waiting.pop();
             self.receive(frame);
         }
@@ -94,7 +105,7 @@ impl<'a> Run<'a> {
     fn pass_on(&mut self, mut frame: Frame, now: u64) {
         frame.hop += 1;
         if frame.hop == self.plan.flows[&frame.flow].route.len() {
-            self.left.push((frame.flow, frame.instant / self.duration, now));
+            self.left.push(Left { flow: frame.flow, index: frame.index, cycle: now });
         } else {
             self.receive(frame);
         }
@@ -106,7 +117,7 @@ impl<'a> Run<'a> {
             let idle = self.queues.values().all(|queues| queues.filling.is_empty());
             match self.waiting.last() {
                 None if idle => return Outcome::AllSent(self.left),
-                Some(next) if idle => now = next.instant / self.duration,
+                Some(next) if idle => now = next.own_cycle,
                 _ => {}
             }
             if let Some(port) = self.cycle(now) {

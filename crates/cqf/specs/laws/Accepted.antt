@@ -1,19 +1,22 @@
 -- At an admissible duration the run of an emission that keeps every contract never stops, and each frame is on time.
 use mathlib.Core.Path.{_≡_, refl, sym, ap, subst, _∙_}
 use mathlib.Core.Bool.{true, false, true≢false}
+use mathlib.Core.List.{List}
 use Prim.Native.Nat.{ℕ, zero, suc, _+_, _*_, _/_, _%_, _≤_, _<_}
 use native.Mathlib.Nat.{div-add-mod', mod-lt, add-mul, suc-mul}
 use native.Mathlib.Omega.{arith}
 use lib.ListN.{length, getD}
 use Rattle.cqf.specs.Limits.{portSlots}
-use Rattle.cqf.specs.Plan.{Plan, routeOf, validPlan}
+use Rattle.cqf.specs.Plan.{Plan, routeOf, synchronized, validPlan}
 use Rattle.cqf.specs.Condition.{frames, admissible}
-use Rattle.cqf.specs.Emission.{Emission, Keeps, cyclesOf}
+use Rattle.cqf.specs.Emission.{Emission, Keeps}
+use Rattle.cqf.specs.Cycles.{Cycles, Permitted, aligned, parted}
 use Rattle.cqf.specs.Run.{Places, source, isGone, running, run, overrun, overrunAt, queuedBits, Leaves, MayEnd}
 use Rattle.cqf.specs.LargeEnough.{OnTime}
 use Rattle.cqf.specs.laws.Bounded.{anyTo-none}
 use Rattle.cqf.specs.laws.Valid.{held-period, present-held}
-use Rattle.cqf.specs.laws.Arrivals.{at-most, cycle-of}
+use Rattle.cqf.specs.laws.Partition.{cycle-of, permitted-partition}
+use Rattle.cqf.specs.laws.Arrivals.{at-most}
 use Rattle.cqf.specs.laws.Places.{track, moved, run-goes, run-track, track-there, track-gone}
 use Rattle.cqf.specs.laws.Condition.{none-fails, no-overrun}
 use Rattle.cqf.specs.laws.Sending.{emittedIn, bits-most}
@@ -35,46 +38,41 @@ delay-within p T long t h end sent =
     let more = suc-mul h T in
     (omega arith, omega arith)
 
-module _ (p : Plan) (valid : validPlan p ≡ true) (T : ℕ) (long : 0 < T) (good : admissible p T ≡ true) (e : Emission) (keeps : Keeps p e) where
+module _ (p : Plan) (valid : validPlan p ≡ true) (T : ℕ) (long : 0 < T) (good : admissible p T ≡ true) (e : Emission) (keeps : Keeps p e) (cycles : Cycles) (permitted : Permitted p T e cycles) where
   -- no flow emits more than its frames in a cycle
-  few : (f own : ℕ) → emittedIn (cyclesOf T e) f own ≤ frames p f T
+  few : (f own : ℕ) → emittedIn cycles f own ≤ frames p f T
   few f own =
-      at-most p e keeps f T own
+      at-most p e keeps T cycles (permitted-partition p T long e keeps cycles permitted) f own
       (λ h. let flow = present-held p valid f h in (flow .count-least, held-period p f flow))
-      long
 
   -- no port leaves a frame unsent
-  none-unsent
-      : (c : ℕ) (places : Places)
-      → run p T (cyclesOf T e) c ≡ running places
-      → overrun p T (cyclesOf T e) places ≡ false
+  none-unsent : (c : ℕ) (places : Places) → run p T cycles c ≡ running places → overrun p T cycles places ≡ false
   unfolding overrun
   none-unsent c places goes =
       anyTo-none
       portSlots
-      (λ q. overrunAt p T (queuedBits p (cyclesOf T e) places q) q)
-      (λ q l. no-overrun p T q _ (none-fails p T good q l) (bits-most p T (cyclesOf T e) c places goes valid few q))
+      (λ q. overrunAt p T (queuedBits p cycles places q) q)
+      (λ q l. no-overrun p T q _ (none-fails p T good q l) (bits-most p T cycles c places goes valid few q))
 
   -- the run goes on
-  pub goes-on : (c : ℕ) → (places : Places) × (run p T (cyclesOf T e) c ≡ running places)
+  pub goes-on : (c : ℕ) → (places : Places) × (run p T cycles c ≡ running places)
   unfolding run
   goes-on zero = (λ f k. source, refl)
   goes-on (suc c) =
       let b = goes-on c in
-      (moved p T (cyclesOf T e) c (b .0), run-goes p T (cyclesOf T e) c (b .0) (b .1) (none-unsent c (b .0) (b .1)))
+      (moved p T cycles c (b .0), run-goes p T cycles c (b .0) (b .1) (none-unsent c (b .0) (b .1)))
 
   module _ (f k : ℕ) where
-    -- the cycle of its instant
+    -- the cycle in which it is emitted
     abbrev own : ℕ
-    own = getD (e f) k 0 / T
+    own = getD (cycles f) k 0
 
     -- where the frame is when cycle c starts
-    place : (c : ℕ) (places : Places) → run p T (cyclesOf T e) c ≡ running places → places f k ≡ track own (routeOf p f) c
-    place c places goes =
-        run-track p T (cyclesOf T e) c places goes f k ∙ ap (λ (r : ℕ). track r (routeOf p f) c) (cycle-of T (e f) k)
+    place : (c : ℕ) (places : Places) → run p T cycles c ≡ running places → places f k ≡ track own (routeOf p f) c
+    place c places goes = run-track p T cycles c places goes f k
 
     -- the frame leaves its last port as many cycles after its own as its route has ports
-    leaves : Leaves p T (cyclesOf T e) f k (own + length (routeOf p f))
+    leaves : Leaves p T cycles f k (own + length (routeOf p f))
     leaves =
         let c = own + length (routeOf p f) in
         let b = goes-on c in
@@ -89,7 +87,7 @@ module _ (p : Plan) (valid : validPlan p ≡ true) (T : ℕ) (long : 0 < T) (goo
         }
 
     -- and in no other cycle
-    once : (c : ℕ) → Leaves p T (cyclesOf T e) f k c → c ≡ own + length (routeOf p f)
+    once : (c : ℕ) → Leaves p T cycles f k c → c ≡ own + length (routeOf p f)
     once c l = omega (arith, early, late)
       where
         early : ¬ (own + length (routeOf p f) < c)
@@ -100,15 +98,25 @@ module _ (p : Plan) (valid : validPlan p ≡ true) (T : ℕ) (long : 0 < T) (goo
             true≢false
             (sym (l .left) ∙ ap isGone (place (suc c) (l .after) (l .ends)) ∙ track-there own (routeOf p f) (suc c) h)
 
+    -- where clocks are taken as equal its cycle is the aligned one
+    own-aligned : synchronized p ≡ true → own ≡ getD (e f) k 0 / T
+    own-aligned same = go permitted
+      where
+        go : Permitted p T e cycles → own ≡ getD (e f) k 0 / T
+        go (aligned _ is) = ap (λ (l : List ℕ). getD l k 0) (is f) ∙ cycle-of T (e f) k
+        go (parted not _) = absurd (true≢false (sym same ∙ not))
+
     -- whichever cycle that is, and wherever in it its sending ends
     delay
-        : (c end : ℕ)
-        → Leaves p T (cyclesOf T e) f k c
+        : synchronized p ≡ true
+        → (c end : ℕ)
+        → Leaves p T cycles f k c
         → MayEnd p T c end
         → (getD (e f) k 0 + length (routeOf p f) * T ≤ end + T) × (end ≤ getD (e f) k 0 + suc (length (routeOf p f)) * T)
-    delay c end l sent =
-        delay-within p T long (getD (e f) k 0) (length (routeOf p f)) end (subst (λ (n : ℕ). MayEnd p T n end) (once c l) sent)
+    delay same c end l sent =
+        let at : c ≡ getD (e f) k 0 / T + length (routeOf p f) = once c l ∙ ap (λ (n : ℕ). n + length (routeOf p f)) (own-aligned same) in
+        delay-within p T long (getD (e f) k 0) (length (routeOf p f)) end (subst (λ (n : ℕ). MayEnd p T n end) at sent)
 
     -- so every frame is on time
-    pub on-time : OnTime p T (cyclesOf T e) f k (getD (e f) k 0) (length (routeOf p f))
+    pub on-time : OnTime p T cycles f k (getD (e f) k 0) own (length (routeOf p f))
     on-time = record { leaves = leaves; once = once; delay = delay }

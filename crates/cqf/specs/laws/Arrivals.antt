@@ -1,18 +1,18 @@
--- How many frames of one flow can be emitted in one cycle: at most count for each period that the cycle's duration begins.
-use mathlib.Core.Path.{_≡_, refl, sym, ap, _∙_, subst}
-use mathlib.Core.List.{List, map}
+-- How many frames of one flow can be emitted in one cycle: at most count for each period that its stretch begins.
+use mathlib.Core.Path.{_≡_, refl, sym, _∙_}
 use mathlib.Core.Bool.{Bool, true, false, cond}
-use Prim.Native.Nat.{ℕ, zero, suc, _+_, _-_, _*_, _/_, _≤_, _<_, zero-le}
-use native.Mathlib.Nat.{le-refl, mul-suc, mul-zero, suc-mul, add-zero, add-suc, div-mul-le-self, lt-div-mul-add, zero-div, lt-of-not-le, not-le-of-lt}
+use Prim.Native.Nat.{ℕ, zero, suc, _+_, _-_, _*_, _≤_, _<_, zero-le}
+use native.Mathlib.Nat.{le-refl, mul-suc, mul-zero, suc-mul, add-zero, add-suc, lt-of-not-le, not-le-of-lt}
 use native.Mathlib.Omega.{arith}
-use lib.ListN.{length, getD, length-map, List·getD-map}
+use lib.ListN.{length, getD}
 use lib.Dec.{eqb}
 use borrow.Author.Tests.{eqb-true}
 use Rattle.cqf.specs.Bounded.{countTo}
 use Rattle.cqf.specs.Plan.{Plan, present, periodOf, countOf, jitterOf}
 use Rattle.cqf.specs.Condition.{begun, frames}
-use Rattle.cqf.specs.Emission.{Emission, Keeps, cyclesOf}
-use Rattle.cqf.specs.laws.Begun.{stretch-covers, begun-covers}
+use Rattle.cqf.specs.Emission.{Emission, Keeps}
+use Rattle.cqf.specs.Cycles.{Cycles, Partition}
+use Rattle.cqf.specs.laws.Begun.{begun-covers}
 
 -- where nothing below a passes, at most n - a numbers below n pass
 count-from : (b : ℕ → Bool) (n a : ℕ) → ((i : ℕ) → i < n → b i ≡ true → a ≤ i) → countTo n b ≤ n - a
@@ -39,11 +39,6 @@ count-within b (suc n) M h = go (b n) refl (count-within b n M (λ i j l m. h i 
     go : (t : Bool) → b n ≡ t → countTo n b ≤ M → countTo n b + cond (b n) 1 0 ≤ M
     go true e ih = omega (arith, count-from b (suc n) (suc n - M) (after e))
     go false e ih = rw e (omega arith)
-
--- two instants of one cycle lie less than T apart
-same-cycle : (s t c : ℕ) {T : ℕ} → 0 < T → s / T ≡ c → t / T ≡ c → t < s + T
-same-cycle s t c {T} h p q =
-    omega (arith, lt-div-mul-add {a = t} h, div-mul-le-self s T, ap (λ (x : ℕ). x * T) (p ∙ sym q))
 
 module _ {p : Plan} {e : Emission} (keeps : Keeps p e) (f : ℕ) where
   -- a later frame is not emitted earlier
@@ -78,44 +73,34 @@ module _ {p : Plan} {e : Emission} (keeps : Keeps p e) (f : ℕ) where
       let upto = keeps .released f (i + countOf p f * m) (omega arith) in
       omega (arith, spaced-over i m (omega arith), rw at at later, from .0, from .1, upto .0, upto .1)
 
--- the cycle of frame k is its instant divided by T
-pub cycle-of : (T : ℕ) (l : List ℕ) (k : ℕ) → getD (map (λ (t : ℕ). t / T) l) k 0 ≡ getD l k 0 / T
-cycle-of T l k =
-    subst (λ (d : ℕ). getD (map (λ (t : ℕ). t / T) l) k d ≡ getD l k 0 / T) (zero-div T)
-    (List·getD-map (λ (t : ℕ). t / T) l k 0)
-
 -- in one cycle a flow that keeps its contract emits at most the frames of the condition
 pub at-most
     : (p : Plan) (e : Emission)
     → Keeps p e
-    → (f T c : ℕ)
+    → (T : ℕ) (cycles : Cycles)
+    → Partition p T e cycles
+    → (f c : ℕ)
     → (present p f ≡ true → (0 < countOf p f) × (0 < periodOf p f))
-    → 0 < T
-    → countTo (length (cyclesOf T e f)) (λ k. eqb (getD (cyclesOf T e f) k 0) c) ≤ frames p f T
+    → countTo (length (cycles f)) (λ k. eqb (getD (cycles f) k 0) c) ≤ frames p f T
 unfolding countTo frames
-at-most p e keeps f T c valid h = go (present p f) refl
+at-most p e keeps T cycles parts f c valid = go (present p f) refl
   where
-    in-cycle : (k : ℕ) → eqb (getD (cyclesOf T e f) k 0) c ≡ true → getD (e f) k 0 / T ≡ c
-    in-cycle k q = sym (cycle-of T (e f) k) ∙ eqb-true _ _ q
-
     near
         : 0 < periodOf p f
         → (i j : ℕ)
         → i ≤ j
-        → j < length (cyclesOf T e f)
-        → eqb (getD (cyclesOf T e f) i 0) c ≡ true
-        → eqb (getD (cyclesOf T e f) j 0) c ≡ true
+        → j < length (cycles f)
+        → eqb (getD (cycles f) i 0) c ≡ true
+        → eqb (getD (cycles f) j 0) c ≡ true
         → j < i + frames p f T
     near pos i j l m q r =
+        let m′ : j < length (e f) = omega (arith, parts .each f) in
+        let same = eqb-true _ _ q ∙ sym (eqb-true _ _ r) in
         lt-of-not-le
         (λ g.
-        let far = apart keeps f i j (begun p f T) g (omega (arith, length-map (e f) (λ (t : ℕ). t / T))) in
-        not-le-of-lt (same-cycle (getD (e f) i 0) (getD (e f) j 0) c h (in-cycle i q) (in-cycle j r))
-        (omega (arith, begun-covers p f T pos, stretch-covers p T)))
+        let far = apart keeps f i j (begun p f T) g m′ in
+        not-le-of-lt (parts .near f i j (omega arith) m′ same) (omega (arith, begun-covers p f T pos)))
 
-    go
-        : (t : Bool)
-        → present p f ≡ t
-        → countTo (length (cyclesOf T e f)) (λ k. eqb (getD (cyclesOf T e f) k 0) c) ≤ frames p f T
-    go true q = count-within _ (length (cyclesOf T e f)) (frames p f T) (near (valid q .1))
-    go false q = rw (keeps .absent f q) zero-le
+    go : (t : Bool) → present p f ≡ t → countTo (length (cycles f)) (λ k. eqb (getD (cycles f) k 0) c) ≤ frames p f T
+    go true q = count-within _ (length (cycles f)) (frames p f T) (near (valid q .1))
+    go false q = rw (parts .each f, keeps .absent f q) zero-le

@@ -1,33 +1,32 @@
 -- Laws of the length over which frames are counted and of the periods that begin in it. What follows of the condition, of
 -- emissions and of the searches rests on these and not on how the two are defined.
-use mathlib.Core.Path.{_≡_, refl}
-use Prim.Native.Nat.{ℕ, _+_, _*_, _≤_, _<_}
-use native.Mathlib.Nat.{le-refl, le-trans, add-le-add, mul-le-mul-left}
+use mathlib.Core.Path.{_≡_}
+use mathlib.Core.Bool.{true, and-eq-true-iff}
+use Prim.Native.Nat.{ℕ, _+_, _-_, _*_, _≤_, _<_}
+use native.Mathlib.Nat.{le-trans, add-le-add, mul-le-mul, mul-le-mul-left, mul-le-mul-right}
 use native.Mathlib.Omega.{arith}
-use Rattle.cqf.specs.Limits.{maxTop, maxJitter, minPeriod, mostBegun}
-use Rattle.cqf.specs.Plan.{Plan, periodOf, jitterOf}
-use Rattle.cqf.specs.Condition.{begunBy, stretch, begun}
+use borrow.Author.Tests.{eqb-true}
+use Rattle.cqf.specs.Limits.{maxTop, maxDrift, maxTimingJitter, maxJitter, minPeriod, million, mostStretch, mostBegun}
+use Rattle.cqf.specs.Plan.{Clock, Plan, periodOf, jitterOf, synchronized}
+use Rattle.cqf.specs.Condition.{begunBy, stretchBy, stretch, begun}
 use Rattle.cqf.specs.laws.Ceil.{ceil-covers, ceil-before, ceil-least, ceil-positive, ceil-mono}
 
 module _ (p : Plan) where
   -- the length is at least the duration, and never falls as that grows
   pub stretch-covers : (T : ℕ) → T ≤ stretch p T
   unfolding stretch
-  stretch-covers T = le-refl T
+  stretch-covers T = omega arith
 
   pub stretch-mono : {T U : ℕ} → T ≤ U → stretch p T ≤ stretch p U
   unfolding stretch
-  stretch-mono l = l
+  stretch-mono l = omega (arith, l, ceil-mono million (mul-le-mul-right (p .clock .drift) l))
 
-  -- it is at most the longest duration
-  pub stretch-most : (T : ℕ) → T ≤ maxTop → stretch p T ≤ maxTop
+  -- where clocks are taken as equal it is the duration
+  pub stretch-aligned : synchronized p ≡ true → (T : ℕ) → stretch p T ≡ T
   unfolding stretch
-  stretch-most T l = l
-
-  -- where cycles are aligned it is the duration
-  pub stretch-aligned : (T : ℕ) → stretch p T ≡ T
-  unfolding stretch
-  stretch-aligned T = refl
+  stretch-aligned same T =
+      let h = simp and-eq-true-iff at same in
+      omega (arith, eqb-true (p .clock .syncError) 0 (h .1))
 
   module _ (f : ℕ) where
     -- so many periods last at least that length with the jitter
@@ -50,7 +49,18 @@ module _ (p : Plan) where
     unfolding begun
     begun-mono l = ceil-mono (periodOf p f) (omega (arith, stretch-mono l))
 
--- no more than the shortest periods in the longest duration with the largest jitter
-pub begun-most : (T J : ℕ) {P : ℕ} → T ≤ maxTop → J ≤ maxJitter → minPeriod ≤ P → begunBy T J P ≤ mostBegun
-begun-most T J {P} l j h =
-    ceil-least (T + J) mostBegun (omega arith) (le-trans (add-le-add l j) (mul-le-mul-left mostBegun h))
+-- no longer than the longest duration with the largest drift and timing jitter
+pub stretch-most
+    : (k : Clock) (T : ℕ)
+    → T ≤ maxTop
+    → k .drift ≤ maxDrift
+    → k .timingJitter ≤ maxTimingJitter
+    → stretchBy k T ≤ mostStretch
+stretch-most k T l d t =
+    let far = ceil-least (T * k .drift) (mostStretch - maxTop - maxTimingJitter) {P = million} (omega arith) (le-trans (mul-le-mul l d) (omega arith)) in
+    omega (arith, far)
+
+-- no more than the shortest periods in the longest stretch with the largest jitter
+pub begun-most : (L J : ℕ) {P : ℕ} → L ≤ mostStretch → J ≤ maxJitter → minPeriod ≤ P → begunBy L J P ≤ mostBegun
+begun-most L J {P} l j h =
+    ceil-least (L + J) mostBegun (omega arith) (le-trans (add-le-add l j) (mul-le-mul-left mostBegun h))

@@ -6,7 +6,7 @@ use native.Mathlib.Nat.{mul-le-mul}
 use native.Mathlib.Numerals.{add-one}
 use native.Mathlib.Omega.{arith}
 use Rattle.cqf.specs.Bounded.{sumTo, elem, sublist}
-use Rattle.cqf.specs.Limits.{flowSlots, maxTop, minPeriod, maxCount, maxLength, maxExtra, maxJitter, mostBegun}
+use Rattle.cqf.specs.Limits.{flowSlots, minPeriod, maxCount, maxLength, maxExtra, maxJitter, mostStretch, mostBegun}
 use Rattle.cqf.specs.Plan.{Plan, periodOf, countOf, jitterOf, hopsOf, crosses}
 use Rattle.cqf.specs.Condition.{bitsOf, framesBy, wireBits, stretch, begun, frames, demand, mostBits}
 use Rattle.cqf.specs.laws.Begun.{begun-most}
@@ -26,16 +26,16 @@ demand-sum p q T = refl
 
 -- one flow brings at most its most bits
 pub flow-bits-most
-    : (T : ℕ) {period count bytes jitter extra : ℕ}
-    → T ≤ maxTop
+    : (L : ℕ) {period count bytes jitter extra : ℕ}
+    → L ≤ mostStretch
     → minPeriod ≤ period
     → count ≤ maxCount
     → bytes ≤ maxLength
     → jitter ≤ maxJitter
     → extra ≤ maxExtra
-    → framesBy count T jitter period * bitsOf bytes extra ≤ mostBits
-flow-bits-most T {period} {count} {bytes} {jitter} {extra} l h c b j x =
-    let many : framesBy count T jitter period ≤ maxCount * mostBegun = mul-le-mul c (begun-most T jitter l j h) in
+    → framesBy count L jitter period * bitsOf bytes extra ≤ mostBits
+flow-bits-most L {period} {count} {bytes} {jitter} {extra} l h c b j x =
+    let many : framesBy count L jitter period ≤ maxCount * mostBegun = mul-le-mul c (begun-most L jitter l j h) in
     let long : bitsOf bytes extra ≤ bitsOf maxLength maxExtra = omega arith in
     mul-le-mul many long
 

@@ -11,7 +11,7 @@ use lib.ListN.{length, getD, drop, drop-of-length-le}
 use lib.Dec.{eqb}
 use borrow.Author.Tests.{ne-eqb, eq-eqb, eqb-true}
 use Rattle.cqf.specs.Plan.{Plan, routeOf}
-use Rattle.cqf.specs.Emission.{Cycles}
+use Rattle.cqf.specs.Cycles.{Cycles}
 use Rattle.cqf.specs.Run.{Place, source, Places, handed, advance, isQueuedAt, isGone, Network, running, stopped, overrun, next, run}
 
 -- the places of a network, those of a start where it has stopped

@@ -1,4 +1,4 @@
--- What the searches ask of a valid plan: the ranges of its top and of each port's extra bytes, and a rate for each port that is crossed.
+-- What the searches ask of a valid plan: the ranges of its top, of its clocks' numbers and of each port's extra bytes, and a rate for each port that is crossed.
 use mathlib.Core.Path.{_≡_}
 use mathlib.Core.Bool.{true, _&&_, and-eq-true-iff}
 use mathlib.Core.List.{List}
@@ -7,7 +7,7 @@ use lib.ListN.{getD}
 use lib.Dec.{eqb, ltb}
 use native.Mathlib.Omega.{arith}
 use borrow.Author.Tests.{eqb-true, leb-true, ltb-true}
-use Rattle.cqf.specs.Limits.{portSlots, flowSlots, maxTop, maxExtra, portOk, rateOk, blockingOk, extraOk}
+use Rattle.cqf.specs.Limits.{portSlots, flowSlots, maxTop, maxDrift, maxTimingJitter, maxExtra, portOk, rateOk, blockingOk, extraOk}
 use Rattle.cqf.specs.Plan.{Plan, rateOf, blockingOf, extraOf, routeOf, crosses, portIn, validPort, validPlan}
 use Rattle.cqf.specs.Condition.{crossed}
 use Rattle.cqf.specs.laws.Bounded.{anyTo-true, or-cases, allTo-at}
@@ -22,11 +22,20 @@ module _ (p : Plan) (valid : validPlan p ≡ true) where
   -- top is from 1 to the largest duration
   pub top-positive : 1 ≤ p .top
   unfolding validPlan
-  top-positive = let h = simp and-eq-true-iff at valid in leb-true _ _ (h .0 .0 .0 .0 .0)
+  top-positive = let h = simp and-eq-true-iff at valid in leb-true _ _ (h .0 .0 .0 .0 .0 .0)
 
   pub top-most : p .top ≤ maxTop
   unfolding validPlan
-  top-most = let h = simp and-eq-true-iff at valid in leb-true _ _ (h .0 .0 .0 .0 .1)
+  top-most = let h = simp and-eq-true-iff at valid in leb-true _ _ (h .0 .0 .0 .0 .0 .1)
+
+  -- the numbers of the clocks that widen a duration
+  pub drift-most : p .clock .drift ≤ maxDrift
+  unfolding validPlan
+  drift-most = let h = simp and-eq-true-iff at valid in leb-true _ _ (h .0 .0 .0 .1 .0 .0 .1)
+
+  pub timing-most : p .clock .timingJitter ≤ maxTimingJitter
+  unfolding validPlan
+  timing-most = let h = simp and-eq-true-iff at valid in leb-true _ _ (h .0 .0 .0 .1 .0 .1 .1)
 
   -- a port adds at most the most extra bytes to a frame
   pub extra-most : (q : ℕ) → q < portSlots → extraOf p q ≤ maxExtra

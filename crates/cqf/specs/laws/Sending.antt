@@ -13,7 +13,7 @@ use Rattle.cqf.specs.Bounded.{countTo, distinct}
 use Rattle.cqf.specs.Limits.{flowSlots}
 use Rattle.cqf.specs.Plan.{Plan, routeOf, crosses, validPlan}
 use Rattle.cqf.specs.Condition.{wireBits, frames, demand}
-use Rattle.cqf.specs.Emission.{Cycles}
+use Rattle.cqf.specs.Cycles.{Cycles}
 use Rattle.cqf.specs.Run.{Places, isQueuedAt, running, run, queuedBits}
 use Rattle.cqf.specs.laws.Bounded.{sumTo-le, countTo-le, countTo-none}
 use Rattle.cqf.specs.laws.Lists.{elem-index, elem-none, distinct-index}

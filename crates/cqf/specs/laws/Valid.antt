@@ -7,21 +7,22 @@ use native.Mathlib.Omega.{arith}
 use borrow.Author.Tests.{eqb-true, ltb-true, leb-true, lt-ltb}
 use Rattle.cqf.specs.Bounded.{elem, distinct, every, sublist, allTo, anyTo}
 use Rattle.cqf.specs.Limits.{portSlots, flowSlots, maxHops, maxJitter, guardOk, topOk}
-use Rattle.cqf.specs.Plan.{Plan, periodOf, countOf, lengthOf, jitterOf, hopsOf, routeOf, present, crosses, portIn, validPort, validFlow, validPlan}
+use Rattle.cqf.specs.Plan.{Plan, periodOf, countOf, lengthOf, jitterOf, hopsOf, routeOf, present, crosses, portIn, clockOk, validPort, validFlow, validPlan}
 use Rattle.cqf.specs.laws.Bounded.{or-cases, allTo-at}
 use Rattle.cqf.specs.laws.Slot.{emptyAt, heldAt}
 
--- a plan is valid as its five tests say
+-- a plan is valid as its six tests say
 pub valid-by
-    : (p : Plan) {top guard ports flows some : Bool}
+    : (p : Plan) {top guard clock ports flows some : Bool}
     → topOk (p .top) ≡ top
     → guardOk (p .guard) ≡ guard
+    → clockOk (p .clock) ≡ clock
     → allTo portSlots (validPort p) ≡ ports
     → allTo flowSlots (validFlow p) ≡ flows
     → anyTo flowSlots (present p) ≡ some
-    → validPlan p ≡ top && guard && ports && flows && some
+    → validPlan p ≡ top && guard && clock && ports && flows && some
 unfolding validPlan
-valid-by p e1 e2 e3 e4 e5 = λ i. e1 i && e2 i && e3 i && e4 i && e5 i
+valid-by p e1 e2 e3 e4 e5 e6 = λ i. e1 i && e2 i && e3 i && e4 i && e5 i && e6 i
 
 -- a slot without a flow
 pub record Empty (p : Plan) (f : ℕ) : Type 0 where

@@ -9,15 +9,15 @@ use native.Mathlib.Omega.{arith}
 use lib.ListN.{length}
 use lib.Seq.{set-comm, getD-set-same, getD-set-other}
 use Rattle.cqf.specs.Limits.{portSlots, flowSlots, routeStride, portOk, flowOk}
-use Rattle.cqf.specs.Plan.{Plan}
+use Rattle.cqf.specs.Plan.{Clock, Plan}
 use Rattle.plan.specs.Field.{Field}
-use Rattle.plan.specs.Key.{headerKey, portKeys, flowKeys, extraKeys, jitterKeys, keySlots, keyOf}
+use Rattle.plan.specs.Key.{headerKey, portKeys, flowKeys, extraKeys, jitterKeys, clockKey, keySlots, keyOf}
 use Rattle.plan.specs.Put.{keep, put, given}
-use Rattle.plan.specs.Store.{headerNumber, portNumber, flowNumber, putsExtra, putsJitter, putsRoute, store}
+use Rattle.plan.specs.Store.{headerNumber, portNumber, flowNumber, putsClock, putsExtra, putsJitter, putsRoute, store}
 use Rattle.plan.specs.Draft.{Draft, taken, added, portsIn, flowsIn}
 use Rattle.plan.specs.Ranges.{NumbersOk, RouteFits}
 use Rattle.plan.specs.laws.Within.{within-low, within-high}
-use Rattle.plan.specs.laws.Kinds.{of-header, of-port, of-flow, of-extra, of-jitter, key-below}
+use Rattle.plan.specs.laws.Kinds.{of-header, of-port, of-flow, of-extra, of-jitter, of-clock, key-below}
 use Rattle.plan.specs.laws.Puts.{Block, Placed, put-comm, Owned, given-comm}
 
 -- test 6 of one does not see another of a different key
@@ -60,9 +60,13 @@ jitter-block n ok =
     let low = within-low 1 flowSlots n ok in
     record { owned = omega arith; here = omega arith; fits = omega arith }
 
--- where what a field puts stands: a number of the header, of a port, of a flow, the route, extra bytes, and a jitter
+-- where what a field puts stands: a number of the header, the clock, a number of a port, of a flow, the route, extra bytes, and
+-- a jitter
 header-owned : (which : (guard top : ℕ) → ℕ) (x : Field) → NumbersOk x → Owned headerKey (keyOf x) (headerNumber which x)
 header-owned which = of-header (Owned headerKey) none (λ key. tt) _ (λ g t ok. refl)
+
+clock-owned : (x : Field) → NumbersOk x → Owned clockKey (keyOf x) (putsClock x)
+clock-owned = of-clock (Owned clockKey) none (λ key. tt) _ (λ c ok. refl)
 
 port-placed : (which : (number rate blocking : ℕ) → ℕ) (x : Field) → NumbersOk x → Placed portKeys 1 (keyOf x) (portNumber which x)
 port-placed which = of-port (Placed portKeys 1) keep (λ key. tt) _ (λ n r b ok. port-block n (ok .number))
@@ -98,6 +102,12 @@ module _ (x y : Field) (v w : List ℕ) (k : NumbersOk x) (m : NumbersOk y) (a :
       given-comm headerKey (keyOf x) (keyOf y) differ n (headerNumber which x) (headerNumber which y)
       (header-owned which x k)
       (header-owned which y m)
+
+  clock-comm : (c : Clock) → given (given c (putsClock x)) (putsClock y) ≡ given (given c (putsClock y)) (putsClock x)
+  clock-comm c =
+      given-comm clockKey (keyOf x) (keyOf y) differ c (putsClock x) (putsClock y)
+      (clock-owned x k)
+      (clock-owned y m)
 
   port-comm : (which : (number rate blocking : ℕ) → ℕ) (l : List ℕ) → let u = portNumber which in put (put l (u x)) (u y) ≡ put (put l (u y)) (u x)
   port-comm which l =
@@ -137,6 +147,7 @@ module _ (x y : Field) (v w : List ℕ) (k : NumbersOk x) (m : NumbersOk y) (a :
   store-comm p = λ i. record {
     guard = header-comm (λ guard top. guard) (p .guard) i;
     top = header-comm (λ guard top. top) (p .top) i;
+    clock = clock-comm (p .clock) i;
     rates = port-comm (λ number rate blocking. rate) (p .rates) i;
     blockings = port-comm (λ number rate blocking. blocking) (p .blockings) i;
     extras = extra-comm (p .extras) i;

@@ -12,7 +12,7 @@ use lib.Seq.{getD-set-same, getD-set-other}
 use borrow.Author.Tests.{lt-ltb}
 use Rattle.cqf.specs.Bounded.{every, distinct}
 use Rattle.cqf.specs.Limits.{portSlots, flowSlots, maxHops, guardOk, topOk}
-use Rattle.cqf.specs.Plan.{Plan, noPlan, periodOf, routeOf, present, portIn}
+use Rattle.cqf.specs.Plan.{Plan, noPlan, clockOk, periodOf, routeOf, present, portIn}
 use Rattle.plan.specs.Field.{Field, header, port, flow}
 use Rattle.plan.specs.Key.{headerKey, keyOf}
 use Rattle.plan.specs.Store.{store}
@@ -29,6 +29,7 @@ pub record ValidDraft (rates periods : List ℕ) (d : Draft) : Type 0 where
   pub sized : Sized (d .tables)
   pub guard : guardOk (d .tables .guard) ≡ true
   pub top : hasKey d headerKey ≡ true → topOk (d .tables .top) ≡ true
+  pub clock : clockOk (d .tables .clock) ≡ true
   pub ports : (q : ℕ) → q < portSlots → validRate (d .tables) q ≡ true
   pub extras : (q : ℕ) → q < portSlots → validExtra rates (d .tables) q ≡ true
   pub flows : (f : ℕ) → f < flowSlots → validIn rates (d .tables) f ≡ true
@@ -42,6 +43,7 @@ blank-valid rates periods =
       sized = sized-none;
       guard = refl;
       top = λ e. absurd (true≢false (sym e));
+      clock = refl;
       ports = λ q l. rw (getD-replicate {A = ℕ} portSlots q 0 0 l);
       extras = λ q l. rw (getD-replicate {A = ℕ} portSlots q 0 0 l);
       flows = λ f l. rw (getD-replicate {A = ℕ} flowSlots f 0 0 l);
@@ -66,6 +68,7 @@ header-valid rates periods d g t r ok s =
       sized = sized-store (d .tables) (header g t) r (s .sized);
       guard = ok .guard;
       top = λ e. ok .top;
+      clock = s .clock;
       ports = s .ports;
       extras = s .extras;
       flows = s .flows;
@@ -85,6 +88,7 @@ port-valid rates periods d n rate b r ok s =
       sized = sized-store (d .tables) (port n rate b) r (s .sized);
       guard = s .guard;
       top = λ e. s .top (sym (header-flag d (port n rate b) r some-number) ∙ e);
+      clock = s .clock;
       ports = λ q l. slot q l (ℕ-discrete q (n - 1));
       extras = s .extras;
       flows = s .flows;
@@ -127,6 +131,7 @@ flow-valid rates periods d n t c l h r ok on once named s =
       sized = sized-store (d .tables) (flow n t c l h) r (s .sized);
       guard = s .guard;
       top = λ e. s .top (sym (header-flag d (flow n t c l h) r (omega arith)) ∙ e);
+      clock = s .clock;
       ports = s .ports;
       extras = s .extras;
       flows = λ f less. slot f less (ℕ-discrete f (n - 1));

@@ -1,12 +1,15 @@
 -- What holds of what a field gives, by its key: shown of the kind that gives it, with its numbers in range, and of what any
 -- other kind gives.
 use Prim.Native.Nat.{ℕ, _+_, _<_}
+use mathlib.Core.Path.{_≡_}
 use mathlib.Core.List.{List}
+use mathlib.Core.Bool.{true}
 use native.Mathlib.Omega.{arith}
 use Rattle.cqf.specs.Limits.{portSlots, flowSlots}
-use Rattle.plan.specs.Field.{Field, header, port, flow, extra, jitter}
-use Rattle.plan.specs.Kind.{ofHeader, ofPort, ofFlow, ofExtra, ofJitter}
-use Rattle.plan.specs.Key.{headerKey, keySlots, keyOf}
+use Rattle.cqf.specs.Plan.{Clock, clockOk}
+use Rattle.plan.specs.Field.{Field, header, port, flow, extra, jitter, clock}
+use Rattle.plan.specs.Kind.{ofHeader, ofPort, ofFlow, ofExtra, ofJitter, ofClock}
+use Rattle.plan.specs.Key.{headerKey, clockKey, keySlots, keyOf}
 use Rattle.plan.specs.Ranges.{HeaderOk, PortOk, FlowOk, ExtraOk, JitterOk, RouteOk, NumbersOk, RouteFits}
 use Rattle.plan.specs.laws.Within.{within-high}
 
@@ -22,6 +25,7 @@ module _ {A : Type 0} (P : ℕ → A → Type 0) (other : A) (rest : (key : ℕ)
   of-header gives own (flow n p c l h) k = rest (portSlots + n)
   of-header gives own (extra n b) k = rest (portSlots + flowSlots + n)
   of-header gives own (jitter n j) k = rest (portSlots + flowSlots + portSlots + n)
+  of-header gives own (clock c) k = rest clockKey
 
   pub of-port
       : (gives : (number rate blocking : ℕ) → A)
@@ -34,6 +38,7 @@ module _ {A : Type 0} (P : ℕ → A → Type 0) (other : A) (rest : (key : ℕ)
   of-port gives own (flow n p c l h) k = rest (portSlots + n)
   of-port gives own (extra n b) k = rest (portSlots + flowSlots + n)
   of-port gives own (jitter n j) k = rest (portSlots + flowSlots + portSlots + n)
+  of-port gives own (clock c) k = rest clockKey
 
   pub of-flow
       : (route : List ℕ) (gives : (number period count length hops : ℕ) → A)
@@ -47,6 +52,7 @@ module _ {A : Type 0} (P : ℕ → A → Type 0) (other : A) (rest : (key : ℕ)
   of-flow route gives own (flow n p c l h) k fits = own n p c l h k fits
   of-flow route gives own (extra n b) k fits = rest (portSlots + flowSlots + n)
   of-flow route gives own (jitter n j) k fits = rest (portSlots + flowSlots + portSlots + n)
+  of-flow route gives own (clock c) k fits = rest clockKey
 
   pub of-extra
       : (gives : (number bytes : ℕ) → A)
@@ -59,6 +65,7 @@ module _ {A : Type 0} (P : ℕ → A → Type 0) (other : A) (rest : (key : ℕ)
   of-extra gives own (flow n p c l h) k = rest (portSlots + n)
   of-extra gives own (extra n b) k = own n b k
   of-extra gives own (jitter n j) k = rest (portSlots + flowSlots + portSlots + n)
+  of-extra gives own (clock c) k = rest clockKey
 
   pub of-jitter
       : (gives : (number ns : ℕ) → A)
@@ -71,6 +78,20 @@ module _ {A : Type 0} (P : ℕ → A → Type 0) (other : A) (rest : (key : ℕ)
   of-jitter gives own (flow n p c l h) k = rest (portSlots + n)
   of-jitter gives own (extra n b) k = rest (portSlots + flowSlots + n)
   of-jitter gives own (jitter n j) k = own n j k
+  of-jitter gives own (clock c) k = rest clockKey
+
+  pub of-clock
+      : (gives : Clock → A)
+      → ((c : Clock) → clockOk c ≡ true → P clockKey (gives c))
+      → (x : Field)
+      → NumbersOk x
+      → P (keyOf x) (ofClock other gives x)
+  of-clock gives own (header g t) k = rest headerKey
+  of-clock gives own (port n r b) k = rest (headerKey + n)
+  of-clock gives own (flow n p c l h) k = rest (portSlots + n)
+  of-clock gives own (extra n b) k = rest (portSlots + flowSlots + n)
+  of-clock gives own (jitter n j) k = rest (portSlots + flowSlots + portSlots + n)
+  of-clock gives own (clock c) k = own c k
 
 -- a field in range has its flag
 pub key-below : (x : Field) → NumbersOk x → keyOf x < keySlots
@@ -79,3 +100,4 @@ key-below (port n r b) k = omega (arith, within-high _ _ n (k .number))
 key-below (flow n p c l h) k = omega (arith, within-high _ _ n (k .number))
 key-below (extra n b) k = omega (arith, within-high _ _ n (k .number))
 key-below (jitter n j) k = omega (arith, within-high _ _ n (k .number))
+key-below (clock c) k = omega arith

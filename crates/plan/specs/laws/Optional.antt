@@ -8,8 +8,8 @@ use native.Mathlib.Omega.{arith}
 use native.Mathlib.Decide.{ℕ-discrete}
 use lib.Seq.{getD-set-same, getD-set-other}
 use Rattle.cqf.specs.Limits.{portSlots, flowSlots}
-use Rattle.cqf.specs.Plan.{Plan, portIn}
-use Rattle.plan.specs.Field.{extra, jitter}
+use Rattle.cqf.specs.Plan.{Clock, Plan, portIn, clockOk}
+use Rattle.plan.specs.Field.{extra, jitter, clock}
 use Rattle.plan.specs.Store.{store}
 use Rattle.plan.specs.Draft.{Draft, added}
 use Rattle.plan.specs.Reading.{hasFlow}
@@ -32,6 +32,7 @@ extra-valid rates periods d n b r ok named s =
       sized = sized-store (d .tables) (extra n b) r (s .sized);
       guard = s .guard;
       top = λ e. s .top (sym (header-flag d (extra n b) r (omega arith)) ∙ e);
+      clock = s .clock;
       ports = s .ports;
       extras = λ q l. slot q l (ℕ-discrete q (n - 1));
       flows = s .flows;
@@ -67,6 +68,7 @@ jitter-valid rates periods d n j r ok named s =
       sized = sized-store (d .tables) (jitter n j) r (s .sized);
       guard = s .guard;
       top = λ e. s .top (sym (header-flag d (jitter n j) r (omega arith)) ∙ e);
+      clock = s .clock;
       ports = s .ports;
       extras = s .extras;
       flows = s .flows;
@@ -88,3 +90,23 @@ jitter-valid rates periods d n j r ok named s =
     slot : (f : ℕ) → f < flowSlots → Dec (f ≡ n - 1) → validJitter periods o f ≡ true
     slot f l (yes e) = rw e new
     slot f l (no ne) = jitter-kept periods (d .tables) o f (getD-set-other (d .tables .jitters) (n - 1) f j 0 ne) (s .jitters f l)
+
+-- the clock
+pub clock-valid
+    : (rates periods : List ℕ) (d : Draft) (k : Clock) (r : List ℕ)
+    → clockOk k ≡ true
+    → ValidDraft rates periods d
+    → ValidDraft rates periods (added d (clock k) r)
+unfolding added store validRate validExtra validIn validJitter
+clock-valid rates periods d k r ok s =
+    record {
+      sized = sized-store (d .tables) (clock k) r (s .sized);
+      guard = s .guard;
+      top = λ e. s .top (sym (header-flag d (clock k) r (omega arith)) ∙ e);
+      clock = ok;
+      ports = s .ports;
+      extras = s .extras;
+      flows = s .flows;
+      jitters = s .jitters;
+      some = rw add-zero (s .some);
+    }

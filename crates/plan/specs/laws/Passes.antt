@@ -9,8 +9,9 @@ use lib.ListN.{length}
 use borrow.Author.Tests.{eqb-true}
 use Rattle.cqf.specs.Bounded.{every}
 use Rattle.cqf.specs.Limits.{guardOk, topOk, portOk, rateOk, lengthOk, blockingOk, extraOk, flowOk, periodOk, countOk, jitterOk, hopsOk}
+use Rattle.cqf.specs.Plan.{clockOk}
 use Rattle.plan.specs.Bytes.{number2, number4, headSize, tagAt, sizeAt, wholeAt, valueAt}
-use Rattle.plan.specs.Field.{Field, header, port, flow, extra, jitter, FieldRead, field, refused, unless, headerTag, portTag, flowTag, extraTag, jitterTag, headerSize, portSize, flowSize, extraSize, jitterSize, hopsIn, routeIn, headerIn, portInValue, flowIn, extraIn, jitterIn, fieldIn, fieldAt}
+use Rattle.plan.specs.Field.{Field, header, port, flow, extra, jitter, clock, FieldRead, field, refused, unless, headerTag, portTag, flowTag, extraTag, jitterTag, clockTag, headerSize, portSize, flowSize, extraSize, jitterSize, clockSize, hopsIn, routeIn, headerIn, portInValue, flowIn, extraIn, jitterIn, clockNumbers, clockIn, fieldIn, fieldAt}
 use Rattle.plan.specs.Ranges.{NumbersOk, RouteFits}
 use Rattle.plan.specs.laws.Route.{value-hops}
 
@@ -21,6 +22,7 @@ tagOf (port n r b) = portTag
 tagOf (flow n p c l h) = flowTag
 tagOf (extra n b) = extraTag
 tagOf (jitter n j) = jitterTag
+tagOf (clock k) = clockTag
 
 abbrev numbersIn : ℕ → List ℕ → Field
 numbersIn tag v =
@@ -28,7 +30,8 @@ numbersIn tag v =
     (cond (eqb tag portTag) (port (number2 v 0) (number4 v 2) (number2 v 6))
     (cond (eqb tag flowTag) (flow (number2 v 0) (number4 v 2) (number2 v 6) (number2 v 8) (hopsIn (length v)))
     (cond (eqb tag extraTag) (extra (number2 v 0) (number2 v 2))
-    (jitter (number2 v 0) (number4 v 2)))))
+    (cond (eqb tag jitterTag) (jitter (number2 v 0) (number4 v 2))
+    (clock (clockNumbers v))))))
 
 -- field x is the one of this tag and value
 pub record Passes (tag : ℕ) (v : List ℕ) (x : Field) : Type 0 where
@@ -146,6 +149,13 @@ module _ (tag : ℕ) (v : List ℕ) (at after : ℕ) {x : Field} {next : ℕ} wh
       (record { kind = k; numbers = rw k; ok = record { number = t .0; ns = t .1 }; route = tt })
       (b .1)
 
+  clock-read : tag ≡ clockTag → clockIn v at after ≡ field x next → Read tag v after x next
+  unfolding clockIn
+  clock-read k e =
+      let a = unless-passes 4 at (eqb (length v) clockSize) _ e in
+      let b = unless-passes 5 at (clockOk (clockNumbers v)) _ (a .1) in
+      read-as tag v after (clock (clockNumbers v)) (record { kind = k; numbers = rw k; ok = b .0; route = tt }) (b .1)
+
   unknown : refused 3 at ≡ field x next → Read tag v after x next
   unknown e = let z : _≡_ {A = ℕ} 0 1 = cc in absurd (omega arith)
 
@@ -157,7 +167,8 @@ module _ (tag : ℕ) (v : List ℕ) (at after : ℕ) {x : Field} {next : ℕ} wh
       (by-tag tag flowTag _ _ flow-read
       (by-tag tag extraTag _ _ extra-read
       (by-tag tag jitterTag _ _ jitter-read
-      unknown))))
+      (by-tag tag clockTag _ _ clock-read
+      unknown)))))
 
 -- a field of the plan is whole, and passes
 pub field-is-whole : (s : List ℕ) (at : ℕ) (x : Field) (next : ℕ) → fieldAt s at ≡ field x next → wholeAt s at ≡ true

@@ -63,18 +63,18 @@ module _ (first width k m : ℕ) (differ : k ≢ m) where
   put-comm l (run i vs) (number j z) a b = runs-comm l i vs j (z ∷ []) a b
   put-comm l (run i vs) (run j ws) a b = runs-comm l i vs j ws a b
 
--- a number that only one key gives
-abbrev pub Owned : (owner key : ℕ) → Option ℕ → Type 0
+-- what only one key gives
+abbrev pub Owned : {A : Type 0} (owner key : ℕ) → Option A → Type 0
 Owned owner key none = Unit {0}
-Owned owner key (some n) = key ≡ owner
+Owned owner key (some b) = key ≡ owner
 
 pub given-comm
-    : (owner k m : ℕ)
+    : {A : Type 0} (owner k m : ℕ)
     → k ≢ m
-    → (n : ℕ) (a b : Option ℕ)
-    → Owned owner k a
-    → Owned owner m b
-    → given (given n a) b ≡ given (given n b) a
-given-comm owner k m differ n none b p q = refl
-given-comm owner k m differ n (some v) none p q = refl
-given-comm owner k m differ n (some v) (some w) p q = absurd (differ (p ∙ sym q))
+    → (a : A) (u w : Option A)
+    → Owned owner k u
+    → Owned owner m w
+    → given (given a u) w ≡ given (given a w) u
+given-comm owner k m differ a none w p q = refl
+given-comm owner k m differ a (some b) none p q = refl
+given-comm owner k m differ a (some b) (some c) p q = absurd (differ (p ∙ sym q))

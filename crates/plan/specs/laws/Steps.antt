@@ -8,7 +8,7 @@ use borrow.Author.Tests.{lt-ltb, le-ltb, ltb-true, ltb-false}
 use lib.Dec.{ltb}
 use lib.ListN.{length}
 use Rattle.plan.specs.Bytes.{headSize}
-use Rattle.plan.specs.Field.{Field, header, port, flow, extra, jitter, FieldRead, field, refused, fieldAt}
+use Rattle.plan.specs.Field.{Field, header, port, flow, extra, jitter, clock, FieldRead, field, refused, fieldAt}
 use Rattle.plan.specs.Draft.{Draft, taken, fieldRepeats, added, portsIn, flowsIn}
 use Rattle.plan.specs.Reading.{rejected, Mode, Step, stop, more, routeAt, fieldStep, stepAt, closing, readFrom}
 use Rattle.plan.specs.laws.Found.{found-forward, found-within}
@@ -82,6 +82,7 @@ portsIn-one (port n r b) = omega arith
 portsIn-one (flow n p c l h) = omega arith
 portsIn-one (extra n b) = omega arith
 portsIn-one (jitter n j) = omega arith
+portsIn-one (clock c) = omega arith
 
 pub flowsIn-one : (x : Field) → flowsIn x ≤ 1
 flowsIn-one (header g t) = omega arith
@@ -89,6 +90,7 @@ flowsIn-one (port n r b) = omega arith
 flowsIn-one (flow n p c l h) = omega arith
 flowsIn-one (extra n b) = omega arith
 flowsIn-one (jitter n j) = omega arith
+flowsIn-one (clock c) = omega arith
 
 pub onward : (mode : Mode) (s : List ℕ) (at : ℕ) (d : Draft) (next : ℕ) (d′ : Draft) → stepAt mode s at d ≡ more next d′ → Onward s at d next d′
 unfolding added

@@ -8,9 +8,10 @@ use lib.Dec.{eqb}
 use lib.ListN.{length}
 use Rattle.cqf.specs.Bounded.{every}
 use Rattle.cqf.specs.Limits.{guardOk, topOk, portOk, rateOk, lengthOk, blockingOk, extraOk, flowOk, periodOk, countOk, jitterOk, hopsOk}
+use Rattle.cqf.specs.Plan.{clockOk}
 use Rattle.plan.specs.Bytes.{number2, number4, headSize, tagAt, sizeAt, wholeAt, valueAt}
-use Rattle.plan.specs.Field.{header, port, flow, extra, jitter, field, refused, headerTag, portTag, flowTag, extraTag, jitterTag, headerSize, portSize, flowSize, extraSize, jitterSize}
-use Rattle.plan.specs.Field.{hopsIn, routeIn, headerIn, portInValue, flowIn, extraIn, jitterIn, fieldIn, fieldAt}
+use Rattle.plan.specs.Field.{header, port, flow, extra, jitter, clock, field, refused, headerTag, portTag, flowTag, extraTag, jitterTag, clockTag, headerSize, portSize, flowSize, extraSize, jitterSize, clockSize}
+use Rattle.plan.specs.Field.{hopsIn, routeIn, headerIn, portInValue, flowIn, extraIn, jitterIn, clockNumbers, clockIn, fieldIn, fieldAt}
 
 -- test 2
 module _ (s : List ℕ) (at : ℕ) where
@@ -44,6 +45,10 @@ module _ (v : List ℕ) (at next : ℕ) where
   unfolding fieldIn
   tag-jitter tag e = rw e
 
+  pub tag-clock : (tag : ℕ) → tag ≡ clockTag → fieldIn tag v at next ≡ clockIn v at next
+  unfolding fieldIn
+  tag-clock tag e = rw e
+
   pub tag-unknown
       : (tag : ℕ)
       → (tag ≡ headerTag → ⊥)
@@ -51,9 +56,10 @@ module _ (v : List ℕ) (at next : ℕ) where
       → (tag ≡ flowTag → ⊥)
       → (tag ≡ extraTag → ⊥)
       → (tag ≡ jitterTag → ⊥)
+      → (tag ≡ clockTag → ⊥)
       → fieldIn tag v at next ≡ refused 3 at
   unfolding fieldIn
-  tag-unknown tag h p f x j = rw (ne-eqb _ _ h, ne-eqb _ _ p, ne-eqb _ _ f, ne-eqb _ _ x, ne-eqb _ _ j)
+  tag-unknown tag h p f x j c = rw (ne-eqb _ _ h, ne-eqb _ _ p, ne-eqb _ _ f, ne-eqb _ _ x, ne-eqb _ _ j, ne-eqb _ _ c)
 
   -- a header of another length, with a number out of range, or with neither
   pub header-length : eqb (length v) headerSize ≡ false → headerIn v at next ≡ refused 4 at
@@ -132,3 +138,16 @@ module _ (v : List ℕ) (at next : ℕ) where
       → jitterIn v at next ≡ field (jitter (number2 v 0) (number4 v 2)) next
   unfolding jitterIn
   jitter-read e f = rw (e, f)
+
+  -- and of a clock
+  pub clock-length : eqb (length v) clockSize ≡ false → clockIn v at next ≡ refused 4 at
+  unfolding clockIn
+  clock-length e = rw e
+
+  pub clock-range : eqb (length v) clockSize ≡ true → clockOk (clockNumbers v) ≡ false → clockIn v at next ≡ refused 5 at
+  unfolding clockIn
+  clock-range e f = rw (e, f)
+
+  pub clock-read : eqb (length v) clockSize ≡ true → clockOk (clockNumbers v) ≡ true → clockIn v at next ≡ field (clock (clockNumbers v)) next
+  unfolding clockIn
+  clock-read e f = rw (e, f)

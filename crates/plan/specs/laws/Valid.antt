@@ -11,7 +11,7 @@ use Rattle.cqf.specs.Limits.{portSlots, flowSlots}
 use Rattle.cqf.specs.Plan.{Plan, present, validPort, validFlow, validPlan}
 use Rattle.cqf.specs.laws.Bounded.{allTo-every, anyTo-some}
 use Rattle.plan.specs.Bytes.{tagAt, valueAt}
-use Rattle.plan.specs.Field.{Field, header, port, flow, extra, jitter}
+use Rattle.plan.specs.Field.{Field, header, port, flow, extra, jitter, clock}
 use Rattle.plan.specs.Key.{headerKey}
 use Rattle.plan.specs.Draft.{Draft, hasKey, fieldRepeats, added}
 use Rattle.plan.specs.Reading.{accepted, routeAt, readPlan}
@@ -20,7 +20,7 @@ use Rattle.plan.specs.laws.Slots.{port-whole, flow-whole}
 use Rattle.plan.specs.laws.Walk.{Reads, done, one, accepted-reads, closing-accepted}
 use Rattle.plan.specs.laws.Absent.{NamedThere, AllThere, all-there, there-front, there-route, there-jitter, there-extra}
 use Rattle.plan.specs.laws.Drafts.{ValidDraft, blank-valid, header-valid, port-valid, flow-valid}
-use Rattle.plan.specs.laws.Optional.{extra-valid, jitter-valid}
+use Rattle.plan.specs.laws.Optional.{extra-valid, jitter-valid, clock-valid}
 
 -- a field of the walk keeps the draft valid
 field-valid
@@ -40,6 +40,7 @@ field-valid rates periods s at d (extra n b) k once named h =
 field-valid rates periods s at d (jitter n j) k once named h =
     let own = jitter-number (tagAt s at) (valueAt s at) n j k in
     jitter-valid rates periods d n j (routeAt s at) (k .ok) (rw own at (there-jitter rates periods s at (k .kind) named)) h
+field-valid rates periods s at d (clock c) k once named h = clock-valid rates periods d c (routeAt s at) (k .ok) h
 
 -- so does the whole walk
 walk-valid
@@ -66,6 +67,7 @@ draft-valid d h headed flowing =
     rw (
       h .top headed,
       h .guard,
+      h .clock,
       allTo-every portSlots (validPort p) (λ q l. port-whole p q (h .ports q l) (h .extras q l)),
       allTo-every flowSlots (validFlow p) (λ f l. flow-whole p f (h .flows f l) (h .jitters f l)),
       some (h .some),

@@ -5,9 +5,9 @@ use mathlib.Core.List.{List, _∷_}
 use lib.ListN.{getD, set, getD-replicate}
 use lib.Seq.{set-getD}
 use Rattle.cqf.specs.Limits.{portSlots, flowSlots}
-use Rattle.cqf.specs.Plan.{Plan, noPlan}
+use Rattle.cqf.specs.Plan.{Clock, Plan, noPlan, equalClocks}
 use Rattle.plan.specs.Bytes.{tagAt, valueAt}
-use Rattle.plan.specs.Field.{Field, header, port, flow, extra, jitter, routeIn}
+use Rattle.plan.specs.Field.{Field, header, port, flow, extra, jitter, clock, routeIn}
 use Rattle.plan.specs.Store.{store}
 use Rattle.plan.specs.Draft.{Draft, blank, added, portsIn, flowsIn}
 use Rattle.plan.specs.Ranges.{ExtraOk, JitterOk, NumbersOk}
@@ -23,12 +23,13 @@ use Rattle.plan.specs.laws.Order.{all-permuted, accepted-stored, flagged
 kept : (l : List ℕ) (i v : ℕ) → getD l i 0 ≡ 0 → v ≡ 0 → set l i v ≡ l
 kept l i v none zero = ap (set l i) (zero ∙ sym none) ∙ set-getD l i 0
 
--- the tables with these extra bytes and jitters
-abbrev tablesWith : Plan → List ℕ → List ℕ → Plan
-tablesWith p extras jitters =
+-- the tables with this clock, these extra bytes and jitters
+abbrev tablesWith : Plan → Clock → (extras jitters : List ℕ) → Plan
+tablesWith p k extras jitters =
     record {
       guard = p .guard;
       top = p .top;
+      clock = k;
       rates = p .rates;
       blockings = p .blockings;
       extras = extras;
@@ -40,18 +41,22 @@ tablesWith p extras jitters =
       routes = p .routes;
     }
 
--- empty tables stay so with extra bytes of 0, and with a jitter of 0
+-- empty tables stay so with extra bytes of 0, with a jitter of 0, and with clocks that are taken as equal
 extra-nothing : (n b : ℕ) (r : List ℕ) → ExtraOk n b → b ≡ 0 → store noPlan (extra n b) r ≡ noPlan
 unfolding store noPlan
 extra-nothing n b r ok zero =
     let none = getD-replicate {A = ℕ} portSlots (n - 1) 0 0 (slot-below portSlots n (ok .number)) in
-    ap (λ (l : List ℕ). tablesWith noPlan l (noPlan .jitters)) (kept (noPlan .extras) (n - 1) b none zero)
+    ap (λ (l : List ℕ). tablesWith noPlan equalClocks l (noPlan .jitters)) (kept (noPlan .extras) (n - 1) b none zero)
 
 jitter-nothing : (n j : ℕ) (r : List ℕ) → JitterOk n j → j ≡ 0 → store noPlan (jitter n j) r ≡ noPlan
 unfolding store noPlan
 jitter-nothing n j r ok zero =
     let none = getD-replicate {A = ℕ} flowSlots (n - 1) 0 0 (slot-below flowSlots n (ok .number)) in
-    ap (tablesWith noPlan (noPlan .extras)) (kept (noPlan .jitters) (n - 1) j none zero)
+    ap (tablesWith noPlan equalClocks (noPlan .extras)) (kept (noPlan .jitters) (n - 1) j none zero)
+
+clock-nothing : (k : Clock) (r : List ℕ) → k ≡ equalClocks → store noPlan (clock k) r ≡ noPlan
+unfolding store noPlan
+clock-nothing k r same = ap (λ (c : Clock). tablesWith noPlan c (noPlan .extras) (noPlan .jitters)) same
 
 -- two drafts with the same tables and counts, whatever was seen
 record Alike (d e : Draft) : Type 0 where
@@ -86,6 +91,7 @@ blank-alike (port n rate b) r ok void = absurd void
 blank-alike (flow n t c l h) r ok void = absurd void
 blank-alike (extra n b) r ok zero = record { tables = extra-nothing n b r ok zero; ports = refl; flows = refl }
 blank-alike (jitter n j) r ok zero = record { tables = jitter-nothing n j r ok zero; ports = refl; flows = refl }
+blank-alike (clock k) r ok same = record { tables = clock-nothing k r same; ports = refl; flows = refl }
 
 -- the fields but the first, where that says nothing
 without-zero

@@ -11,10 +11,11 @@ use Rattle.cqf.specs.Plan.{Plan, rateOf, blockingOf, extraOf, validPlan}
 use Rattle.cqf.specs.Condition.{needBy, demand, need, largestNeed, mostDemand}
 use Rattle.cqf.specs.laws.Bounds.{maxTo-same}
 use Rattle.cqf.specs.laws.Tabulate.{tabulate-length, tabulate-at}
-use Rattle.cqf.specs.laws.Ranges.{top-most, extra-most}
+use Rattle.cqf.specs.laws.Ranges.{top-most}
 use Rattle.cqf.specs.laws.Search.{busy-rate}
 use Rattle.tables.specs.Columns.{columns}
-use Rattle.planner.specs.laws.Sums.{slot-in-range, demand-most, demand-columns}
+use Rattle.planner.specs.laws.Stretched.{demand-fits}
+use Rattle.planner.specs.laws.Sums.{demand-columns}
 
 -- the demands at t, in a valid plan
 pub record Filled (p : Plan) (out : List ℕ) (t : ℕ) : Type 0 where
@@ -26,7 +27,7 @@ pub filled-by
     : (p : Plan) {out : List ℕ} {t : ℕ}
     → validPlan p ≡ true
     → t ≤ p .top
-    → out ≡ tabulate portSlots (λ q. demand (columns [] [] (p .extras) (p .periods) (p .counts) (p .lengths) (p .jitters) (p .hops) (p .routes)) q t)
+    → out ≡ tabulate portSlots (λ q. demand (columns (p .clock) [] [] (p .extras) (p .periods) (p .counts) (p .lengths) (p .jitters) (p .hops) (p .routes)) q t)
     → Filled p out t
 filled-by p {t = t} valid l e =
     record { valid = valid; within = l; demands = e ∙ ap (tabulate portSlots) (fun-ext (λ q. demand-columns p q t)) }
@@ -43,7 +44,7 @@ module _ {p : Plan} {out : List ℕ} {t : ℕ} (s : Filled p out t) where
     filled-bits = rw (s .demands) (tabulate-at portSlots (λ q. demand p q t) q slot)
 
     pub filled-most : getD out q 0 ≤ mostDemand
-    filled-most = rw filled-bits (demand-most p (slot-in-range p (s .valid)) (extra-most p (s .valid)) t filled-short q slot)
+    filled-most = rw filled-bits (demand-fits p (s .valid) t (s .within) q slot)
 
     -- a port with a demand has a rate
     pub filled-served : 0 < getD out q 0 → 0 < rateOf p q

@@ -12,7 +12,7 @@ use lib.ListN.{length, getD}
 use lib.Seq.{ext-getD}
 use borrow.Author.Tests.{ne-eqb}
 use Rattle.cqf.specs.Bounded.{sumTo, elem, every, distinct, sublist, tabulate}
-use Rattle.cqf.specs.Limits.{portSlots, flowSlots, maxTop, minPeriod, portOk}
+use Rattle.cqf.specs.Limits.{portSlots, flowSlots, minPeriod, portOk, mostStretch}
 use Rattle.cqf.specs.Plan.{Plan, extraOf, periodOf, countOf, lengthOf, jitterOf, hopsOf, routeOf, crosses, portIn, validPlan}
 use Rattle.cqf.specs.Condition.{bitsOf, framesBy, wireBits, begun, stretch, frames, demand, mostBits, mostDemand}
 use Rattle.cqf.specs.laws.Bounds.{sumTo-most}
@@ -20,7 +20,6 @@ use Rattle.cqf.specs.laws.Valid.{Empty, Held, slot-cases}
 use Rattle.cqf.specs.laws.Lists.{elem-at, sublist-length, sublist-at}
 use Rattle.cqf.specs.laws.Route.{sublist-more, elem-more}
 use Rattle.cqf.specs.laws.Tabulate.{tabulate-length, tabulate-at}
-use Rattle.cqf.specs.laws.Begun.{stretch-most}
 use Rattle.cqf.specs.laws.Demand.{frames-by, share, demand-sum, flow-bits-most, share-none, sum-next}
 use Rattle.tables.specs.Columns.{columns, FlowInRange, ExtrasInRange, Marked}
 
@@ -128,13 +127,13 @@ module _ (p : Plan) (q T f : ℕ) {sum : ℕ} (before : sum ≡ sumTo f (share p
   pub sum-apart : crosses p f q ≡ false → sum ≡ sumTo (f + 1) (share p q T)
   sum-apart e = before ∙ sym (sum-next p q T f ∙ (rw e (add-zero _)))
 
-module _ (p : Plan) (in-range : AllInRange p) (small : ExtrasInRange (p .extras)) (T : ℕ) (fits : T ≤ maxTop) where
+module _ (p : Plan) (in-range : AllInRange p) (small : ExtrasInRange (p .extras)) (T : ℕ) (fits : stretch p T ≤ mostStretch) where
   -- one flow brings at most its most bits to a port
   pub flow-most : (f : ℕ) → f < flowSlots → (periodOf p f ≡ 0 → ⊥) → (q : ℕ) → q < portSlots → bitsAt p T f q ≤ mostBits
   flow-most f l there q slot =
       let r = in-range f l in
       rw (frames-by p f T)
-      (flow-bits-most (stretch p T) (stretch-most p T fits) (r .period-least there) (r .count-most) (r .bytes-most) (r .jitter-most) (small q slot))
+      (flow-bits-most (stretch p T) fits (r .period-least there) (r .count-most) (r .bytes-most) (r .jitter-most) (small q slot))
 
   share-most : (q f : ℕ) → q < portSlots → f < flowSlots → share p q T f ≤ mostBits
   unfolding wireBits
@@ -176,10 +175,10 @@ elem-here l at h i n less e =
     ap (λ (m : ℕ). elem m (sublist l at h)) (sym (sublist-at l at h i less ∙ e))
     ∙ elem-at (sublist l at h) i (rw sublist-length less)
 
--- the demand depends on the extra bytes and the flows' columns alone
+-- the demand depends on the clocks, the extra bytes and the flows' columns alone
 pub demand-columns
     : (p : Plan) (q T : ℕ)
-    → demand (columns [] [] (p .extras) (p .periods) (p .counts) (p .lengths) (p .jitters) (p .hops) (p .routes)) q T ≡ demand p q T
+    → demand (columns (p .clock) [] [] (p .extras) (p .periods) (p .counts) (p .lengths) (p .jitters) (p .hops) (p .routes)) q T ≡ demand p q T
 unfolding frames begun stretch wireBits
 demand-columns p q T =
-    demand-sum (columns [] [] (p .extras) (p .periods) (p .counts) (p .lengths) (p .jitters) (p .hops) (p .routes)) q T ∙ sym (demand-sum p q T)
+    demand-sum (columns (p .clock) [] [] (p .extras) (p .periods) (p .counts) (p .lengths) (p .jitters) (p .hops) (p .routes)) q T ∙ sym (demand-sum p q T)

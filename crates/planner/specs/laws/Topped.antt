@@ -6,7 +6,7 @@ use native.Mathlib.Omega.{arith}
 use borrow.Author.Tests.{le-leb}
 use Rattle.cqf.specs.Bounded.{countTo, lowest, allTo, anyTo}
 use Rattle.cqf.specs.Limits.{portSlots, flowSlots, maxTop, topOk, guardOk}
-use Rattle.cqf.specs.Plan.{Plan, present, validPort, validFlow, validPlan}
+use Rattle.cqf.specs.Plan.{Plan, present, clockOk, validPort, validFlow, validPlan}
 use Rattle.cqf.specs.Condition.{wireBits, stretch, begun, frames, demand, window, capacity, workload, crossed, exceeds, fails, failing, lowestFailing}
 use Rattle.cqf.specs.laws.Demand.{demand-sum}
 use Rattle.cqf.specs.laws.Ranges.{top-most}
@@ -15,7 +15,7 @@ use Rattle.tables.specs.Columns.{planBy}
 
 -- the tables with T for their top
 abbrev pub topped : Plan → ℕ → Plan
-topped p T = planBy (p .guard) T (p .rates) (p .blockings) (p .extras) (p .periods) (p .counts) (p .lengths) (p .jitters) (p .hops) (p .routes)
+topped p T = planBy (p .guard) T (p .clock) (p .rates) (p .blockings) (p .extras) (p .periods) (p .counts) (p .lengths) (p .jitters) (p .hops) (p .routes)
 
 module _ (p : Plan) (T : ℕ) where
   pub topped-valid : validPlan p ≡ true → 1 ≤ T → T ≤ p .top → validPlan (topped p T) ≡ true
@@ -24,12 +24,15 @@ module _ (p : Plan) (T : ℕ) where
       let top = topOk (p .top) in
       let ports = allTo portSlots (validPort p) in
       let flows = allTo flowSlots (validFlow p) in
-      let e = and-eq-true-iff (top && guardOk (p .guard) && ports && flows) (anyTo flowSlots (present p)) .0 valid in
-      let d = and-eq-true-iff (top && guardOk (p .guard) && ports) flows .0 (e .0) in
-      let c = and-eq-true-iff (top && guardOk (p .guard)) ports .0 (d .0) in
-      let b = and-eq-true-iff top (guardOk (p .guard)) .0 (c .0) in
+      let tested = top && guardOk (p .guard) in
+      let clock = clockOk (p .clock) in
+      let e = and-eq-true-iff (tested && clock && ports && flows) (anyTo flowSlots (present p)) .0 valid in
+      let d = and-eq-true-iff (tested && clock && ports) flows .0 (e .0) in
+      let c = and-eq-true-iff (tested && clock) ports .0 (d .0) in
+      let b = and-eq-true-iff tested clock .0 (c .0) in
+      let a = and-eq-true-iff top (guardOk (p .guard)) .0 (b .0) in
       let most : T ≤ maxTop = omega (arith, top-most p valid, high) in
-      valid-by (topped p T) {top = true} {guard = true} {ports = true} {flows = true} {some = true} (rw (le-leb 1 T low, le-leb T maxTop most)) (b .1) (c .1) (d .1) (e .1)
+      valid-by (topped p T) {top = true} {guard = true} {clock = true} {ports = true} {flows = true} {some = true} (rw (le-leb 1 T low, le-leb T maxTop most)) (a .1) (b .1) (c .1) (d .1) (e .1)
 
   demand-topped : (q t : ℕ) → demand (topped p T) q t ≡ demand p q t
   unfolding frames begun stretch wireBits

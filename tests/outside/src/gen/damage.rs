@@ -3,36 +3,29 @@
 use super::{encode, Piece};
 use crate::rng::Rng;
 
-fn any_of(rng: &mut Rng, pieces: &[Piece], wanted: fn(&Piece) -> bool) -> Option<usize> {
-    let places: Vec<usize> = (0..pieces.len()).filter(|place| wanted(&pieces[*place])).collect();
-    (!places.is_empty()).then(|| rng.pick(&places))
-}
-
-fn is_flow(piece: &Piece) -> bool {
-    matches!(piece, Piece::Flow { .. })
-}
-
-fn any_route<'a>(rng: &mut Rng, pieces: &'a mut [Piece]) -> Option<&'a mut Vec<u16>> {
-    match &mut pieces[any_of(rng, pieces, is_flow)?] {
-        Piece::Flow { route, .. } => Some(route),
-        _ => None,
+/// The tag of a field, 0 for raw bytes.
+fn tag_of(piece: &Piece) -> u8 {
+    match piece {
+        Piece::Raw(_) => 0,
+        Piece::Header { .. } => 1,
+        Piece::Port { .. } => 2,
+        Piece::Flow { .. } => 3,
+        Piece::Extra { .. } => 4,
+        Piece::Jitter { .. } => 5,
+        Piece::Clocks { .. } => 6,
     }
 }
 
-fn is_port(piece: &Piece) -> bool {
-    matches!(piece, Piece::Port { .. })
+fn any_of(rng: &mut Rng, pieces: &[Piece], tag: u8) -> Option<usize> {
+    let places: Vec<usize> = (0..pieces.len()).filter(|place| tag_of(&pieces[*place]) == tag).collect();
+    (!places.is_empty()).then(|| rng.pick(&places))
 }
 
-fn is_extra(piece: &Piece) -> bool {
-    matches!(piece, Piece::Extra { .. })
-}
-
-fn is_jitter(piece: &Piece) -> bool {
-    matches!(piece, Piece::Jitter { .. })
-}
-
-fn is_header(piece: &Piece) -> bool {
-    matches!(piece, Piece::Header { .. })
+fn any_route<'a>(rng: &mut Rng, pieces: &'a mut [Piece]) -> Option<&'a mut Vec<u16>> {
+    match &mut pieces[any_of(rng, pieces, 3)?] {
+        Piece::Flow { route, .. } => Some(route),
+        _ => None,
+    }
 }
 
 /// One number just past an end of its range, or far past it.
@@ -66,13 +59,18 @@ fn past_an_end(rng: &mut Rng, pieces: &mut [Piece]) {
             0 => *number = rng.pick(&[0, 257, 512, u16::MAX]),
             _ => *jitter = rng.pick(&[10_000_001, 10_000_002, 1 << 24, 1 << 31, u32::MAX]),
         },
+        Piece::Clocks { drift, timing_jitter, sync_error } => match rng.below(3) {
+            0 => *drift = rng.pick(&[1_001, 1_024, 1 << 16, u32::MAX]),
+            1 => *timing_jitter = rng.pick(&[1_001, 1_024, 1 << 16, u32::MAX]),
+            _ => *sync_error = rng.pick(&[1_000_001, 1 << 20, 1 << 31, u32::MAX]),
+        },
         Piece::Raw(_) => {}
     }
 }
 
 fn again(rng: &mut Rng, pieces: &mut Vec<Piece>) {
-    let wanted = rng.pick::<fn(&Piece) -> bool>(&[is_extra, is_jitter]);
-    let one = any_of(rng, pieces, wanted).filter(|_| rng.chance(2, 3));
+    let tag = rng.pick(&[4, 5, 6]);
+    let one = any_of(rng, pieces, tag).filter(|_| rng.chance(2, 3));
     let mut copy = pieces[one.unwrap_or_else(|| rng.index(pieces.len()))].clone();
     match &mut copy {
         Piece::Header { top, .. } if rng.chance(1, 2) => *top = rng.range(1, 100_000_000) as u32,
@@ -80,6 +78,7 @@ fn again(rng: &mut Rng, pieces: &mut Vec<Piece>) {
         Piece::Flow { period, .. } if rng.chance(1, 2) => *period = rng.range(1_000, 100_000_000) as u32,
         Piece::Extra { extra, .. } if rng.chance(1, 2) => *extra = rng.pick(&[0, 0, 1, 64]),
         Piece::Jitter { jitter, .. } if rng.chance(1, 2) => *jitter = rng.pick(&[0, 0, 1, 10_000_000]),
+        Piece::Clocks { sync_error, .. } if rng.chance(1, 2) => *sync_error = rng.pick(&[0, 0, 1, 1_000_000]),
         _ => {}
     }
     let place = rng.index(pieces.len() + 1);
@@ -103,12 +102,12 @@ fn twice(rng: &mut Rng, pieces: &mut [Piece]) {
 
 fn without(rng: &mut Rng, pieces: &mut Vec<Piece>) {
     match rng.below(5) {
-        0 => pieces.retain(|piece| !is_header(piece)),
-        1 => pieces.retain(|piece| !is_flow(piece)),
-        2 => pieces.retain(|piece| !is_port(piece)),
+        0 => pieces.retain(|piece| tag_of(piece) != 1),
+        1 => pieces.retain(|piece| tag_of(piece) != 3),
+        2 => pieces.retain(|piece| tag_of(piece) != 2),
         _ => {
-            let wanted = rng.pick::<fn(&Piece) -> bool>(&[is_port, is_flow]);
-            if let Some(place) = any_of(rng, pieces, wanted) {
+            let tag = rng.pick(&[2, 3]);
+            if let Some(place) = any_of(rng, pieces, tag) {
                 pieces.remove(place);
             }
         }
@@ -127,13 +126,13 @@ fn astray(rng: &mut Rng, pieces: &mut [Piece]) {
     }
 }
 
-/// Extra bytes of a port or jitter of a flow that the plan may lack, or a second time of one that has some.
+/// Extra bytes of a port or jitter of a flow that the plan may lack, or a second time of one that has some; or clocks.
 fn lost(rng: &mut Rng, pieces: &mut Vec<Piece>) {
     for _ in 0..rng.range(1, 3) {
-        let more = if rng.chance(1, 2) {
-            Piece::Extra { number: rng.range(1, 64) as u16, extra: rng.pick(&[0, 0, 1, 32, 64]) }
-        } else {
-            Piece::Jitter { number: rng.range(1, 256) as u16, jitter: rng.pick(&[0, 0, 1, 30_000, 10_000_000]) }
+        let more = match rng.below(5) {
+            0 => Piece::Clocks { drift: 0, timing_jitter: 0, sync_error: rng.pick(&[0, 0, 1_000]) },
+            1 | 2 => Piece::Extra { number: rng.range(1, 64) as u16, extra: rng.pick(&[0, 0, 1, 32, 64]) },
+            _ => Piece::Jitter { number: rng.range(1, 256) as u16, jitter: rng.pick(&[0, 0, 1, 30_000, 10_000_000]) },
         };
         let place = rng.index(pieces.len() + 1);
         pieces.insert(place, more);
@@ -143,7 +142,7 @@ fn lost(rng: &mut Rng, pieces: &mut Vec<Piece>) {
 /// A field of unknown tag, or of a length that its tag does not allow.
 fn odd_field(rng: &mut Rng, pieces: &mut Vec<Piece>) {
     let known = rng.chance(1, 2);
-    let tag = if known { rng.range(1, 5) as u8 } else { rng.pick(&[0, 7, 8, 16, 0x81, 255]) };
+    let tag = if known { rng.range(1, 6) as u8 } else { rng.pick(&[0, 7, 8, 16, 0x81, 255]) };
     let length = rng.pick(&[0, 1, 3, 4, 5, 6, 7, 8, 9, 10, 11, 12, 13, 41, 42, 43, 44, 64, 256, 264, 300]);
     let mut raw = vec![tag, (length / 256) as u8, (length % 256) as u8];
     raw.extend((0..length).map(|_| rng.pick(&[0, 0, 1, 4, 200])));
@@ -171,7 +170,7 @@ fn flip(rng: &mut Rng, bytes: &mut [u8]) {
     bytes[place] = match rng.below(3) {
         0 => bytes[place] ^ (1 << rng.below(8)),
         1 => rng.next() as u8,
-        _ => rng.pick(&[0, 1, 2, 3, 4, 5, 7, 255]),
+        _ => rng.pick(&[0, 1, 2, 3, 4, 5, 6, 7, 255]),
     };
 }
 

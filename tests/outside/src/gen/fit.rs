@@ -1,13 +1,14 @@
 //! Rates made to fit, so that a plan has admissible durations, often by a hair.
 
-use super::{jitter_of, wire_bits, Piece};
+use super::{jitter_of, widened, wire_bits, Piece};
 use crate::rng::Rng;
 
 /// Bits that the flows of a port bring at a duration.
 fn bits_at(pieces: &[Piece], port: u16, duration: u64) -> u64 {
+    let counted_over = widened(pieces, duration);
     let of_flow = |piece: &Piece| match piece {
         Piece::Flow { number, period, count, length, route } if route.contains(&port) => {
-            let rounds = (duration + jitter_of(pieces, *number) + u64::from(*period) - 1) / u64::from(*period);
+            let rounds = (counted_over + jitter_of(pieces, *number) + u64::from(*period) - 1) / u64::from(*period);
             rounds * u64::from(*count) * wire_bits(pieces, port, *length)
         }
         _ => 0,

@@ -1,6 +1,6 @@
 //! The kinds of good plans.
 
-use super::later::{extras, jitters};
+use super::later::{clocks, extras, jitters};
 use super::{wire_bits, Piece};
 use crate::rng::Rng;
 
@@ -53,7 +53,7 @@ fn ports_at(rng: &mut Rng, numbers: &[u16], flows: &[Piece], thousandths: u64) -
     pieces
 }
 
-/// Flows over some ports, jitter of the flows, and extra bytes of the ports.
+/// Flows over some ports, jitter of the flows, extra bytes of the ports, and clocks.
 fn flows(rng: &mut Rng, size: &Size, ports: &[u16], periods: (u64, u64), lengths: (u64, u64), counts: u64) -> Vec<Piece> {
     let numbers = rng.numbers(size.flows, 256);
     let mut pieces = Vec::new();
@@ -68,6 +68,7 @@ fn flows(rng: &mut Rng, size: &Size, ports: &[u16], periods: (u64, u64), lengths
     }
     pieces.extend(jitters(rng, &pieces));
     pieces.extend(extras(rng, ports));
+    pieces.extend(clocks(rng));
     pieces
 }
 
@@ -166,6 +167,7 @@ pub fn edges(rng: &mut Rng) -> Vec<Piece> {
     }
     pieces.extend(jitters(rng, &pieces));
     pieces.extend(extras(rng, &ports));
+    pieces.extend(clocks(rng));
     pieces
 }
 

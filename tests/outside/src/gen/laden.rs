@@ -47,6 +47,17 @@ fn jitters(rng: &mut Rng, unit: u64) -> Vec<Piece> {
     pieces
 }
 
+/// Clocks, if any: such that no duration is widened, or that one is by little, so that room is left.
+fn clocks(rng: &mut Rng, full: bool) -> Option<Piece> {
+    let (drift, timing_jitter, sync_error) = match rng.below(6) {
+        0 => (0, 0, 5_000),
+        1 => (1_000, 1_000, 0),
+        2 | 3 if !full => (rng.range(0, 200) as u32, rng.range(0, 20) as u32, rng.range(0, 1_000) as u32),
+        _ => return None,
+    };
+    Some(Piece::Clocks { drift, timing_jitter, sync_error })
+}
+
 fn ports(rng: &mut Rng, flows: &[Piece], thousandths: u64) -> Vec<Piece> {
     let mut pieces = Vec::new();
     for number in rng.numbers(64, 64) {
@@ -58,7 +69,7 @@ fn ports(rng: &mut Rng, flows: &[Piece], thousandths: u64) -> Vec<Piece> {
     pieces
 }
 
-/// Of three plans one is loaded to 100 %, without guard band, blockers and jitter: admissible where all periods end.
+/// Of three plans one is loaded to 100 %, without guard band, blockers, jitter and widening: admissible where all periods end.
 pub fn plan(rng: &mut Rng) -> Vec<Piece> {
     let unit = rng.spread(1, 60);
     let kind = rng.below(3);
@@ -74,6 +85,7 @@ pub fn plan(rng: &mut Rng) -> Vec<Piece> {
     if kind != 0 {
         flows.extend(jitters(rng, unit));
     }
+    flows.extend(clocks(rng, kind == 0));
     let guard = if kind == 0 { 0 } else { rng.range(0, 20 * unit) as u32 };
     let top = unit * LONGEST * longest + rng.pick(&[0, 0, 1, unit * 700]);
     let mut pieces = vec![Piece::Header { guard, top: top as u32 }];

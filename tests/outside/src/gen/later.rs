@@ -1,4 +1,4 @@
-//! The fields of document 02: extra bytes of ports and jitter of flows.
+//! The fields of document 02: extra bytes of ports, jitter of flows, and clocks.
 
 use super::Piece;
 use crate::rng::Rng;
@@ -38,4 +38,19 @@ pub fn jitters(rng: &mut Rng, flows: &[Piece]) -> Vec<Piece> {
         }
     }
     pieces
+}
+
+/// Clocks for half of the plans: all 0, the paper's, ends of their ranges, any, or such that no duration is widened.
+pub fn clocks(rng: &mut Rng) -> Option<Piece> {
+    let (drift, timing_jitter, sync_error) = match rng.below(14) {
+        0 => (0, 0, 0),
+        1 => (100, 2, 1_000),
+        2 => (rng.pick(&[0, 1, 999, 1_000]), rng.pick(&[0, 1, 999, 1_000]), rng.pick(&[0, 1, 999_999, 1_000_000])),
+        3 => (0, 0, rng.spread(1, 1_000_000)),
+        4 => (rng.range(0, 1_000), rng.range(1, 1_000), 0),
+        5 => (rng.range(0, 1_000), rng.range(0, 1_000), rng.spread(1, 1_000)),
+        6 => (rng.range(0, 1_000), rng.range(0, 1_000), rng.spread(1, 1_000_000)),
+        _ => return None,
+    };
+    Some(Piece::Clocks { drift: drift as u32, timing_jitter: timing_jitter as u32, sync_error: sync_error as u32 })
 }

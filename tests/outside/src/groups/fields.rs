@@ -1,12 +1,13 @@
 //! cp_field at many offsets of good and damaged plans, and cp_repeats.
 
+use super::later_fields;
 use crate::ffi;
-use crate::gen::{self, damage::damaged, encode, Piece};
+use crate::gen::{self, damage::damaged, encode};
 use crate::model::field::{field_read, value_repeats};
 use crate::report::Tally;
 use crate::rng::Rng;
 
-fn ask(tally: &mut Tally, plan: &[u8], offset: usize) {
+pub fn ask(tally: &mut Tally, plan: &[u8], offset: usize) {
     let want = field_read(plan, offset);
     tally.saw("field", want.refusal);
     tally.saw("tag", want.tag);
@@ -91,7 +92,7 @@ fn long_routes(tally: &mut Tally, rng: &mut Rng, ports: usize) {
 fn long_rows(tally: &mut Tally) {
     let mut rng = tally.rng(u64::MAX);
     for length in [0, 1, 2, 3, 16_384, 16_385, 70_000] {
-        for tag in [0, 1, 2, 3, 4, 5, 7] {
+        for tag in [0, 1, 2, 3, 4, 5, 6, 7] {
             let mut plan = vec![0; length];
             if length > 2 {
                 plan[..3].copy_from_slice(&[tag, 0xFF, 0xFF]);
@@ -121,60 +122,10 @@ fn lengths(tally: &mut Tally) {
     }
 }
 
-/// Fields of extra bytes: every length up to 20, and every number near the ends of its range.
-fn extras(tally: &mut Tally) {
-    for length in 0..=20u16 {
-        let mut plan = vec![0x04];
-        plan.extend(length.to_be_bytes());
-        let value: Vec<u8> = (0..length).map(|place| (place % 2) as u8).collect();
-        plan.extend(value);
-        tally.case(0, &plan);
-        ask(tally, &plan, 0);
-        let refusal = ffi::field(&plan, 0).refusal;
-        tally.same(format_args!("extra bytes: the refusal at length {length}"), refusal, if length == 4 { 0 } else { 4 });
-    }
-    for number in (0..=66).chain([128, 255, 256, 257, 320, 1 << 15, u16::MAX]) {
-        for extra in (0..=66).chain([128, 255, 256, 257, 320, 1 << 15, u16::MAX]) {
-            let plan = Piece::Extra { number, extra }.bytes();
-            tally.case(0, &plan);
-            ask(tally, &plan, 0);
-            let fits = (1..=64).contains(&number) && (0..=64).contains(&extra);
-            let refusal = ffi::field(&plan, 0).refusal;
-            tally.same(format_args!("extra bytes: the refusal"), refusal, if fits { 0 } else { 5 });
-        }
-    }
-}
-
-/// Fields of jitter: every length up to 20, and numbers near the ends of their ranges.
-fn jitters(tally: &mut Tally) {
-    for length in 0..=20u16 {
-        let mut plan = vec![0x05];
-        plan.extend(length.to_be_bytes());
-        plan.extend((0..length).map(|place| u8::from(place == 1)));
-        tally.case(0, &plan);
-        ask(tally, &plan, 0);
-        let refusal = ffi::field(&plan, 0).refusal;
-        tally.same(format_args!("jitter: the refusal at length {length}"), refusal, if length == 6 { 0 } else { 4 });
-    }
-    for number in [0, 1, 2, 64, 65, 127, 128, 255, 256, 257, 258, 512, 1 << 15, u16::MAX] {
-        for jitter in [0, 1, 255, 256, 65_535, 65_536, 9_999_999, 10_000_000, 10_000_001, 1 << 24, 1 << 31, u32::MAX] {
-            let plan = Piece::Jitter { number, jitter }.bytes();
-            tally.case(0, &plan);
-            ask(tally, &plan, 0);
-            let fits = (1..=256).contains(&number) && (0..=10_000_000).contains(&jitter);
-            let got = ffi::field(&plan, 0);
-            tally.same(format_args!("jitter: the refusal"), got.refusal, if fits { 0 } else { 5 });
-            let told = if fits { [number.into(), jitter.into(), 0, 0, 0] } else { [0; 5] };
-            tally.same(format_args!("jitter: the numbers"), got.numbers, told);
-        }
-    }
-}
-
 pub fn run(tally: &mut Tally) {
     long_rows(tally);
     lengths(tally);
-    extras(tally);
-    jitters(tally);
+    later_fields::run(tally);
     for case in 0..tally.cases {
         let mut rng = tally.rng(case);
         let good = gen::plan(&mut rng);
@@ -196,6 +147,6 @@ pub fn run(tally: &mut Tally) {
     let mut rng = tally.rng(1 << 40);
     long_routes(tally, &mut rng, 20_000);
     tally.must_have_seen("field", &[0, 2, 3, 4, 5]);
-    tally.must_have_seen("tag", &[1, 2, 3, 4, 5]);
+    tally.must_have_seen("tag", &[1, 2, 3, 4, 5, 6]);
     tally.must_have_seen("repeats", &[0, 1]);
 }

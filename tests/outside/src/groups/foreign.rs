@@ -54,6 +54,14 @@ fn damage_flow(rng: &mut Rng, tables: &mut Planner) {
     }
 }
 
+fn damage_clocks(rng: &mut Rng, tables: &mut Planner) {
+    match rng.below(3) {
+        0 => tables.drift = rng.pick(&[0, 1, 999, 1_000, 1_001, 1 << 16, u32::MAX]),
+        1 => tables.timing_jitter = rng.pick(&[0, 1, 999, 1_000, 1_001, 1 << 16, u32::MAX]),
+        _ => tables.sync_error = rng.pick(&[0, 1, 999_999, 1_000_000, 1_000_001, 1 << 31, u32::MAX]),
+    }
+}
+
 /// A slot emptied: wholly, or all but one of its numbers.
 fn empty_flow(rng: &mut Rng, tables: &mut Planner) {
     let used: Vec<usize> = (0..256).filter(|slot| tables.hops[*slot] != 0).collect();
@@ -76,7 +84,7 @@ fn stir_unused(rng: &mut Rng, tables: &mut Planner) {
 }
 
 fn damage_one(rng: &mut Rng, tables: &mut Planner) {
-    match rng.below(16) {
+    match rng.below(17) {
         0 => tables.guard = rng.pick(&[0, 1, 999_999, 1_000_000, 1_000_001, 1 << 31, u32::MAX]),
         1 => tables.top = rng.pick(&[0, 1, 2, 50_000, 99_999_999, 100_000_000, 100_000_001, u32::MAX]),
         2..=4 => damage_port(rng, tables),
@@ -87,6 +95,7 @@ fn damage_one(rng: &mut Rng, tables: &mut Planner) {
             bytes[rng.index(PLANNER_BYTES)] ^= 1 << rng.below(8);
             *tables = Planner::from_bytes(bytes);
         }
+        14 => damage_clocks(rng, tables),
         _ => stir_unused(rng, tables),
     }
 }
@@ -127,6 +136,24 @@ fn jitters_of_k(tally: &mut Tally, rng: &mut Rng) {
     }
 }
 
+/// K's tables with clocks in and out of their ranges.
+fn clocks_of_k(tally: &mut Tally, rng: &mut Rng) {
+    let k = ffi::load(&ffi::empty(), &K).0;
+    let few = [0, 2, 1_000, 1_001, 1 << 31, u32::MAX];
+    for drift in few {
+        for timing_jitter in few {
+            for sync_error in [0, 1_000, 1_000_000, 1_000_001, u32::MAX] {
+                let tables = Planner { drift, timing_jitter, sync_error, ..k.clone() };
+                tally.case(0, &tables.to_bytes());
+                let accepted = drift <= 1_000 && timing_jitter <= 1_000 && sync_error <= 1_000_000;
+                let (got, want) = (ffi::check(&tables, 0).refusal, if accepted { 10 } else { 20 });
+                tally.same(format_args!("clocks {drift}, {timing_jitter}, {sync_error}: cp_check(0)"), got, want);
+                ask_all(tally, &tables, plan_of(&tables).as_ref(), rng);
+            }
+        }
+    }
+}
+
 /// Every question, and loads on top of such a planner.
 fn ask(tally: &mut Tally, case: u64, tables: &Planner, rng: &mut Rng) {
     tally.case(case, &tables.to_bytes());
@@ -154,6 +181,7 @@ pub fn run(tally: &mut Tally) {
     ask(tally, 0, &Planner::from_bytes([255; PLANNER_BYTES]), &mut rng);
     extras_of_k(tally, &mut rng);
     jitters_of_k(tally, &mut rng);
+    clocks_of_k(tally, &mut rng);
     for case in 0..tally.cases {
         let mut rng = tally.rng(case);
         if rng.chance(1, 10) {

@@ -1,6 +1,6 @@
 //! Plan K and its neighbours, with the numbers that the papers give.
 
-use super::{extra, jitter};
+use super::{clocks, extra, jitter};
 use crate::answers::{Answer, Planner, SlackAnswer};
 use crate::ffi;
 use crate::report::Tally;
@@ -123,4 +123,5 @@ pub fn run(tally: &mut Tally) {
     refusals(tally);
     extra::run(tally, &planner);
     jitter::run(tally, &planner);
+    clocks::run(tally, &planner);
 }

@@ -1,5 +1,6 @@
 //! Loads of good and damaged plans: answer, place, and the planner given back.
 
+use super::clocks::with_clocks;
 use super::extra::with_extra;
 use super::jitter::with_jitter;
 use super::known::K;
@@ -56,7 +57,7 @@ fn sizes(tally: &mut Tally, planner: &Planner) {
             one_load(tally, planner, &plan);
         }
         for size in [16_383, 16_384, 16_385, 16_386] {
-            for tag in [1, 2, 3, 4, 5, 7] {
+            for tag in [1, 2, 3, 4, 5, 6, 7] {
                 let plan = sized::topped_up(&good, tag, size);
                 tally.case(case, &plan);
                 one_load(tally, planner, &plan);
@@ -82,11 +83,12 @@ fn pairs(tally: &mut Tally, planner: &Planner) {
 }
 
 /// Every order of a few fields: extra bytes before and after their port and jitter before and after its flow, of absent ports and
-/// flows, twice, and a route astray.
+/// flows, twice, and a route astray; clocks once and twice.
 fn orders(tally: &mut Tally, planner: &Planner) {
     let flow = |number, port| Piece::Flow { number, period: 1_000, count: 1, length: 64, route: vec![port] };
     let extra = |number, extra| Piece::Extra { number, extra };
     let jitter = |number, jitter| Piece::Jitter { number, jitter };
+    let clocks = |drift, timing_jitter, sync_error| Piece::Clocks { drift, timing_jitter, sync_error };
     let port = Piece::Port { number: 1, rate: 1, blocker: 0 };
     for more in [
         vec![extra(1, 32)],
@@ -107,6 +109,11 @@ fn orders(tally: &mut Tally, planner: &Planner) {
         vec![flow(2, 9), jitter(9, 1), extra(9, 1)],
         vec![jitter(257, 1), jitter(9, 0)],
         vec![jitter(1, 10_000_001), jitter(9, 0)],
+        vec![clocks(100, 2, 1_000)],
+        vec![clocks(0, 0, 0), clocks(100, 2, 1_000)],
+        vec![clocks(1_001, 0, 0), clocks(0, 0, 0)],
+        vec![clocks(1_000, 1_000, 1_000_000), jitter(1, 1), extra(1, 1)],
+        vec![clocks(0, 0, 1), jitter(9, 0), flow(2, 9)],
     ] {
         let mut rest = vec![Piece::Header { guard: 0, top: 1 }, port.clone(), flow(1, 1)];
         rest.extend(more);
@@ -128,9 +135,14 @@ fn every_order(tally: &mut Tally, planner: &Planner, taken: &mut Vec<Piece>, res
     }
 }
 
-/// Fields that say 0 extra bytes or a jitter of 0 leave the planner as it is without them.
+/// Fields that say 0 extra bytes, a jitter of 0 or clocks of 0 leave the planner as it is without them.
 fn without_zeros(tally: &mut Tally, planner: &Planner, good: &[Piece]) {
-    let says_zero = |piece: &Piece| matches!(piece, Piece::Extra { extra: 0, .. } | Piece::Jitter { jitter: 0, .. });
+    let says_zero = |piece: &Piece| match piece {
+        Piece::Extra { extra, .. } => *extra == 0,
+        Piece::Jitter { jitter, .. } => *jitter == 0,
+        Piece::Clocks { drift, timing_jitter, sync_error } => (*drift, *timing_jitter, *sync_error) == (0, 0, 0),
+        _ => false,
+    };
     let fewer: Vec<Piece> = good.iter().filter(|piece| !says_zero(piece)).cloned().collect();
     tally.saw("fields of 0, 1 for some", u32::from(fewer.len() < good.len()));
     let (one, other) = (ffi::load(planner, &encode(good)).0, ffi::load(planner, &encode(&fewer)).0);
@@ -148,6 +160,8 @@ pub fn run(tally: &mut Tally) {
     every_byte(tally, 0, &with_extra(32, true), &held);
     every_byte(tally, 0, &with_jitter(1, 30_000, true), &held);
     every_byte(tally, 0, &with_jitter(2, 10_000_000, false), &held);
+    every_byte(tally, 0, &with_clocks(100, 2, 1_000, true), &held);
+    every_byte(tally, 0, &with_clocks(1_000, 1_000, 1_000_000, false), &held);
     for case in 0..tally.cases {
         let mut rng = tally.rng(case);
         let good = gen::plan(&mut rng);

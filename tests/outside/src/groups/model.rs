@@ -1,5 +1,6 @@
 //! The model against itself: K's rows, spans against a scan, tables against bytes.
 
+use super::clocks::{widening, with_all, with_clocks, ROWS_BY_ERROR, ROWS_WITH_ALL, ROWS_WITH_CLOCKS};
 use super::extra::{with_extra, ROWS_WITH_EXTRA};
 use super::jitter::{with_jitter, ROWS_FLOW_1, ROWS_FLOW_2};
 use super::known;
@@ -36,22 +37,30 @@ fn known_plans(tally: &mut Tally) {
         finds(tally, &longer, 77_120, 227_360);
         tally.same(format_args!("model: K with extra 0"), read(&with_extra(0, first)).as_ref(), Ok(&plan));
         tally.same(format_args!("model: K with jitter 0"), read(&with_jitter(2, 0, first)).as_ref(), Ok(&plan));
-        with_jitter_of(tally, &with_jitter(1, 30_000, first), &ROWS_FLOW_1, 92_000, 142_000);
-        with_jitter_of(tally, &with_jitter(2, 38_000, first), &ROWS_FLOW_2, 72_000, 212_000);
+        tally.same(format_args!("model: K with clocks of 0"), read(&with_clocks(0, 0, 0, first)).as_ref(), Ok(&plan));
+        neighbour(tally, &with_jitter(1, 30_000, first), &ROWS_FLOW_1, 92_000, 142_000);
+        neighbour(tally, &with_jitter(2, 38_000, first), &ROWS_FLOW_2, 72_000, 212_000);
+        neighbour(tally, &with_clocks(100, 2, 1_000, first), &ROWS_WITH_CLOCKS, 72_000, 142_000);
+        neighbour(tally, &with_clocks(1_000, 1_000, 5, first), &ROWS_BY_ERROR, 72_000, 142_000);
+        neighbour(tally, &with_clocks(0, 0, 5_000, first), &known::ROWS, 72_000, 142_000);
+        neighbour(tally, &with_clocks(1_000, 1_000, 0, first), &known::ROWS, 72_000, 142_000);
     }
+    neighbour(tally, &with_all(), &ROWS_WITH_ALL, 99_680, 227_360);
+    widening(tally);
 }
 
-fn with_jitter_of(tally: &mut Tally, bytes: &[u8], rows: &[known::Row], least: u64, safe: u64) {
+/// K with more fields, its rows and what the searches find.
+fn neighbour(tally: &mut Tally, bytes: &[u8], rows: &[known::Row], least: u64, safe: u64) {
     tally.case(0, bytes);
-    let late = read(bytes).expect("a plan");
-    known::rows(tally, rows, |duration| check(Some(&late), duration), |duration| slack(Some(&late), 1, duration));
-    finds(tally, &late, least, safe);
-    tally.same(format_args!("model: K with jitter by a scan"), scanned(&late), spans(&late));
+    let plan = read(bytes).expect("a plan");
+    known::rows(tally, rows, |duration| check(Some(&plan), duration), |duration| slack(Some(&plan), 1, duration));
+    finds(tally, &plan, least, safe);
+    tally.same(format_args!("model: by a scan"), scanned(&plan), spans(&plan));
 }
 
 pub fn run(tally: &mut Tally) {
     known_plans(tally);
-    let (mut gaps, mut late) = (0, 0);
+    let (mut gaps, mut late, mut apart) = (0, 0, 0);
     for case in 0..tally.cases {
         let mut rng = tally.rng(case);
         let mut pieces = gen::plan(&mut rng);
@@ -71,9 +80,11 @@ pub fn run(tally: &mut Tally) {
         let found = spans(&plan);
         gaps += usize::from(found.len() > 1);
         late += usize::from(found.len() > 1 && gen::has_jitter(&pieces));
+        apart += usize::from(found.len() > 1 && gen::clocks_kind(&pieces, plan.top) == 2);
         tally.same(format_args!("spans by breakpoints, and by a scan"), found, scanned(&plan));
     }
     tally.case(0, &[]);
     tally.same(format_args!("some plans have gaps"), gaps > 0 || tally.cases < 50, true);
     tally.same(format_args!("some plans with jitter have gaps"), late > 0 || tally.cases < 100, true);
+    tally.same(format_args!("some plans with clocks that widen have gaps"), apart > 0 || tally.cases < 100, true);
 }

@@ -14,6 +14,7 @@ pub fn run(tally: &mut Tally) {
         let plan = read(&first).expect("a good plan");
         tally.saw("extra bytes, 1 for some", u32::from(gen::has_extra(&pieces)));
         tally.saw("jitter, 1 for some", u32::from(gen::has_jitter(&pieces)));
+        tally.saw("clocks, 2 where they widen top", gen::clocks_kind(&pieces, plan.top));
         let (one, counted) = ffi::load(&ffi::empty(), &first);
         let asked = durations(&plan, &mut rng);
         let ports = some_ports(&plan, &mut rng);
@@ -45,4 +46,5 @@ pub fn run(tally: &mut Tally) {
     }
     tally.must_have_seen("extra bytes, 1 for some", &[0, 1]);
     tally.must_have_seen("jitter, 1 for some", &[0, 1]);
+    tally.must_have_seen("clocks, 2 where they widen top", &[0, 1, 2]);
 }

@@ -1,5 +1,6 @@
 //! The plain question and the spare at boundary durations and at every port.
 
+use super::clocks::{with_all, with_clocks};
 use super::extra::with_extra;
 use super::jitter::with_jitter;
 use super::known::K;
@@ -13,7 +14,7 @@ use crate::model::Plan;
 use crate::report::Tally;
 use std::ops::Range;
 
-/// K, or K with extra bytes or jitter, at every duration around its gaps, and at many others.
+/// K, or K with fields of document 02, at every duration around its gaps, and at many others.
 fn all_of(tally: &mut Tally, bytes: &[u8], near: Range<u64>) {
     tally.case(0, bytes);
     let plan = read(bytes).expect("a plan");
@@ -37,6 +38,8 @@ pub fn run(tally: &mut Tally) {
     all_of(tally, &with_extra(32, false), 77_000..228_000);
     all_of(tally, &with_jitter(1, 30_000, false), 69_900..143_000);
     all_of(tally, &with_jitter(2, 38_000, false), 71_900..213_000);
+    all_of(tally, &with_clocks(100, 2, 1_000, false), 99_900..143_000);
+    all_of(tally, &with_all(), 99_600..228_000);
     for duration in [0, 1, 1_000, 100_000_000, 100_000_001, u64::MAX] {
         ask_check(tally, &empty, None, duration);
         for port in (0..=65).chain([u64::MAX]) {

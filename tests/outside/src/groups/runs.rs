@@ -1,6 +1,6 @@
 //! Runs of frames: each 21 has a bad emission, and no emission is bad where a duration is accepted.
 
-use super::{durations, jitter::with_jitter, known::K, span_ends};
+use super::{durations, span_ends, worked};
 use crate::answers::Planner;
 use crate::ffi;
 use crate::gen::{self, encode, fit::fit, kinds};
@@ -9,19 +9,26 @@ use crate::model::spans::spans;
 use crate::model::Plan;
 use crate::report::Tally;
 use crate::rng::Rng;
-use crate::simulate::emissions::{gathered_at, keeps_contract, nominals, random, Emission};
-use crate::simulate::{Outcome, Run};
+use crate::simulate::cuts::{self, aligned, permitted, Cut};
+use crate::simulate::emissions::{gathered_at, keeps_contract, random, Emission};
+use crate::simulate::{Left, Outcome, Run};
 
 const FRAMES: u64 = 60_000;
 
 /// Frames that a gathered emission has at most.
 fn weight(plan: &Plan, duration: u64) -> u64 {
-    plan.flows.values().map(|flow| flow.count * ((duration + flow.jitter) / flow.period + 1)).sum()
+    let length = plan.clocks.widened(duration);
+    plan.flows.values().map(|flow| flow.count * ((length + flow.jitter) / flow.period + 1)).sum()
 }
 
-fn left_unsent(tally: &mut Tally, plan: &Plan, duration: u64, emission: &Emission) -> bool {
+fn may_happen(tally: &mut Tally, plan: &Plan, duration: u64, emission: &Emission, cut: &Cut) {
     tally.same(format_args!("the emission keeps the contract"), keeps_contract(plan, emission), true);
-    matches!(Run::new(plan, duration, emission).follow(), Outcome::Unsent { .. })
+    tally.same(format_args!("the cut is permitted at {duration}"), permitted(plan, duration, emission, cut), true);
+}
+
+pub fn left_unsent(tally: &mut Tally, plan: &Plan, duration: u64, emission: &Emission, cut: &Cut) -> bool {
+    may_happen(tally, plan, duration, emission, cut);
+    matches!(Run::new(plan, duration, cut).follow(), Outcome::Unsent { .. })
 }
 
 /// Each failing port has an emission that leaves a frame unsent.
@@ -31,8 +38,8 @@ fn refused(tally: &mut Tally, plan: &Plan, planner: &Planner, duration: u64, low
         let spare = ffi::slack(planner, port, duration);
         if spare.refusal == 0 && spare.slack < 0 {
             bad.push(port);
-            let emission = gathered_at(plan, port, duration);
-            let unsent = left_unsent(tally, plan, duration, &emission);
+            let (emission, cut) = gathered_at(plan, port, duration);
+            let unsent = left_unsent(tally, plan, duration, &emission, &cut);
             tally.same(format_args!("21 at {duration}: port {port} leaves a frame unsent"), unsent, true);
         }
     }
@@ -40,53 +47,52 @@ fn refused(tally: &mut Tally, plan: &Plan, planner: &Planner, duration: u64, low
     tally.same(format_args!("21 at {duration}: failing ports"), (Some(lowest), failing), told);
 }
 
-fn all_leave(tally: &mut Tally, plan: &Plan, duration: u64, emission: &Emission) {
-    tally.same(format_args!("the emission keeps the contract"), keeps_contract(plan, emission), true);
-    match Run::new(plan, duration, emission).follow() {
+/// Whether a frame with h ports has a delay of h - 1 to h + 1 durations, wherever in its window its sending ends.
+fn timely(plan: &Plan, duration: u64, emission: &Emission, left: &Left) -> bool {
+    let hops = plan.flows[&left.flow].route.len() as u64;
+    let instant = emission[&left.flow][left.index];
+    let (first, last) = (left.cycle * duration + plan.guard, (left.cycle + 1) * duration - plan.guard);
+    instant + (hops - 1) * duration <= first && last <= instant + (hops + 1) * duration
+}
+
+pub fn all_leave(tally: &mut Tally, plan: &Plan, duration: u64, emission: &Emission, cut: &Cut) {
+    may_happen(tally, plan, duration, emission, cut);
+    match Run::new(plan, duration, cut).follow() {
         Outcome::Unsent { cycle, port } => {
-            let sent = format!("frame unsent at port {port} in cycle {cycle} of {emission:?}");
+            let sent = format!("frame unsent at port {port} in cycle {cycle} of {emission:?} in {cut:?}");
             tally.same(format_args!("accepted at {duration}"), sent, "all sent".to_string());
         }
         Outcome::AllSent(left) => {
             let frames: usize = emission.values().map(Vec::len).sum();
             tally.same(format_args!("accepted at {duration}: frames that left"), left.len(), frames);
             let hops = |flow: u64| plan.flows[&flow].route.len() as u64;
-            let timely = left.iter().all(|(flow, own, last)| *last == own + hops(*flow));
-            tally.same(format_args!("accepted at {duration}: each left in the cycle due"), timely, true);
+            let due = left.iter().all(|left| left.cycle == cut[&left.flow][left.index] + hops(left.flow));
+            tally.same(format_args!("accepted at {duration}: each left in the cycle due"), due, true);
+            if plan.clocks.are_equal() {
+                let timely = left.iter().all(|left| timely(plan, duration, emission, left));
+                tally.same(format_args!("accepted at {duration}: each delay is as promised"), timely, true);
+            }
         }
     }
 }
 
 fn accepted(tally: &mut Tally, plan: &Plan, duration: u64, rng: &mut Rng) {
     for port in plan.ports.keys() {
-        all_leave(tally, plan, duration, &gathered_at(plan, *port, duration));
+        let (emission, cut) = gathered_at(plan, *port, duration);
+        all_leave(tally, plan, duration, &emission, &cut);
     }
     for _ in 0..4 {
         let frames = rng.pick(&[3, 20, 200]);
-        all_leave(tally, plan, duration, &random(plan, duration, frames, rng));
+        let emission = random(plan, duration, frames, rng);
+        all_leave(tally, plan, duration, &emission, &aligned(&emission, duration));
+        if !plan.clocks.are_equal() {
+            all_leave(tally, plan, duration, &emission, &cuts::random(plan, duration, &emission, rng));
+        }
     }
 }
 
-/// K with 38,000 of jitter for flow 2, at 72,001: flow 2 may come at 0 and 72,000, due at -38,000 and 72,000 and at no other
-/// instants, and then a frame is left unsent. One ns earlier it may not come, nor may it without the jitter.
-fn worked(tally: &mut Tally) {
-    let bytes = with_jitter(2, 38_000, false);
-    tally.case(0, &bytes);
-    let plan = read(&bytes).expect("a plan");
-    let emission = |second: u64| Emission::from([(1, vec![0]), (2, vec![0, second])]);
-    tally.same(format_args!("the worked nominal instants"), nominals(&plan.flows[&2], &[0, 72_000]), Some(vec![-38_000, 72_000]));
-    let unsent = left_unsent(tally, &plan, 72_001, &emission(72_000));
-    tally.same(format_args!("the worked emission leaves a frame unsent at 72,001"), unsent, true);
-    all_leave(tally, &plan, 72_000, &emission(72_000));
-    tally.same(format_args!("1 ns earlier"), keeps_contract(&plan, &emission(71_999)), false);
-    let k = read(&K).expect("K is a plan");
-    tally.same(format_args!("K: 72,000 after"), keeps_contract(&k, &emission(72_000)), false);
-    tally.same(format_args!("K: a period after"), keeps_contract(&k, &emission(110_000)), true);
-    tally.same(format_args!("K: 1 ns less than a period after"), keeps_contract(&k, &emission(109_999)), false);
-}
-
 pub fn run(tally: &mut Tally) {
-    worked(tally);
+    worked::run(tally);
     for case in 0..tally.cases {
         let mut rng = tally.rng(case);
         let mut pieces = match rng.below(4) {
@@ -115,6 +121,11 @@ pub fn run(tally: &mut Tally) {
             if gen::has_jitter(&pieces) {
                 tally.saw("check with jitter", answer.refusal);
             }
+            match gen::clocks_kind(&pieces, plan.top) {
+                0 => {}
+                1 => tally.saw("check with clocks, not widened", answer.refusal),
+                _ => tally.saw("check with clocks, widened", answer.refusal),
+            }
             match answer.refusal {
                 0 => accepted(tally, &plan, duration, &mut rng),
                 21 => refused(tally, &plan, &planner, duration, answer.first, answer.second),
@@ -125,4 +136,6 @@ pub fn run(tally: &mut Tally) {
     tally.must_have_seen("check", &[0, 21]);
     tally.must_have_seen("check with extra bytes", &[0, 21]);
     tally.must_have_seen("check with jitter", &[0, 21]);
+    tally.must_have_seen("check with clocks, not widened", &[0, 21]);
+    tally.must_have_seen("check with clocks, widened", &[0, 21]);
 }

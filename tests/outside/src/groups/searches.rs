@@ -38,7 +38,8 @@ fn tops(spans: &[Span], rng: &mut Rng) -> Vec<u64> {
 /// One more port, crossed by one more flow whose demand rises just at a duration: no other port is touched.
 fn with_side_port(pieces: &[Piece], duration: u64, rng: &mut Rng) -> Option<Vec<Piece>> {
     let jitter = rng.pick(&[0, 0, 1, 5_000]);
-    let period = u32::try_from(duration - 1 + u64::from(jitter)).ok().filter(|period| (1_000..=100_000_000).contains(period))?;
+    let reach = gen::widened(pieces, duration) + u64::from(jitter);
+    let period = u32::try_from(reach - 1).ok().filter(|period| (1_000..=100_000_000).contains(period))?;
     let taken = |wanted: u16, port: bool| {
         pieces.iter().any(|piece| match piece {
             Piece::Port { number, .. } => port && *number == wanted,
@@ -85,6 +86,9 @@ pub fn run(tally: &mut Tally) {
         if gen::has_jitter(&pieces) {
             tally.saw("spans with jitter, 2 for more", found.len().min(2) as u32);
         }
+        if gen::clocks_kind(&pieces, u64::from(u32::MAX)) == 2 {
+            tally.saw("spans with clocks, 2 for more", found.len().min(2) as u32);
+        }
         for duration in found.first().into_iter().chain(found.last()).map(|span| span.0) {
             if let Some(more) = with_side_port(&pieces, duration, &mut rng) {
                 ask_lengths(tally, case, &more, &mut rng);
@@ -99,6 +103,7 @@ pub fn run(tally: &mut Tally) {
     tally.must_have_seen("spans, 2 for more", &[0, 1, 2]);
     tally.must_have_seen("extra bytes, 1 for some", &[0, 1]);
     tally.must_have_seen("spans with jitter, 2 for more", &[0, 1, 2]);
+    tally.must_have_seen("spans with clocks, 2 for more", &[0, 1, 2]);
     tally.must_have_seen("least", &[0, 11, 20, 22]);
     tally.must_have_seen("margin_safe", &[0, 11, 20, 23]);
 }

@@ -1,6 +1,6 @@
 //! One field of a plan's bytes, with refusals 2 to 5, and the test for a port twice in a route.
 
-use super::Flow;
+use super::{Clocks, Flow};
 use crate::answers::FieldRead;
 use std::collections::BTreeSet;
 
@@ -13,6 +13,7 @@ pub enum Field {
     Extra { number: u64, bytes: u64 },
     /// The release jitter of the flow of this number.
     Jitter { number: u64, jitter: u64 },
+    Clocks(Clocks),
 }
 
 fn number(bytes: &[u8]) -> u64 {
@@ -24,6 +25,7 @@ fn length_allowed(tag: u8, length: usize) -> bool {
         1 | 2 => length == 8,
         4 => length == 4,
         5 => length == 6,
+        6 => length == 12,
         _ => (1..=16).any(|hops| length == 10 + 2 * hops),
     }
 }
@@ -52,6 +54,11 @@ fn numbers_of(tag: u8, value: &[u8]) -> Option<Field> {
             let (flow, jitter) = (number(&value[..2]), number(&value[2..]));
             (Field::Jitter { number: flow, jitter }, (1..=256).contains(&flow) && jitter <= 10_000_000)
         }
+        6 => {
+            let (drift, timing_jitter, sync_error) = (number(&value[..4]), number(&value[4..8]), number(&value[8..]));
+            let clocks = Clocks { drift, timing_jitter, sync_error };
+            (Field::Clocks(clocks), clocks_fit(&clocks))
+        }
         _ => {
             let own = number(&value[..2]);
             let flow = Flow {
@@ -68,6 +75,10 @@ fn numbers_of(tag: u8, value: &[u8]) -> Option<Field> {
     fits.then_some(field)
 }
 
+pub fn clocks_fit(clocks: &Clocks) -> bool {
+    clocks.drift <= 1_000 && clocks.timing_jitter <= 1_000 && clocks.sync_error <= 1_000_000
+}
+
 fn flow_fits(flow: &Flow) -> bool {
     (1_000..=100_000_000).contains(&flow.period)
         && (1..=64).contains(&flow.count)
@@ -81,7 +92,7 @@ pub fn field_at(plan: &[u8], offset: usize) -> Result<(Field, usize), u32> {
     let head = rest.get(..3).ok_or(2u32)?;
     let (tag, length) = (head[0], number(&head[1..]) as usize);
     let value = rest[3..].get(..length).ok_or(2u32)?;
-    if !(1..=5).contains(&tag) {
+    if !(1..=6).contains(&tag) {
         return Err(3);
     }
     if !length_allowed(tag, length) {
@@ -103,6 +114,7 @@ pub fn field_read(plan: &[u8], offset: usize) -> FieldRead {
         Field::Flow { number, flow } => (3, [number, flow.period, flow.count, flow.length, flow.route.len() as u64]),
         Field::Extra { number, bytes } => (4, [number, bytes, 0, 0, 0]),
         Field::Jitter { number, jitter } => (5, [number, jitter, 0, 0, 0]),
+        Field::Clocks(clocks) => (6, [clocks.drift, clocks.timing_jitter, clocks.sync_error, 0, 0]),
     };
     FieldRead { refusal: 0, tag, offset: after as u64, numbers }
 }

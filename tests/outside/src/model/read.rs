@@ -1,13 +1,14 @@
 //! Reading a plan's bytes, with refusals 1 to 9.
 
 use super::field::{field_at, repeats, Field};
-use super::{Flow, Plan, Port};
+use super::{Clocks, Flow, Plan, Port};
 use crate::answers::Answer;
 use std::collections::BTreeMap;
 
 #[derive(Default)]
 struct Gathered {
     header: Option<(u64, u64)>,
+    clocks: Option<Clocks>,
     ports: BTreeMap<u64, Port>,
     flows: BTreeMap<u64, Flow>,
     /// Extra bytes by port, each with the offset of its tag.
@@ -26,12 +27,14 @@ impl Gathered {
             Field::Flow { number, .. } => self.flows.contains_key(number),
             Field::Extra { number, .. } => self.extras.contains_key(number),
             Field::Jitter { number, .. } => self.jitters.contains_key(number),
+            Field::Clocks(_) => self.clocks.is_some(),
         };
         if again {
             return Err(6);
         }
         match field {
             Field::Header { guard, top } => self.header = Some((guard, top)),
+            Field::Clocks(clocks) => self.clocks = Some(clocks),
             Field::Port { number, rate, blocker } => {
                 self.ports.insert(number, Port { rate, blocker, extra: 0 });
             }
@@ -70,7 +73,7 @@ impl Gathered {
         for (port, (bytes, _)) in self.extras {
             self.ports.get_mut(&port).expect("a known port").extra = bytes;
         }
-        Ok(Plan { guard, top, ports: self.ports, flows: self.flows })
+        Ok(Plan { guard, top, clocks: self.clocks.unwrap_or_default(), ports: self.ports, flows: self.flows })
     }
 }
 

@@ -1,6 +1,6 @@
 //! The admissible durations as spans, found by walking the points where a demand rises.
 
-use super::{Flow, Plan};
+use super::{Clocks, Flow, Plan};
 use crate::answers::Answer;
 use std::collections::BTreeMap;
 
@@ -52,14 +52,28 @@ fn join(spans: &mut Vec<Span>, from: u64, to: u64) {
     }
 }
 
-/// The first duration that reaches, with the jitter, past so many periods.
-fn first_past(flow: &Flow, periods: u64) -> u64 {
-    (periods * flow.period + 1).saturating_sub(flow.jitter).max(1)
+/// Whether a duration, widened and with the jitter, reaches past so many periods.
+fn reaches_past(clocks: &Clocks, flow: &Flow, duration: u64, periods: u64) -> bool {
+    clocks.widened(duration) + flow.jitter > periods * flow.period
+}
+
+/// The first duration from 1 on that reaches past so many periods: the longer the duration, the farther it reaches.
+pub fn first_past(clocks: &Clocks, flow: &Flow, periods: u64) -> u64 {
+    let (mut low, mut high) = (1, (periods * flow.period + 1).saturating_sub(flow.jitter).max(1));
+    while low < high {
+        let middle = (low + high) / 2;
+        if reaches_past(clocks, flow, middle, periods) {
+            high = middle;
+        } else {
+            low = middle + 1;
+        }
+    }
+    low
 }
 
 /// Periods begun at a duration, of which so many had begun before.
-fn periods_begun(flow: &Flow, before: u64, duration: u64) -> u64 {
-    (before..).find(|periods| first_past(flow, *periods) > duration).expect("a last period")
+fn periods_begun(clocks: &Clocks, flow: &Flow, before: u64, duration: u64) -> u64 {
+    (before..).find(|periods| !reaches_past(clocks, flow, duration, *periods)).expect("a last period")
 }
 
 /// All admissible durations from 1 to top, rising.
@@ -71,11 +85,11 @@ pub fn spans(plan: &Plan) -> Vec<Span> {
     while let Some(start) = rises.keys().next().copied() {
         for (number, before) in rises.remove(&start).unwrap_or_default() {
             let flow = &plan.flows[&number];
-            let begun = periods_begun(flow, before, start);
+            let begun = periods_begun(&plan.clocks, flow, before, start);
             for port in &flow.route {
                 walk.rise(*port, (begun - before) * flow.count * plan.ports[port].wire_bits(flow.length));
             }
-            let next = first_past(flow, begun);
+            let next = first_past(&plan.clocks, flow, begun);
             if next <= plan.top {
                 rises.entry(next).or_default().push((number, begun));
             }
@@ -91,7 +105,8 @@ pub fn spans(plan: &Plan) -> Vec<Span> {
 
 /// How many periods the walk looks at, at most.
 pub fn effort(plan: &Plan) -> u64 {
-    plan.flows.values().map(|flow| (plan.top + flow.jitter) / flow.period + 1).sum()
+    let length = plan.clocks.widened(plan.top);
+    plan.flows.values().map(|flow| (length + flow.jitter) / flow.period + 1).sum()
 }
 
 /// The same spans by trying every duration, for small tops.

@@ -1,6 +1,7 @@
 //! Planner values: the one that a load makes of a plan, which ones hold a plan that the rules accept, and the plan that such a one tells.
 
-use super::{field::repeats, Flow, Plan, Port};
+use super::field::{clocks_fit, repeats};
+use super::{Clocks, Flow, Plan, Port};
 use crate::answers::Planner;
 use std::collections::BTreeMap;
 
@@ -49,6 +50,14 @@ pub fn plan_of(tables: &Planner) -> Option<Plan> {
     if guard > 1_000_000 || !(1..=100_000_000).contains(&top) {
         return None;
     }
+    let clocks = Clocks {
+        drift: u64::from(tables.drift),
+        timing_jitter: u64::from(tables.timing_jitter),
+        sync_error: u64::from(tables.sync_error),
+    };
+    if !clocks_fit(&clocks) {
+        return None;
+    }
     let ports = ports_of(tables)?;
     let mut flows = BTreeMap::new();
     for slot in 0..256 {
@@ -56,7 +65,7 @@ pub fn plan_of(tables: &Planner) -> Option<Plan> {
             flows.insert(slot as u64 + 1, flow);
         }
     }
-    (!flows.is_empty()).then_some(Plan { guard, top, ports, flows })
+    (!flows.is_empty()).then_some(Plan { guard, top, clocks, ports, flows })
 }
 
 /// The tables that hold a plan: port n and flow n in slot n - 1, routes 16 apart, all else 0.
@@ -64,6 +73,9 @@ pub fn tables_of(plan: &Plan) -> Planner {
     let mut tables = Planner::zero();
     tables.guard = plan.guard as u32;
     tables.top = plan.top as u32;
+    tables.drift = plan.clocks.drift as u32;
+    tables.timing_jitter = plan.clocks.timing_jitter as u32;
+    tables.sync_error = plan.clocks.sync_error as u32;
     for (number, port) in &plan.ports {
         tables.rates[*number as usize - 1] = port.rate as u32;
         tables.blockings[*number as usize - 1] = port.blocker as u16;

@@ -1,5 +1,6 @@
 //! Emissions: which ones keep the contract, the worst at a port, and random ones.
 
+use super::cuts::Cut;
 use crate::model::{Flow, Plan};
 use crate::rng::Rng;
 use std::collections::BTreeMap;
@@ -37,25 +38,28 @@ pub fn keeps_contract(plan: &Plan, emission: &Emission) -> bool {
     })
 }
 
-/// All flows of a port send as much as they may, so that it comes together there in one cycle: what is due within a jitter
-/// before the cycle comes at its start, the rest when it is due. Some flow starts at 0.
-pub fn gathered_at(plan: &Plan, port: u64, duration: u64) -> Emission {
+/// All flows of a port send as much as they may in one cycle, of the widened length, so that it comes together at the port in one
+/// cycle: what is due within a jitter before a flow's cycle comes at its start, the rest when it is due. Some flow starts at 0.
+pub fn gathered_at(plan: &Plan, port: u64, duration: u64) -> (Emission, Cut) {
     let hop_of = |flow: &Flow| flow.route.iter().position(|passed| *passed == port);
     let last = plan.flows.values().filter_map(hop_of).max().unwrap_or(0);
-    let mut emission = Emission::new();
+    let length = plan.clocks.widened(duration) as i64;
+    let (mut emission, mut cut) = (Emission::new(), Cut::new());
     for (number, flow) in &plan.flows {
         if let Some(hop) = hop_of(flow) {
-            let start = ((last - hop) as u64 * duration) as i64;
+            let cycle = (last - hop) as u64;
+            let start = (cycle * duration) as i64;
             let mut instants = Vec::new();
             let mut nominal = start - flow.jitter as i64;
-            while nominal < start + duration as i64 {
+            while nominal < start + length {
                 instants.extend((0..flow.count).map(|_| nominal.max(start) as u64));
                 nominal += flow.period as i64;
             }
+            cut.insert(*number, vec![cycle; instants.len()]);
             emission.insert(*number, instants);
         }
     }
-    emission
+    (emission, cut)
 }
 
 /// When a frame comes that is due at a nominal instant: at once, at a cycle's start, as late as it may, or between.

@@ -168,9 +168,9 @@ enum-told-2 c = search needs
 
 returns-3 : tie.Need-returns-3 Inv-loop μ-loop
 returns-3 c =
-    let l = at-last (c .before .before) in
+    let l = at-last (c .before .before .before) in
     let s = bytes l in
-    let e = at-end (c .before .before) ∙ ap (answerOf _) (c .enum-told .given .1) in
+    let e = at-end (c .before .before .before) ∙ ap (answerOf _) (c .enum-told .given .1) in
     record {
       leaves = sym (accepted-leaves (planOf (entry l .args .planner)) s _ _ _ e);
       answers = rw (c .enum-told .given .1) (sym (accepted-answer s _ _ _ e));
@@ -178,9 +178,9 @@ returns-3 c =
 
 returns-4 : tie.Need-returns-4 Inv-loop μ-loop
 returns-4 c =
-    let l = at-last (c .before .before) in
+    let l = at-last (c .before .before .before) in
     let s = bytes l in
-    let e = at-end (c .before .before) ∙ ap (answerOf _) (c .enum-told2 .given .1) in
+    let e = at-end (c .before .before .before) ∙ ap (answerOf _) (c .enum-told2 .given .1) in
     record {
       leaves = sym (refused-leaves (planOf (entry l .args .planner)) s _ _ e);
       answers = rw (c .enum-told2 .given .1) (sym (refused-answer s _ _ e));

@@ -51,6 +51,9 @@ cast-result-4 c = search needs
 add-result-7 : tie.Need-add-result-7
 add-result-7 c = search needs
 
+enum-told-2 : tie.Need-enum-told-2
+enum-told-2 c = search needs
+
 returns : tie.Need-returns
 returns c = search needs
 
@@ -65,6 +68,9 @@ returns-4 c = rw (c .before .before .field3 .given .1)
 
 returns-5 : tie.Need-returns-5
 returns-5 c = rw (c .before .before .field4 .given .1)
+
+returns-6 : tie.Need-returns-6
+returns-6 c = search needs
 
 pub key-of-spec : {M : Type 1} → statement M
 key-of-spec =
@@ -86,8 +92,10 @@ key-of-spec =
     add-result-6
     cast-result-4
     add-result-7
+    enum-told-2
     returns
     returns-2
     returns-3
     returns-4
-    returns-5)
+    returns-5
+    returns-6)

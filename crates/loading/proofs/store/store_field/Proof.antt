@@ -41,6 +41,7 @@ flow-added
       tables = record {
         guard = d .tables .guard;
         top = d .tables .top;
+        clock = d .tables .clock;
         rates = d .tables .rates;
         blockings = d .tables .blockings;
         extras = d .tables .extras;
@@ -98,6 +99,9 @@ enum-known-field-5 c = search needs
 store-jitter-requires : tie.Need-store-jitter-requires
 store-jitter-requires c κs = rw (c .before .before .field5 .given .1) at (c .before .before .before .before .before .before .pre .2)
 
+enum-known-field-6 : tie.Need-enum-known-field-6
+enum-known-field-6 c = search needs
+
 returns : tie.Need-returns
 unfolding added store
 returns c = rw (c .before .before .before .key-of .ensures, c .before .field .given .1, add-zero (c .before .before .before .before .before .args .totals .ports), add-zero (c .before .before .before .before .before .args .totals .flows))
@@ -123,6 +127,10 @@ returns-5 : tie.Need-returns-5
 unfolding added store
 returns-5 c = rw (c .before .before .before .before .before .key-of .ensures, c .before .before .before .field5 .given .1, c .store-jitter .ensures, add-zero (c .before .before .before .before .before .before .before .args .totals .ports), add-zero (c .before .before .before .before .before .before .before .args .totals .flows))
 
+returns-6 : tie.Need-returns-6
+unfolding added store
+returns-6 c = rw (c .before .before .before .key-of .ensures, c .before .field6 .given .1, add-zero (c .before .before .before .before .before .args .totals .ports), add-zero (c .before .before .before .before .before .args .totals .flows))
+
 pub store-field-spec : {M : Type 1} → statement M
 store-field-spec =
     tie.close
@@ -140,8 +148,10 @@ store-field-spec =
     store-extra-requires
     enum-known-field-5
     store-jitter-requires
+    enum-known-field-6
     returns
     returns-2
     returns-3
     returns-4
-    returns-5)
+    returns-5
+    returns-6)

@@ -1,7 +1,7 @@
 -- `field_of` meets its contract: test 3, and the field by its tag.
 use mathlib.Core.Path.{sym, _∙_}
 use borrow.Author.Needs.{needs}
-use Rattle.plan.specs.laws.Tested.{tag-header, tag-port, tag-flow, tag-extra, tag-jitter, tag-unknown}
+use Rattle.plan.specs.laws.Tested.{tag-header, tag-port, tag-flow, tag-extra, tag-jitter, tag-clock, tag-unknown}
 use Rattle.plan.proofs.read.field_of.Statement.{statement}
 use Rattle.plan.proofs.read.field_of.Tie as tie
 
@@ -35,16 +35,23 @@ jitter-of-requires c κs = search needs
 returns-5 : tie.Need-returns-5
 returns-5 c = c .jitter-of .ensures ∙ sym (tag-jitter _ _ _ _ (c .before .if5 .taken))
 
+clock-of-requires : tie.Need-clock-of-requires
+clock-of-requires c κs = search needs
+
 returns-6 : tie.Need-returns-6
-returns-6 c =
+returns-6 c = c .clock-of .ensures ∙ sym (tag-clock _ _ _ _ (c .before .if6 .taken))
+
+returns-7 : tie.Need-returns-7
+returns-7 c =
     let b = c .before in
     sym
     (tag-unknown _ _ _ _
-    (b .before .before .before .if1 .left)
-    (b .before .before .if2 .left)
-    (b .before .if3 .left)
-    (b .if4 .left)
-    (c .if5 .left))
+    (b .before .before .before .before .if1 .left)
+    (b .before .before .before .if2 .left)
+    (b .before .before .if3 .left)
+    (b .before .if4 .left)
+    (b .if5 .left)
+    (c .if6 .left))
 
 pub field-of-spec : {M : Type 1} → statement M
 field-of-spec =
@@ -60,4 +67,6 @@ field-of-spec =
     returns-4
     jitter-of-requires
     returns-5
-    returns-6)
+    clock-of-requires
+    returns-6
+    returns-7)

@@ -11,32 +11,34 @@ use Rattle.cqf.specs.Plan.{Plan}
 use Rattle.cqf.specs.Condition.{windowOf, largestNeed}
 use Rattle.cqf.specs.laws.Ranges.{top-most, extra-most}
 use Rattle.cqf.specs.laws.Search.{Climbed, climb-start, climb-next, climb-over}
+use Rattle.numbers.specs.Clock.{clockOf}
 use Rattle.tables.specs.Columns.{planBy}
 use Rattle.planner.specs.laws.Sums.{slot-in-range}
+use Rattle.planner.specs.laws.Stretched.{stretch-fits}
 use Rattle.planner.specs.laws.Scratch.{filled-by, filled-length, filled-short, filled-most, filled-served, filled-largest}
 use Rattle.planner.specs.laws.Climb.{Passed, Left, passed-start, passed-all, port-tested, passed-until, passed-next, left-least, left-more}
 use Rattle.planner.proofs.climb.climb.Statement.{statement}
 use Rattle.planner.proofs.climb.climb.Tie as tie
 
 abbrev Inv-ports : tie.InvT-ports
-Inv-ports guard top rates blockings extras periods counts lengths jitters hops routes out limit t available q₀ q =
-    Passed (planBy guard top rates blockings extras periods counts lengths jitters hops routes) out t q × (available ≡ windowOf guard t)
+Inv-ports guard top clock rates blockings extras periods counts lengths jitters hops routes out limit t available q₀ q =
+    Passed (planBy guard top (clockOf clock) rates blockings extras periods counts lengths jitters hops routes) out t q × (available ≡ windowOf guard t)
 
 abbrev μ-ports : tie.MeasureT-ports
-μ-ports guard top rates blockings extras periods counts lengths jitters hops routes out limit t available q₀ q = portSlots - q
+μ-ports guard top clock rates blockings extras periods counts lengths jitters hops routes out limit t available q₀ q = portSlots - q
 
 abbrev Inv-loop : tie.InvT-loop
-Inv-loop guard top rates blockings extras periods counts lengths jitters hops routes out₀ limit t₀ out t =
-    (length out ≡ portSlots) × Climbed (planBy guard top rates blockings extras periods counts lengths jitters hops routes) t
+Inv-loop guard top clock rates blockings extras periods counts lengths jitters hops routes out₀ limit t₀ out t =
+    (length out ≡ portSlots) × Climbed (planBy guard top (clockOf clock) rates blockings extras periods counts lengths jitters hops routes) t
 
 abbrev μ-loop : tie.MeasureT-loop
-μ-loop guard top rates blockings extras periods counts lengths jitters hops routes out₀ limit t₀ out t = suc top - t
+μ-loop guard top clock rates blockings extras periods counts lengths jitters hops routes out₀ limit t₀ out t = suc top - t
 
 -- the plan of the tables
 abbrev plan : tie.Start Inv-ports μ-ports Inv-loop μ-loop → Plan
 plan s =
     let a = s .args in
-    planBy (a .guard) (a .top) (a .rates .now) (a .blockings .now) (a .extras .now) (a .periods .now) (a .counts .now) (a .lengths .now) (a .jitters .now) (a .hops .now) (a .routes .now)
+    planBy (a .guard) (a .top) (clockOf (a .clock)) (a .rates .now) (a .blockings .now) (a .extras .now) (a .periods .now) (a .counts .now) (a .lengths .now) (a .jitters .now) (a .hops .now) (a .routes .now)
 
 -- where the function starts, a round of the search, and the demands in it
 abbrev start : tie.At-loop Inv-ports μ-ports Inv-loop μ-loop → tie.Start Inv-ports μ-ports Inv-loop μ-loop
@@ -80,7 +82,7 @@ demands-requires : tie.Need-demands-requires Inv-ports μ-ports Inv-loop μ-loop
 demands-requires c κs =
     let l = c .before in
     let s = start l in
-    ((record { slot = slot-in-range (plan s) (s .pre .0) }, extra-most (plan s) (s .pre .0)), (omega (arith, top-most (plan s) (s .pre .0), l .loop .inv .1 .within), l .loop .inv .0))
+    ((record { slot = slot-in-range (plan s) (s .pre .0) }, extra-most (plan s) (s .pre .0)), (stretch-fits (plan s) (s .pre .0) _ (l .loop .inv .1 .within), l .loop .inv .0))
 
 window-requires : tie.Need-window-requires Inv-ports μ-ports Inv-loop μ-loop
 window-requires c κs = tt

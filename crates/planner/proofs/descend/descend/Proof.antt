@@ -7,27 +7,29 @@ use lib.ListN.{length}
 use Rattle.cqf.specs.Limits.{portSlots}
 use Rattle.cqf.specs.Plan.{Plan}
 use Rattle.cqf.specs.Condition.{largestNeed, marginSafe}
-use Rattle.cqf.specs.laws.Ranges.{top-most, extra-most}
+use Rattle.cqf.specs.laws.Ranges.{extra-most}
 use Rattle.cqf.specs.laws.Search.{Descended, descent-start}
+use Rattle.numbers.specs.Clock.{clockOf}
 use Rattle.tables.specs.Columns.{planBy}
 use Rattle.planner.specs.laws.Sums.{slot-in-range}
+use Rattle.planner.specs.laws.Stretched.{stretch-fits}
 use Rattle.planner.specs.laws.Scratch.{Filled, filled-by, filled-length, filled-short, filled-most, filled-served, filled-largest}
 use Rattle.planner.specs.laws.Descent.{descent-ends, descent-down}
 use Rattle.planner.proofs.descend.descend.Statement.{statement}
 use Rattle.planner.proofs.descend.descend.Tie as tie
 
 abbrev Inv-loop : tie.InvT-loop
-Inv-loop guard top rates blockings extras periods counts lengths jitters hops routes out₀ limit below₀ out below =
-    (length out ≡ portSlots) × Descended (planBy guard top rates blockings extras periods counts lengths jitters hops routes) (suc below)
+Inv-loop guard top clock rates blockings extras periods counts lengths jitters hops routes out₀ limit below₀ out below =
+    (length out ≡ portSlots) × Descended (planBy guard top (clockOf clock) rates blockings extras periods counts lengths jitters hops routes) (suc below)
 
 abbrev μ-loop : tie.MeasureT-loop
-μ-loop guard top rates blockings extras periods counts lengths jitters hops routes out₀ limit below₀ out below = below
+μ-loop guard top clock rates blockings extras periods counts lengths jitters hops routes out₀ limit below₀ out below = below
 
 -- the plan of the tables
 abbrev plan : tie.Start Inv-loop μ-loop → Plan
 plan s =
     let a = s .args in
-    planBy (a .guard) (a .top) (a .rates .now) (a .blockings .now) (a .extras .now) (a .periods .now) (a .counts .now) (a .lengths .now) (a .jitters .now) (a .hops .now) (a .routes .now)
+    planBy (a .guard) (a .top) (clockOf (a .clock)) (a .rates .now) (a .blockings .now) (a .extras .now) (a .periods .now) (a .counts .now) (a .lengths .now) (a .jitters .now) (a .hops .now) (a .routes .now)
 
 -- where the function starts, a round of the search, and the demands in it
 abbrev start : tie.At-loop Inv-loop μ-loop → tie.Start Inv-loop μ-loop
@@ -39,7 +41,7 @@ round c = c .before .before
 abbrev filling : tie.After-largest-need-arg Inv-loop μ-loop → tie.After-demands Inv-loop μ-loop
 filling c = c .before .before .before
 
-full : (c : tie.After-demands Inv-loop μ-loop) → Filled (plan (start (round c))) (c .demands .last .1 .1 .1 .1 .1 .1 .1 .1 .0) (round c .loop .below)
+full : (c : tie.After-demands Inv-loop μ-loop) → Filled (plan (start (round c))) (c .demands .last .1 .1 .1 .1 .1 .1 .1 .1 .1 .0) (round c .loop .below)
 full c =
     let s = start (round c) in
     filled-by (plan s) (s .pre .0) (omega (arith, round c .loop .inv .1 .within)) (c .demands .ensures)
@@ -67,7 +69,7 @@ demands-requires : tie.Need-demands-requires Inv-loop μ-loop
 demands-requires c κs =
     let l = c .before in
     let s = start l in
-    ((record { slot = slot-in-range (plan s) (s .pre .0) }, extra-most (plan s) (s .pre .0)), (omega (arith, top-most (plan s) (s .pre .0), l .loop .inv .1 .within), l .loop .inv .0))
+    ((record { slot = slot-in-range (plan s) (s .pre .0) }, extra-most (plan s) (s .pre .0)), (stretch-fits (plan s) (s .pre .0) _ (omega (arith, l .loop .inv .1 .within)), l .loop .inv .0))
 
 largest-need-requires : tie.Need-largest-need-requires Inv-loop μ-loop
 largest-need-requires c κs =
@@ -103,7 +105,7 @@ demands-requires-2 : tie.Need-demands-requires-2 Inv-loop μ-loop
 demands-requires-2 c κs =
     let at = c .before .before .before in
     let s = begin at in
-    ((record { slot = slot-in-range (plan s) (s .pre .0) }, extra-most (plan s) (s .pre .0)), (omega (arith, top-most (plan s) (s .pre .0), c .before .if2 .left), filled-length (full (demanded at))))
+    ((record { slot = slot-in-range (plan s) (s .pre .0) }, extra-most (plan s) (s .pre .0)), (stretch-fits (plan s) (s .pre .0) _ (omega (arith, c .before .if2 .left)), filled-length (full (demanded at))))
 
 -- past the test of the duration found
 abbrev past : tie.After-demands2 Inv-loop μ-loop → tie.Then1 Inv-loop μ-loop
@@ -113,7 +115,7 @@ same-length-2 : tie.Need-same-length-2 Inv-loop μ-loop
 same-length-2 c =
     let d = c .before .before in
     let at = past d .before in
-    d .demands2 .kept .1 .1 .1 .1 .1 .1 .1 .1 .0 ∙ filled-length (full (demanded at)) ∙ sym (begin at .pre .1)
+    d .demands2 .kept .1 .1 .1 .1 .1 .1 .1 .1 .1 .0 ∙ filled-length (full (demanded at)) ∙ sym (begin at .pre .1)
 
 returns-2 : tie.Need-returns-2 Inv-loop μ-loop
 returns-2 c =

@@ -3,9 +3,11 @@ use mathlib.Core.Path.{sym, _∙_}
 use native.Mathlib.Nat.{le-refl}
 use native.Mathlib.Omega.{arith}
 use Rattle.cqf.specs.Plan.{Plan}
-use Rattle.cqf.specs.laws.Ranges.{top-positive, top-most, extra-most}
+use Rattle.cqf.specs.laws.Ranges.{top-positive, extra-most}
+use Rattle.numbers.specs.Clock.{clockOf}
 use Rattle.tables.specs.Columns.{planBy}
 use Rattle.planner.specs.laws.Sums.{slot-in-range}
+use Rattle.planner.specs.laws.Stretched.{stretch-fits}
 use Rattle.planner.specs.laws.Fails.{failing-set, set-lowest-failing, set-failing}
 use Rattle.planner.specs.laws.Scratch.{Filled, filled-by, filled-length, filled-short, filled-most}
 use Rattle.planner.proofs.failing.failing_at.Statement.{statement}
@@ -15,7 +17,7 @@ use Rattle.planner.proofs.failing.failing_at.Tie as tie
 abbrev plan : tie.Start → Plan
 plan s =
     let a = s .args in
-    planBy (a .guard) (a .duration) (a .rates .now) (a .blockings .now) (a .extras .now) (a .periods .now) (a .counts .now) (a .lengths .now) (a .jitters .now) (a .hops .now) (a .routes .now)
+    planBy (a .guard) (a .duration) (clockOf (a .clock)) (a .rates .now) (a .blockings .now) (a .extras .now) (a .periods .now) (a .counts .now) (a .lengths .now) (a .jitters .now) (a .hops .now) (a .routes .now)
 
 -- where the function starts, and where the demands are there
 abbrev start : tie.After-demands → tie.Start
@@ -25,13 +27,13 @@ abbrev filling : tie.After-window → tie.After-demands
 filling c = c .before .before .before
 
 -- the demands at the duration
-at-duration : (c : tie.After-demands) → Filled (plan (start c)) (c .demands .last .1 .1 .1 .1 .1 .1 .1 .1 .0) (start c .args .duration)
+at-duration : (c : tie.After-demands) → Filled (plan (start c)) (c .demands .last .1 .1 .1 .1 .1 .1 .1 .1 .1 .0) (start c .args .duration)
 at-duration c = filled-by (plan (start c)) (start c .pre .0) (le-refl _) (c .demands .ensures)
 
 demands-requires : tie.Need-demands-requires
 demands-requires c κs =
     let s = c .before .before in
-    ((record { slot = slot-in-range (plan s) (s .pre .0) }, extra-most (plan s) (s .pre .0)), (top-most (plan s) (s .pre .0), s .pre .1))
+    ((record { slot = slot-in-range (plan s) (s .pre .0) }, extra-most (plan s) (s .pre .0)), (stretch-fits (plan s) (s .pre .0) _ (le-refl _), s .pre .1))
 
 window-requires : tie.Need-window-requires
 window-requires c κs = tt

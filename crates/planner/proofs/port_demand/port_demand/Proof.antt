@@ -1,5 +1,5 @@
 -- `planner::port_demand::port_demand` meets its contract. The loop's invariant: `bits` is the demand by the flows passed.
-use mathlib.Core.Path.{_≡_, sym, _∙_}
+use mathlib.Core.Path.{_≡_, sym, subst, _∙_}
 use mathlib.Core.Bool.{true}
 use mathlib.Core.Logic.{⊎-elim}
 use mathlib.Core.List.{[]}
@@ -7,31 +7,50 @@ use Prim.Native.Nat.{ℕ, _+_, _-_, _≤_, _<_}
 use native.Mathlib.Omega.{arith}
 use borrow.Author.Needs.{needs}
 use Rattle.cqf.specs.Bounded.{sumTo}
-use Rattle.cqf.specs.Limits.{flowSlots, maxJitter}
-use Rattle.cqf.specs.Plan.{Plan, periodOf, countOf, lengthOf, jitterOf, hopsOf, routeOf, crosses}
-use Rattle.cqf.specs.laws.Begun.{stretch-aligned}
+use Rattle.cqf.specs.Limits.{flowSlots, maxJitter, mostStretch}
+use Rattle.cqf.specs.Plan.{Plan, equalClocks, periodOf, countOf, lengthOf, jitterOf, hopsOf, routeOf, crosses}
+use Rattle.cqf.specs.Condition.{stretchBy, stretch}
 use Rattle.cqf.specs.laws.Demand.{share, demand-sum}
+use Rattle.numbers.specs.Clock.{clockOf}
 use Rattle.tables.specs.Columns.{columns, FlowInRange}
+use Rattle.planner.specs.laws.Stretched.{aligned-stretch, demand-stretched}
 use Rattle.planner.specs.laws.Sums.{sum-crossing, sum-apart, sum-most, crossing-period}
 use Rattle.planner.proofs.port_demand.port_demand.Statement.{statement}
 use Rattle.planner.proofs.port_demand.port_demand.Tie as tie
 
 abbrev Inv-loop : tie.InvT-loop
-Inv-loop extras periods counts lengths jitters hops routes duration q stretch bits₀ f₀ bits f =
-    (f ≤ flowSlots) × (bits ≡ sumTo f (share (columns [] [] extras periods counts lengths jitters hops routes) q duration))
+Inv-loop extras periods counts lengths jitters hops routes duration q at over bits₀ f₀ bits f =
+    (f ≤ flowSlots) × (bits ≡ sumTo f (share (columns equalClocks [] [] extras periods counts lengths jitters hops routes) q over))
 
 abbrev μ-loop : tie.MeasureT-loop
-μ-loop extras periods counts lengths jitters hops routes duration q stretch bits₀ f₀ bits f = flowSlots - f
+μ-loop extras periods counts lengths jitters hops routes duration q at over bits₀ f₀ bits f = flowSlots - f
 
--- the plan of the columns
+-- the plan of the columns, with clocks that are equal
 abbrev plan : tie.Start Inv-loop μ-loop → Plan
 plan s =
-    columns [] [] (s .args .extras .now) (s .args .periods .now) (s .args .counts .now) (s .args .lengths .now) (s .args .jitters .now) (s .args .hops .now) (s .args .routes .now)
+    columns equalClocks [] [] (s .args .extras .now) (s .args .periods .now) (s .args .counts .now) (s .args .lengths .now) (s .args .jitters .now) (s .args .hops .now) (s .args .routes .now)
+
+-- the length over which frames are counted, which is that plan's duration
+module _ (c : tie.At-loop Inv-loop μ-loop) where
+  abbrev begin : tie.Start Inv-loop μ-loop
+  begin = c .before .before
+
+  abbrev over : ℕ
+  over = c .before .stretch .result
+
+  is : over ≡ stretch (plan begin) over
+  is = sym (aligned-stretch (plan begin) over)
+
+  stretched : over ≡ stretchBy (clockOf (begin .args .clock)) (begin .args .duration)
+  stretched = c .before .stretch .ensures
+
+  fits : stretch (plan begin) over ≤ mostStretch
+  fits = subst (λ (n : ℕ). n ≤ mostStretch) (sym stretched ∙ is) (begin .pre .1 .0)
 
 -- the slot of the flow at hand
 module _ (c : tie.In-loop Inv-loop μ-loop) where
   abbrev start : tie.Start Inv-loop μ-loop
-  start = c .before .before
+  start = begin (c .before)
 
   slot
       : (let f = c .before .loop .f in
@@ -50,8 +69,14 @@ inside c = c .before .before .before
 crossing : (c : tie.Then1 Inv-loop μ-loop) → crosses (plan (start (inside c))) (inside c .before .loop .f) (start (inside c) .args .q) ≡ true
 crossing c = sym (c .before .route-holds .ensures) ∙ c .if1 .taken
 
-cast-stretch : tie.Need-cast-stretch Inv-loop μ-loop
-cast-stretch c = search needs
+cast-at : tie.Need-cast-at Inv-loop μ-loop
+cast-at c = omega (arith, c .pre .1 .0)
+
+stretch-requires : tie.Need-stretch-requires Inv-loop μ-loop
+stretch-requires c κs = tt
+
+cast-over : tie.Need-cast-over Inv-loop μ-loop
+cast-over c = omega (arith, c .stretch .ensures, c .before .pre .1 .0)
 
 loop-holds : tie.Need-loop-holds Inv-loop μ-loop
 unfolding sumTo
@@ -103,7 +128,7 @@ flow-bits-requires c κs =
     let s = start at in
     let r = slot at in
     let least = crossing-period (plan s) (s .pre .0 .0 .slot) (s .args .q) (at .before .loop .f) (at .loop-test .taken) (crossing branch) in
-    (least, r .period-most, r .count-most, r .bytes-most, jitter-within s (omega arith), s .pre .0 .1 (s .args .q) (s .pre .1 .1), s .pre .1 .0)
+    (least, r .period-most, r .count-most, r .bytes-most, jitter-within s (omega arith), s .pre .0 .1 (s .args .q) (s .pre .1 .1), omega (arith, stretched (at .before), s .pre .1 .0))
 
 add-bits : tie.Need-add-bits Inv-loop μ-loop
 add-bits c =
@@ -114,7 +139,7 @@ add-bits c =
     let f = at .before .loop .f in
     let next : f + 1 ≤ flowSlots = omega (arith, at .loop-test .taken) in
     omega
-    (arith, sum-crossing p (s .args .q) (s .args .duration) f (at .before .loop .inv .1) (crossing branch) (sym (stretch-aligned p (s .args .duration))) (c .flow-bits .ensures), sum-most p (s .pre .0 .0 .slot) (s .pre .0 .1) (s .args .duration) (s .pre .1 .0) (s .args .q) (f + 1) (s .pre .1 .1) next)
+    (arith, sum-crossing p (s .args .q) (over (at .before)) f (at .before .loop .inv .1) (crossing branch) (is (at .before)) (c .flow-bits .ensures), sum-most p (s .pre .0 .0 .slot) (s .pre .0 .1) (over (at .before)) (fits (at .before)) (s .args .q) (f + 1) (s .pre .1 .1) next)
 
 add-f : tie.Need-add-f Inv-loop μ-loop
 add-f c = search needs
@@ -128,20 +153,23 @@ loop-again c =
     let s = start at in
     let p = plan s in
     let q = s .args .q in
-    let T = s .args .duration in
+    let T = over (at .before) in
     let f = at .before .loop .f in
     let sum = at .before .loop .inv .1 in
     let holds = c .before .route-holds .ensures in
     ⊎-elim
-    (λ w. (omega arith, w .7 ∙ sum-crossing p q T f sum (sym holds ∙ w .0 .taken) (sym (stretch-aligned p T)) (w .6 .ensures)))
+    (λ w. (omega arith, w .7 ∙ sum-crossing p q T f sum (sym holds ∙ w .0 .taken) (is (at .before)) (w .6 .ensures)))
     (λ w. (omega arith, w .1 ∙ sum-apart p q T f sum (sym holds ∙ w .0 .left)))
     (c .if1 .came)
 
 returns : tie.Need-returns Inv-loop μ-loop
 returns c =
-    let s = c .before .before in
+    let s = begin (c .before) in
+    let p = columns (clockOf (s .args .clock)) [] [] (s .args .extras .now) (s .args .periods .now) (s .args .counts .now) (s .args .lengths .now) (s .args .jitters .now) (s .args .hops .now) (s .args .routes .now) in
     let all : c .before .loop .f ≡ flowSlots = omega arith in
-    rw all at (c .before .loop .inv .1) ∙ sym (demand-sum (plan s) (s .args .q) (s .args .duration))
+    rw all at (c .before .loop .inv .1)
+    ∙ sym (demand-sum (plan s) (s .args .q) (over (c .before)))
+    ∙ demand-stretched p (s .args .duration) (stretched (c .before)) (s .args .q)
 
 pub port-demand-spec : {M : Type 1} → statement M
 port-demand-spec =
@@ -149,7 +177,9 @@ port-demand-spec =
     (tie.spec
     Inv-loop
     μ-loop
-    cast-stretch
+    cast-at
+    stretch-requires
+    cast-over
     loop-holds
     mul-route-holds
     element-copy-out-route-holds

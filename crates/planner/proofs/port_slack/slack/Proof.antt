@@ -10,15 +10,16 @@ use borrow.Author.Tests.{not-true, not-false, lt-ltb}
 use mir.Syntax.{w64}
 use mir.ValLaws.{toZ-ofZ}
 use Rattle.cqf.specs.Bounded.{within}
-use Rattle.cqf.specs.Limits.{portSlots, maxTop, portOk}
+use Rattle.cqf.specs.Limits.{portSlots, maxTop, portOk, mostStretch}
 use Rattle.cqf.specs.Plan.{Plan, rateOf, blockingOf, extraOf, validPlan}
-use Rattle.cqf.specs.Condition.{demand}
+use Rattle.cqf.specs.Condition.{stretchBy, demand}
 use Rattle.cqf.specs.laws.Ranges.{top-most, extra-most}
 use Rattle.plan.specs.laws.Within.{within-low, within-high, slot-below}
 use Rattle.tables.specs.Tables.{planOf}
 use Rattle.loading.specs.Outcome.{result}
 use Rattle.cqf.specs.Condition.{workloadOf, mostDemand}
-use Rattle.planner.specs.laws.Sums.{slot-in-range, demand-most, demand-columns}
+use Rattle.planner.specs.laws.Sums.{slot-in-range, demand-columns}
+use Rattle.planner.specs.laws.Stretched.{stretch-fits, demand-fits}
 use Rattle.planner.specs.laws.Fails.{crossed-demand, slack-is}
 use Rattle.planner.specs.laws.Answers.{slack-none, slack-out, slack-no-port, slack-uncrossed, slack-crossed}
 use Rattle.planner.proofs.port_slack.slack.Statement.{statement}
@@ -30,7 +31,7 @@ held s = planOf (s .args .t1)
 
 -- where the function starts, from past the test of the tables
 abbrev start : tie.After-valid-tables → tie.Start
-start c = c .before .before .before .before .before .before .before .before .before .before .before
+start c = c .before .before .before .before .before .before .before .before .before .before .before .before
 
 -- past the refusals: the plan is valid, the duration from 1 to top, and the port from 1 to 64
 valid : (c : tie.Else1) → validPlan (held (start (c .before))) ≡ true
@@ -46,8 +47,14 @@ module _ (c : tie.Else2) where
   ranged : within 1 (held begin .top) (begin .args .duration) ≡ true
   ranged = sym (c .before .between .ensures) ∙ not-false _ (c .if2 .left)
 
-  fits : begin .args .duration ≤ maxTop
-  fits = omega (arith, top-most (held begin) (valid first), within-high 1 (held begin .top) (begin .args .duration) ranged)
+  within-top : begin .args .duration ≤ held begin .top
+  within-top = within-high 1 (held begin .top) (begin .args .duration) ranged
+
+  short : begin .args .duration ≤ maxTop
+  short = omega (arith, top-most (held begin) (valid first), within-top)
+
+  fits : stretchBy (held begin .clock) (begin .args .duration) ≤ mostStretch
+  fits = stretch-fits (held begin) (valid first) (begin .args .duration) within-top
 
 abbrev second : tie.Else3 → tie.Else2
 second c = c .before .before
@@ -67,7 +74,7 @@ module _ (c : tie.Else3) where
   small = slot-below portSlots (asked .args .port) (number c)
 
 abbrev past : tie.After-port-demand → tie.Else3
-past c = c .before .before .before .before .before .before .before .before .before
+past c = c .before .before .before .before .before .before .before .before .before .before
 
 module _ (c : tie.After-port-demand) where
   bits-are : c .port-demand .result ≡ demand (held (asked (past c))) (slot (past c)) (asked (past c) .args .duration)
@@ -77,7 +84,7 @@ module _ (c : tie.After-port-demand) where
   bits-most =
       let p = held (asked (past c)) in
       let at = second (past c) in
-      omega (arith, bits-are, demand-most p (slot-in-range p (valid (first at))) (extra-most p (valid (first at))) (asked (past c) .args .duration) (fits at) (slot (past c)) (small (past c)))
+      omega (arith, bits-are, demand-fits p (valid (first at)) (asked (past c) .args .duration) (within-top at) (slot (past c)) (small (past c)))
 
 valid-tables-requires : tie.Need-valid-tables-requires
 valid-tables-requires c κs = tt
@@ -113,7 +120,7 @@ sub-q c = within-low 1 portSlots _ (number c)
 
 port-demand-requires : tie.Need-port-demand-requires
 port-demand-requires c κs =
-    let e = c .before .before .before .before .before .before .before .before in
+    let e = c .before .before .before .before .before .before .before .before .before in
     let at = second e in
     ((record { slot = slot-in-range (held (asked e)) (valid (first at)) }, extra-most (held (asked e)) (valid (first at))), (fits at, small e))
 
@@ -138,7 +145,7 @@ element-copy-out-port-slack-3 c = small (past (c .before .before .before .before
 port-slack-requires : tie.Need-port-slack-requires
 port-slack-requires c κs =
     let demands = c .before .before .before .before .before in
-    (omega (arith, c .before .before .before .window .ensures, fits (second (past demands))), bits-most demands)
+    (omega (arith, c .before .before .before .window .ensures, short (second (past demands))), bits-most demands)
 
 returns-4 : tie.Need-returns-4
 returns-4 c =

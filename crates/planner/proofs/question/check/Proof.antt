@@ -28,7 +28,7 @@ told p T a e = (e, subst (λ (x : Answer (Unit {0})). CheckMeans p T x) (sym e) 
 
 -- where the function starts, from past the test of the tables
 abbrev start : tie.After-valid-tables → tie.Start
-start c = c .before .before .before .before .before .before .before .before .before .before .before
+start c = c .before .before .before .before .before .before .before .before .before .before .before .before
 
 -- past the refusals: the plan is valid, and the duration from 1 to top
 valid : (c : tie.Else1) → validPlan (held (start (c .before))) ≡ true
@@ -45,7 +45,7 @@ module _ (c : tie.Else2) where
   ranged = sym (c .before .between .ensures) ∙ not-false _ (c .if2 .left)
 
 abbrev past : tie.After-out → tie.Else2
-past c = c .before .before .before .before .before .before .before .before .before .before .before
+past c = c .before .before .before .before .before .before .before .before .before .before .before .before
 
 -- how many ports fail
 many : (c : tie.After-failing-at) → c .failing-at .result .count ≡ failing (held (begin (past (c .before)))) (begin (past (c .before)) .args .duration)

@@ -4,6 +4,7 @@ use Prim.Native.Nat.{_<_}
 use native.Mathlib.Omega.{arith}
 use borrow.Author.Needs.{needs}
 use Rattle.cqf.specs.Plan.{Plan}
+use Rattle.numbers.specs.Clock.{clockOf}
 use Rattle.tables.specs.Columns.{planBy}
 use Rattle.planner.specs.Search.{wanted, noneNumber}
 use Rattle.planner.specs.laws.Searched.{answers-within, answers-above}
@@ -14,7 +15,7 @@ use Rattle.planner.proofs.search.answer.Tie as tie
 abbrev plan : tie.Start → Plan
 plan s =
     let a = s .args in
-    planBy (a .guard) (a .top) (a .rates .now) (a .blockings .now) (a .extras .now) (a .periods .now) (a .counts .now) (a .lengths .now) (a .jitters .now) (a .hops .now) (a .routes .now)
+    planBy (a .guard) (a .top) (clockOf (a .clock)) (a .rates .now) (a .blockings .now) (a .extras .now) (a .periods .now) (a .counts .now) (a .lengths .now) (a .jitters .now) (a .hops .now) (a .routes .now)
 
 -- where the function starts, from past the search
 abbrev start : tie.After-seek → tie.Start
@@ -40,7 +41,7 @@ failing-at-requires : tie.Need-failing-at-requires
 failing-at-requires c κs =
     let sought = none (c .before) in
     let s = start sought in
-    (s .pre .0, sought .seek .kept .1 .1 .1 .1 .1 .1 .1 .1 .1 .1 .1 .1 .0 ∙ s .pre .1)
+    (s .pre .0, sought .seek .kept .1 .1 .1 .1 .1 .1 .1 .1 .1 .1 .1 .1 .1 .0 ∙ s .pre .1)
 
 same-length-2 : tie.Need-same-length-2
 same-length-2 c = search needs

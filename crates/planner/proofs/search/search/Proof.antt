@@ -9,6 +9,7 @@ use borrow.Author.Needs.{needs}
 use borrow.Author.Tests.{not-true, not-false}
 use Rattle.cqf.specs.Limits.{portSlots}
 use Rattle.cqf.specs.Plan.{Plan, validPlan}
+use Rattle.numbers.specs.Clock.{clockOf}
 use Rattle.tables.specs.Columns.{planBy}
 use Rattle.planner.specs.Search.{wanted, noneNumber}
 use Rattle.planner.specs.laws.Searched.{ends-no-plan, ends-short, ends-found}
@@ -19,7 +20,7 @@ use Rattle.planner.proofs.search.search.Tie as tie
 abbrev plan : tie.Start → Plan
 plan s =
     let a = s .args in
-    planBy (a .guard) (a .top) (a .rates .now) (a .blockings .now) (a .extras .now) (a .periods .now) (a .counts .now) (a .lengths .now) (a .jitters .now) (a .hops .now) (a .routes .now)
+    planBy (a .guard) (a .top) (clockOf (a .clock)) (a .rates .now) (a .blockings .now) (a .extras .now) (a .periods .now) (a .counts .now) (a .lengths .now) (a .jitters .now) (a .hops .now) (a .routes .now)
 
 abbrev given : tie.Start → List ℕ
 given s = s .args .scratch .now

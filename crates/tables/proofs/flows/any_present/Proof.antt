@@ -10,7 +10,7 @@ use borrow.Author.Needs.{needs}
 use borrow.Author.Tests.{lt-ltb}
 use Rattle.cqf.specs.Bounded.{anyTo}
 use Rattle.cqf.specs.Limits.{flowSlots}
-use Rattle.cqf.specs.Plan.{present}
+use Rattle.cqf.specs.Plan.{equalClocks, present}
 use Rattle.cqf.specs.laws.Bounded.{anyTo-some}
 use Rattle.cqf.specs.laws.Bounds.{anyTo-next}
 use Rattle.tables.specs.Columns.{columns}
@@ -18,7 +18,7 @@ use Rattle.tables.proofs.flows.any_present.Statement.{statement}
 use Rattle.tables.proofs.flows.any_present.Tie as tie
 
 abbrev Inv-loop : tie.InvT-loop
-Inv-loop periods f₀ f = (f ≤ flowSlots) × (anyTo f (present (columns [] [] [] periods [] [] [] [] [])) ≡ false)
+Inv-loop periods f₀ f = (f ≤ flowSlots) × (anyTo f (present (columns equalClocks [] [] [] periods [] [] [] [] [])) ≡ false)
 
 abbrev μ-loop : tie.MeasureT-loop
 μ-loop periods f₀ f = flowSlots - f

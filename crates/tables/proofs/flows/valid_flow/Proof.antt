@@ -7,6 +7,7 @@ use lib.ListN.{getD}
 use borrow.Author.Tests.{not-true, not-false}
 use borrow.Author.Needs.{needs}
 use Rattle.cqf.specs.Limits.{maxHops}
+use Rattle.cqf.specs.Plan.{equalClocks}
 use Rattle.cqf.specs.laws.Slot.{slot-count, slot-length, slot-jitter, slot-hops, slot-range, slot-route, ranged-hops}
 use Rattle.tables.specs.Columns.{columns}
 use Rattle.tables.proofs.flows.valid_flow.Statement.{statement}
@@ -21,7 +22,7 @@ few : (c : tie.Else5) → getD (start c .args .hops .now) (start c .args .f) 0 �
 few c =
     let a = start c .args in
     ranged-hops
-    (columns (a .rates .now) [] [] (a .periods .now) (a .counts .now) (a .lengths .now) (a .jitters .now) (a .hops .now) (a .routes .now))
+    (columns equalClocks (a .rates .now) [] [] (a .periods .now) (a .counts .now) (a .lengths .now) (a .jitters .now) (a .hops .now) (a .routes .now))
     (a .f)
     (sym (c .before .flow-in-range .ensures) ∙ not-false _ (c .if5 .left))
 

@@ -8,14 +8,14 @@ use borrow.Author.Needs.{needs}
 use borrow.Author.Tests.{not-true, not-false}
 use Rattle.cqf.specs.Bounded.{allTo}
 use Rattle.cqf.specs.Limits.{flowSlots}
-use Rattle.cqf.specs.Plan.{validFlow}
+use Rattle.cqf.specs.Plan.{equalClocks, validFlow}
 use Rattle.cqf.specs.laws.Bounds.{allTo-next, allTo-false}
 use Rattle.tables.specs.Columns.{columns}
 use Rattle.tables.proofs.flows.valid_flows.Statement.{statement}
 use Rattle.tables.proofs.flows.valid_flows.Tie as tie
 
 abbrev Inv-loop : tie.InvT-loop
-Inv-loop rates periods counts lengths jitters hops routes f₀ f = (f ≤ flowSlots) × (allTo f (validFlow (columns rates [] [] periods counts lengths jitters hops routes)) ≡ true)
+Inv-loop rates periods counts lengths jitters hops routes f₀ f = (f ≤ flowSlots) × (allTo f (validFlow (columns equalClocks rates [] [] periods counts lengths jitters hops routes)) ≡ true)
 
 abbrev μ-loop : tie.MeasureT-loop
 μ-loop rates periods counts lengths jitters hops routes f₀ f = flowSlots - f

@@ -8,14 +8,14 @@ use borrow.Author.Needs.{needs}
 use borrow.Author.Tests.{not-true, not-false}
 use Rattle.cqf.specs.Bounded.{allTo}
 use Rattle.cqf.specs.Limits.{portSlots}
-use Rattle.cqf.specs.Plan.{validPort}
+use Rattle.cqf.specs.Plan.{equalClocks, validPort}
 use Rattle.cqf.specs.laws.Bounds.{allTo-next, allTo-false}
 use Rattle.tables.specs.Columns.{columns}
 use Rattle.tables.proofs.ports.valid_ports.Statement.{statement}
 use Rattle.tables.proofs.ports.valid_ports.Tie as tie
 
 abbrev Inv-loop : tie.InvT-loop
-Inv-loop rates blockings extras q₀ q = (q ≤ portSlots) × (allTo q (validPort (columns rates blockings extras [] [] [] [] [] [])) ≡ true)
+Inv-loop rates blockings extras q₀ q = (q ≤ portSlots) × (allTo q (validPort (columns equalClocks rates blockings extras [] [] [] [] [] [])) ≡ true)
 
 abbrev μ-loop : tie.MeasureT-loop
 μ-loop rates blockings extras q₀ q = portSlots - q

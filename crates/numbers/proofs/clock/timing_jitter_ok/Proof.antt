@@ -1,0 +1,13 @@
+-- `timing_jitter_ok` meets its contract: its ends are those of the range.
+use borrow.Author.Needs.{needs}
+use Rattle.numbers.proofs.clock.timing_jitter_ok.Statement.{statement}
+use Rattle.numbers.proofs.clock.timing_jitter_ok.Tie as tie
+
+between-requires : tie.Need-between-requires
+between-requires c κs = search needs
+
+returns : tie.Need-returns
+returns c = c .between .ensures
+
+pub timing-jitter-ok-spec : {M : Type 1} → statement M
+timing-jitter-ok-spec = tie.close (tie.spec between-requires returns)

@@ -1,0 +1,2 @@
+-- What the structs of numbers stand for.
+pub mod Clock
