@@ -7,9 +7,13 @@ pub mod Emission
 pub mod Cycles
 pub mod Run
 pub mod LargeEnough
+pub mod Lighter
+pub mod NoWorse
 pub mod Worked
 pub mod WorkedJitter
 pub mod WorkedClock
 pub mod WorkedCycles
 pub mod laws
 pub mod Theorem
+pub mod LighterTheorem
+pub mod WorkedLighter

@@ -26,3 +26,4 @@ pub mod Longer
 pub mod Smallest
 pub mod Ranges
 pub mod Search
+pub mod Lighter

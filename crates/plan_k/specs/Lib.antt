@@ -3,4 +3,5 @@ pub mod PlanK
 pub mod Extra
 pub mod Jitter
 pub mod Clock
+pub mod Lighter
 pub mod Order

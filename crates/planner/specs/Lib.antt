@@ -4,8 +4,10 @@ pub mod Calls
 pub mod Answer
 pub mod Meaning
 pub mod Reply
+pub mod NoWorse
 pub mod laws
 pub mod NoPlan
 pub mod Theorem
+pub mod LighterTheorem
 pub mod Failing
 pub mod Search

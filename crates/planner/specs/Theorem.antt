@@ -17,12 +17,12 @@ use Rattle.plan.specs.FieldOrder.{SameFields}
 use Rattle.plan.specs.Reading.{accepted, readPlan}
 use Rattle.plan.specs.laws.Order.{field-order}
 use Rattle.plan.specs.laws.Valid.{accepted-valid}
-use Rattle.loading.specs.Outcome.{Answer, result, numberOf}
+use Rattle.loading.specs.Outcome.{Answer, result}
 use Rattle.planner.specs.Outcome.{failingAt, checkAnswer}
 use Rattle.planner.specs.Meaning.{Refuses, Means, CheckMeans}
 use Rattle.planner.specs.Reply.{SameAnswers, reply}
 use Rattle.planner.specs.Calls.{Call, after, heldBytes}
-use Rattle.planner.specs.laws.Answers.{verdict, check-within}
+use Rattle.planner.specs.laws.Answers.{verdict, check-within, check-accepts}
 use Rattle.planner.specs.laws.Calls.{after-held, after-loaded}
 
 -- the verdict of the plain question means what the theorem says
@@ -74,20 +74,9 @@ pub accepted-longer
     → T ≤ p .top
     → checkAnswer p T ≡ result tt
     → 2 * p .guard < T
-accepted-longer s p ports flows reads T low high answer = longer p valid T low (good (admissible p T) refl)
-  where
-    valid : validPlan p ≡ true
-    valid = accepted-valid s p ports flows reads
-
-    ranged : within 1 (p .top) T ≡ true
-    ranged = rw (le-leb 1 T low, le-leb T (p .top) high)
-
-    good : (b : Bool) → admissible p T ≡ b → admissible p T ≡ true
-    good true e = e
-    good false e =
-        let said : failingAt 21 p T ≡ result tt = rw e at (sym (check-within p T valid ranged) ∙ answer) in
-        let z : _≡_ {A = ℕ} 21 0 = ap numberOf said in
-        absurd (omega arith)
+accepted-longer s p ports flows reads T low high answer =
+    let valid : validPlan p ≡ true = accepted-valid s p ports flows reads in
+    longer p valid T low (check-accepts p T valid answer .1)
 
 -- of the plain question's own answer (document 01: demand 3)
 pub check-means : (tables : Plan) (T : ℕ) → CheckMeans tables T (checkAnswer tables T)

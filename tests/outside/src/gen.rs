@@ -5,6 +5,7 @@ pub mod fit;
 pub mod kinds;
 pub mod laden;
 mod later;
+pub mod lighter;
 pub mod sized;
 
 use crate::rng::Rng;

@@ -7,6 +7,8 @@ pub mod foreign;
 pub mod jitter;
 pub mod known;
 mod later_fields;
+pub mod lighter;
+mod lighter_k;
 pub mod loads;
 pub mod model;
 pub mod order;

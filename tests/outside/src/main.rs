@@ -19,7 +19,7 @@ const SEED: u64 = 20_261_115;
 const CASES: u64 = 1_500;
 
 /// A group's name, its share of the cases in hundredths, and its body.
-const GROUPS: [(&str, u64, fn(&mut Tally)); 10] = [
+const GROUPS: [(&str, u64, fn(&mut Tally)); 11] = [
     ("known", 100, groups::known::run),
     ("model", 20, groups::model::run),
     ("fields", 100, groups::fields::run),
@@ -30,6 +30,7 @@ const GROUPS: [(&str, u64, fn(&mut Tally)); 10] = [
     ("foreign", 200, groups::foreign::run),
     ("order", 40, groups::order::run),
     ("runs", 60, groups::runs::run),
+    ("lighter", 60, groups::lighter::run),
 ];
 
 fn number_from(name: &str, otherwise: u64) -> u64 {

@@ -1,6 +1,7 @@
 //! Document 01 and the landed requests of document 02 once more: plans as maps, the condition, the plain question and the spare.
 
 pub mod field;
+pub mod lighter;
 pub mod read;
 pub mod spans;
 pub mod tables;

@@ -9,7 +9,7 @@ use borrow.Author.Tests.{eqb-true}
 use Rattle.cqf.specs.Limits.{maxTop, maxDrift, maxTimingJitter, maxJitter, minPeriod, million, mostStretch, mostBegun}
 use Rattle.cqf.specs.Plan.{Clock, Plan, periodOf, jitterOf, synchronized}
 use Rattle.cqf.specs.Condition.{begunBy, stretchBy, stretch, begun}
-use Rattle.cqf.specs.laws.Ceil.{ceil-covers, ceil-before, ceil-least, ceil-positive, ceil-mono}
+use Rattle.cqf.specs.laws.Ceil.{ceil-covers, ceil-before, ceil-least, ceil-positive, ceil-mono, ceil-shorter}
 
 module _ (p : Plan) where
   -- the length is at least the duration, and never falls as that grows
@@ -64,3 +64,17 @@ stretch-most k T l d t =
 pub begun-most : (L J : ℕ) {P : ℕ} → L ≤ mostStretch → J ≤ maxJitter → minPeriod ≤ P → begunBy L J P ≤ mostBegun
 begun-most L J {P} l j h =
     ceil-least (L + J) mostBegun (omega arith) (le-trans (add-le-add l j) (mul-le-mul-left mostBegun h))
+
+-- clocks that differ less make the length no longer
+pub stretch-clocks
+    : {j k : Clock} (T : ℕ)
+    → j .drift ≤ k .drift
+    → j .timingJitter ≤ k .timingJitter
+    → j .syncError ≤ k .syncError
+    → stretchBy j T ≤ stretchBy k T
+stretch-clocks {j} {k} T d t s = omega (arith, ceil-mono million (mul-le-mul-left T d))
+
+-- no more periods begin in a shorter length, with less jitter before it, where they are longer
+pub begun-easier : {L M J K P Q : ℕ} → L ≤ M → J ≤ K → 0 < Q → Q ≤ P → begunBy L J P ≤ begunBy M K Q
+begun-easier {L} {M} {J} {K} {P} {Q} l j some h =
+    le-trans (ceil-shorter (L + J) some h) (ceil-mono Q (add-le-add l j))

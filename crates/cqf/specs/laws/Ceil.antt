@@ -1,6 +1,6 @@
 -- Laws of the division rounded up: how many periods cover a duration.
 use Prim.Native.Nat.{ℕ, zero, suc, pred, _+_, _*_, _≤_, _<_}
-use native.Mathlib.Nat.{suc-mul, div-zero, lt-div-mul-add, le-div-iff-mul-le, div-lt-iff-lt-mul, le-trans, le-of-suc-le-suc}
+use native.Mathlib.Nat.{suc-mul, div-zero, lt-div-mul-add, le-div-iff-mul-le, div-lt-iff-lt-mul, mul-le-mul-left, le-trans, le-of-suc-le-suc}
 use native.Mathlib.Omega.{arith}
 use Rattle.cqf.specs.Condition.{ceilDiv}
 
@@ -33,3 +33,8 @@ ceil-mono zero {T} {U} l = omega (arith, div-zero (T + pred zero))
 ceil-mono (suc P) {T} {U} l =
     let h : 0 < suc P = omega arith in
     ceil-least T (ceilDiv U (suc P)) h (le-trans l (ceil-covers U h))
+
+-- nor do shorter periods
+pub ceil-shorter : (T : ℕ) {P Q : ℕ} → 0 < Q → Q ≤ P → ceilDiv T P ≤ ceilDiv T Q
+ceil-shorter T {P} {Q} h l =
+    ceil-least T (ceilDiv T Q) (omega arith) (le-trans (ceil-covers T h) (mul-le-mul-left (ceilDiv T Q) l))

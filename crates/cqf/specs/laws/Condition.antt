@@ -1,24 +1,39 @@
 -- Laws of the condition: demand, workload, and the ports that fail.
 use mathlib.Core.Path.{_≡_, refl}
 use mathlib.Core.Bool.{Bool, true, false, cond, _&&_, false≢true, and-eq-true-iff}
-use Prim.Native.Nat.{ℕ, _*_, _≤_, _<_}
+use Prim.Native.Nat.{ℕ, _*_, _≤_, _<_, zero-le}
 use native.Mathlib.Nat.{mul-pos, le-trans}
 use native.Mathlib.Omega.{arith}
 use lib.Dec.{eqb, ltb}
-use borrow.Author.Tests.{eqb-true, eqb-false, ltb-true, ltb-false, lt-ltb, le-ltb}
+use borrow.Author.Tests.{eqb-true, eqb-false, ne-eqb, ltb-true, ltb-false, lt-ltb, le-ltb}
 use Rattle.cqf.specs.Bounded.{countTo}
 use Rattle.cqf.specs.Limits.{portSlots, flowSlots}
 use Rattle.cqf.specs.Plan.{Plan, crosses, validPlan}
-use Rattle.cqf.specs.Condition.{bitsOf, wireBits, frames, demand, capacity, workload, crossed, fails, failing, admissible}
+use Rattle.cqf.specs.Condition.{bitsOf, blockingBitsOf, workloadOf, wireBits, frames, demand, capacity, workload, crossed, fails, failing, admissible}
 use Rattle.cqf.specs.Run.{overrunAt}
 use Rattle.cqf.specs.laws.Bounded.{cond-some, countTo-zero, countTo-pos, sumTo-term, sumTo-pos, anyTo-true, anyTo-some}
 use Rattle.cqf.specs.laws.Valid.{Held, held-period, crosses-held}
 use Rattle.cqf.specs.laws.Begun.{begun-positive}
 
+-- a number that is not 0 is above it
+above-zero : (n : ℕ) → eqb n 0 ≡ false → 0 < n
+above-zero n h = let e : ¬ (n ≡ 0) = eqb-false n 0 h in omega arith
+
 -- more bits are more work
 pub workload-mono : (p : Plan) (q : ℕ) {a b : ℕ} → a ≤ b → workload p q a ≤ workload p q b
 unfolding workload
 workload-mono p q l = omega arith
+
+-- a blocking frame that is no longer has no more bits, and with no more of its own a port has no more work
+blocking-easier : {a b x y : ℕ} → a ≤ b → x ≤ y → blockingBitsOf a x ≤ blockingBitsOf b y
+blocking-easier {a} {b} {x} {y} l m = go (eqb a 0) refl
+  where
+    go : (z : Bool) → eqb a 0 ≡ z → cond z 0 (bitsOf a x) ≤ blockingBitsOf b y
+    go true e = zero-le
+    go false e = let some = above-zero a e in rw (ne-eqb b 0 (λ z. omega arith)) (omega arith)
+
+pub workload-easier : {a b x y m n : ℕ} → a ≤ b → x ≤ y → m ≤ n → workloadOf a x m ≤ workloadOf b y n
+workload-easier l h k = omega (arith, k, blocking-easier l h)
 
 -- a frame has bits on the wire, a flow has frames, and so a crossed port has a demand
 pub wireBits-pos : (p : Plan) (f q : ℕ) → 0 < wireBits p f q
@@ -50,10 +65,6 @@ demand-crossed p q T l =
 pub none-fails : (p : Plan) (T : ℕ) → admissible p T ≡ true → (q : ℕ) → q < portSlots → fails p T q ≡ false
 unfolding admissible failing
 none-fails p T good = countTo-zero portSlots (fails p T) (eqb-true _ _ good)
-
--- a number that is not 0 is above it
-above-zero : (n : ℕ) → eqb n 0 ≡ false → 0 < n
-above-zero n h = let e : ¬ (n ≡ 0) = eqb-false n 0 h in omega arith
 
 -- some port fails at a duration that is not admissible
 pub some-fails : (p : Plan) (T : ℕ) → admissible p T ≡ false → (q : ℕ) × (q < portSlots) × (fails p T q ≡ true)

@@ -70,6 +70,13 @@ pub fails-not : (p : Plan) (T q : ℕ) → (crossed p q ≡ true → workload p 
 fails-not p T q fits =
     eq-false-of-not-eq-true (λ e. omega (arith, fits (fails-crossed p T q e), over-of-fails p T q e))
 
+pub fits : (p : Plan) (T q : ℕ) → crossed p q ≡ true → fails p T q ≡ false → workload p q (demand p q T) ≤ capacity p q T
+fits p T q c e = go (decLt (capacity p q T) (workload p q (demand p q T)))
+  where
+    go : Dec (capacity p q T < workload p q (demand p q T)) → workload p q (demand p q T) ≤ capacity p q T
+    go (yes over) = absurd (false≢true (sym e ∙ fails-over p T q c over))
+    go (no l) = omega arith
+
 -- a duration is admissible exactly where no port fails
 pub admissible-none : (p : Plan) (T : ℕ) → ((q : ℕ) → q < portSlots → fails p T q ≡ false) → admissible p T ≡ true
 unfolding admissible failing

@@ -77,6 +77,10 @@ held p f h =
       once = t .1;
     }
 
+-- a flow that is present has a period
+pub present-period : (p : Plan) (f : ℕ) → present p f ≡ true → 0 < periodOf p f
+present-period p f h = let t = simp and-eq-true-iff at h in ltb-true _ _ (t .1)
+
 module _ (p : Plan) (valid : validPlan p ≡ true) where
   -- each flow's slot is valid
   pub flows-valid : (f : ℕ) → f < flowSlots → validFlow p f ≡ true
@@ -98,9 +102,7 @@ module _ (p : Plan) (valid : validPlan p ≡ true) where
     where
       go : Empty p f ⊎ Held p f → Held p f
       go (inl e) =
-          let t = simp and-eq-true-iff at h in
-          let l : 0 < periodOf p f = ltb-true _ _ (t .1) in
-          absurd (omega (arith, e .period))
+          absurd (omega (arith, e .period, present-period p f h))
       go (inr e) = e
 
   -- a flow that crosses a port is present

@@ -1,15 +1,16 @@
 -- The answers of the two questions, case by case.
-use mathlib.Core.Path.{_≡_, refl, sym, _∙_}
-use mathlib.Core.Bool.{true, false, cond, _&&_, and-false}
+use mathlib.Core.Path.{_≡_, refl, sym, ap, _∙_}
+use mathlib.Core.Bool.{Bool, true, false, cond, _&&_, and-false}
 use mathlib.Core.List.{[], _∷_}
 use Prim.Native.Nat.{ℕ, _-_}
+use native.Mathlib.Omega.{arith}
 use lib.IntN.{ℤ}
 use borrow.Author.Tests.{eq-eqb, ne-eqb}
 use Rattle.cqf.specs.Bounded.{within}
 use Rattle.cqf.specs.Limits.{portOk}
 use Rattle.cqf.specs.Plan.{Plan, validPlan}
 use Rattle.cqf.specs.Condition.{slack, crossed, admissible, failing, lowestFailing}
-use Rattle.loading.specs.Outcome.{Answer, result, refusal}
+use Rattle.loading.specs.Outcome.{Answer, result, refusal, numberOf}
 use Rattle.planner.specs.Outcome.{asked, failingAt, checkAnswer, slackAnswer}
 
 -- 20, then 10, then what the question says
@@ -42,6 +43,26 @@ module _ (p : Plan) (T : ℕ) where
   pub check-within : validPlan p ≡ true → within 1 (p .top) T ≡ true → checkAnswer p T ≡ verdict
   check-within e ranged = check-is ∙ asked-within p T verdict e ranged
 
+  -- it accepts exactly the admissible durations from 1 to top
+  pub check-admissible : validPlan p ≡ true → within 1 (p .top) T ≡ true → admissible p T ≡ true → checkAnswer p T ≡ result tt
+  check-admissible e ranged good = check-within e ranged ∙ rw good
+
+  pub check-accepts : validPlan p ≡ true → checkAnswer p T ≡ result tt → (within 1 (p .top) T ≡ true) × (admissible p T ≡ true)
+  check-accepts e said = ranged (within 1 (p .top) T) refl
+    where
+      good : (b : Bool) → admissible p T ≡ b → within 1 (p .top) T ≡ true → admissible p T ≡ true
+      good true a r = a
+      good false a r =
+          let none : failingAt 21 p T ≡ result tt = rw a at (sym (check-within e r) ∙ said) in
+          let z : _≡_ {A = ℕ} 21 0 = ap numberOf none in
+          absurd (omega arith)
+
+      ranged : (b : Bool) → within 1 (p .top) T ≡ b → (within 1 (p .top) T ≡ true) × (admissible p T ≡ true)
+      ranged true r = (r, good (admissible p T) refl r)
+      ranged false r =
+          let z : _≡_ {A = ℕ} 10 0 = ap numberOf (sym (check-out e r) ∙ said) in
+          absurd (omega arith)
+
   -- by how many ports fail
   module _ {count : ℕ} (valid : validPlan p ≡ true) (ranged : within 1 (p .top) T ≡ true) (many : count ≡ failing p T) where
     none-admissible : count ≡ 0 → admissible p T ≡ true
@@ -53,7 +74,7 @@ module _ (p : Plan) (T : ℕ) where
     some-refused ne = ne-eqb _ _ (λ e. ne (many ∙ e))
 
     pub check-good : count ≡ 0 → checkAnswer p T ≡ result tt
-    check-good e = check-within valid ranged ∙ rw (none-admissible e)
+    check-good e = check-admissible valid ranged (none-admissible e)
 
     pub check-bad
         : {port : ℕ}

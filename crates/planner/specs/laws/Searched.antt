@@ -1,15 +1,17 @@
 -- The outcome of a search, case by case.
-use mathlib.Core.Path.{_≡_}
-use mathlib.Core.Bool.{true, false}
+use mathlib.Core.Path.{_≡_, refl, ap, _∙_}
+use mathlib.Core.Bool.{Bool, true, false, cond}
 use mathlib.Core.List.{List, [], _∷_, _++_}
 use Prim.Native.Nat.{ℕ, _≤_, _<_}
+use native.Mathlib.Omega.{arith}
+use lib.Dec.{leb}
 use lib.ListN.{length, drop}
-use borrow.Author.Tests.{le-leb, lt-leb}
+use borrow.Author.Tests.{le-leb, lt-leb, leb-true}
 use Rattle.cqf.specs.Limits.{portSlots}
 use Rattle.cqf.specs.Plan.{Plan, validPlan}
 use Rattle.cqf.specs.Condition.{least, marginSafe}
 use Rattle.loading.specs.Outcome.{Answer, result, refusal}
-use Rattle.planner.specs.Outcome.{leastAnswer, leastLeaves, marginSafeAnswer, marginSafeLeaves}
+use Rattle.planner.specs.Outcome.{failingAt, searched, leastAnswer, leastLeaves, marginSafeAnswer, marginSafeLeaves}
 use Rattle.planner.specs.Failing.{FailingAt}
 use Rattle.planner.specs.Search.{Found, Answers, Ends}
 
@@ -46,6 +48,44 @@ module _ (number : ℕ) (sought : Plan → ℕ) (p : Plan) where
           → Answers number sought p answer out
           → Ends number sought p scratch answer (out ++ drop portSlots scratch)
       ends-found l h = (rw (valid, le-leb _ _ l) (h .0), rw (valid, le-leb _ _ l, h .1))
+
+-- the answer of a search that gives a duration: it is the one sought, up to top; and it is given where it is up to top
+module _ (number : ℕ) (p : Plan) (found : ℕ) (scratch : List ℕ) where
+  pub searched-found : (T : ℕ) → searched number p found scratch ≡ result T → (found ≡ T) × (found ≤ p .top)
+  searched-found T = go (validPlan p) (leb portSlots (length scratch)) (leb found (p .top)) refl
+    where
+      go
+          : (x y z : Bool)
+          → leb found (p .top) ≡ z
+          → cond x (cond y (cond z (result found) (failingAt number p (p .top))) (refusal 11 (0 ∷ []))) (refusal 20 (0 ∷ [])) ≡ result T
+          → (found ≡ T) × (found ≤ p .top)
+      go true true true l e = (cc, leb-true _ _ l)
+      go true true false l e = let z : _≡_ {A = ℕ} 0 1 = cc in absurd (omega arith)
+      go true false z l e = let z : _≡_ {A = ℕ} 0 1 = cc in absurd (omega arith)
+      go false y z l e = let z : _≡_ {A = ℕ} 0 1 = cc in absurd (omega arith)
+
+  pub searched-gives : validPlan p ≡ true → portSlots ≤ length scratch → found ≤ p .top → searched number p found scratch ≡ result found
+  searched-gives valid long most = rw (valid, le-leb _ _ long, le-leb _ _ most)
+
+pub least-gives
+    : (p : Plan) (scratch : List ℕ) {T : ℕ}
+    → validPlan p ≡ true
+    → portSlots ≤ length scratch
+    → least p ≡ T
+    → T ≤ p .top
+    → leastAnswer p scratch ≡ result T
+unfolding leastAnswer
+least-gives p scratch {T} valid long is most = ap (λ (n : ℕ). searched 22 p n scratch) is ∙ searched-gives 22 p T scratch valid long most
+
+pub margin-safe-gives
+    : (p : Plan) (scratch : List ℕ) {T : ℕ}
+    → validPlan p ≡ true
+    → portSlots ≤ length scratch
+    → marginSafe p ≡ T
+    → T ≤ p .top
+    → marginSafeAnswer p scratch ≡ result T
+unfolding marginSafeAnswer
+margin-safe-gives p scratch {T} valid long is most = ap (λ (n : ℕ). searched 23 p n scratch) is ∙ searched-gives 23 p T scratch valid long most
 
 pub least-ends
     : (p : Plan) (scratch : List ℕ) {answer : Answer ℕ} {exit : List ℕ}
