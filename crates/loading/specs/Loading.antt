@@ -6,8 +6,8 @@ use mathlib.Core.List.{List}
 use Rattle.cqf.specs.Plan.{Plan}
 use Rattle.numbers.specs.Clock.{clockOf}
 use Rattle.plan.specs.Answer.{faultNumber}
-use Rattle.plan.specs.Draft.{Draft}
-use Rattle.plan.specs.Reading.{PlanRead, accepted, rejected, Step, stop, more, namesAbsent, jitterAbsent, extraAbsent, closing}
+use Rattle.plan_reading.specs.Draft.{Draft}
+use Rattle.plan_reading.specs.Reading.{PlanRead, accepted, rejected, Step, stop, more, namesAbsent, jitterAbsent, extraAbsent, closing}
 use Rattle.loading.specs.declared.LoadAnswer.{LoadAnswer}
 use Rattle.loading.specs.declared.first.Sought.{Sought}
 use Rattle.loading.specs.declared.store.Totals.{Totals}

@@ -2,7 +2,7 @@
 use Prim.Native.Nat.{ℕ}
 use mathlib.Core.List.{List, [], _∷_}
 use Rattle.cqf.specs.Plan.{Plan}
-use Rattle.plan.specs.Reading.{PlanRead, accepted, rejected, readPlan}
+use Rattle.plan_reading.specs.Reading.{PlanRead, accepted, rejected, readPlan}
 
 -- a result, or a refusal's number in document 01 and what it carries
 pub data Answer (A : Type 0) : Type 0 where

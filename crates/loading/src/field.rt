@@ -14,8 +14,8 @@ use plan::split::field_value;
 ghost use Prim.Native.Nat.{_≤_};
 ghost use mathlib.Core.Path.{_≡_};
 ghost use Rattle.plan.specs.Field.{field, fieldAt, routePorts};
-ghost use Rattle.plan.specs.Draft.{fieldRepeats};
-ghost use Rattle.plan.specs.Reading.{loose, stepAt, maxBytes};
+ghost use Rattle.plan_reading.specs.Draft.{fieldRepeats};
+ghost use Rattle.plan_reading.specs.Reading.{loose, stepAt, maxBytes};
 ghost use Rattle.plan.specs.Answer.{fieldOf};
 ghost use Rattle.loading.specs.Loading.{draftOf, progressOf};
 

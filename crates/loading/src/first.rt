@@ -19,7 +19,7 @@ ghost use Rattle.cqf.specs.Bounded.{every};
 ghost use Rattle.cqf.specs.Plan.{portIn};
 ghost use Rattle.plan.specs.Bytes.{tagAt, wholeAt};
 ghost use Rattle.plan.specs.Field.{routePorts};
-ghost use Rattle.plan.specs.Reading.{hasFlow, namesAbsent, jitterAbsent, extraAbsent, firstField, firstAbsent};
+ghost use Rattle.plan_reading.specs.Reading.{hasFlow, namesAbsent, jitterAbsent, extraAbsent, firstField, firstAbsent};
 ghost use Rattle.loading.specs.Loading.{soughtIn};
 
 // What is sought: a flow whose route names a port that is not in the plan, the jitter of a flow that is not in it, or extra bytes

@@ -14,7 +14,7 @@ use plan::Fault;
 use tables::Planner;
 ghost use mathlib.Core.Path.{_≡_};
 ghost use Rattle.cqf.specs.Bounded.{within};
-ghost use Rattle.plan.specs.Reading.{maxBytes};
+ghost use Rattle.plan_reading.specs.Reading.{maxBytes};
 ghost use Rattle.tables.specs.Tables.{planOf};
 ghost use Rattle.loading.specs.Answer.{Loads};
 ghost use Rattle.loading.specs.Loading.{Closes};

@@ -16,10 +16,10 @@ ghost use lib.ListN.{set};
 ghost use lib.Seq.{sets};
 ghost use Rattle.cqf.specs.Limits.{routeStride};
 ghost use Rattle.plan.specs.Field.{routePorts};
-ghost use Rattle.plan.specs.Key.{keyOf};
-ghost use Rattle.plan.specs.Draft.{added};
-ghost use Rattle.plan.specs.Reading.{maxBytes};
-ghost use Rattle.plan.specs.Ranges.{PortOk, FlowOk, ExtraOk, JitterOk, NumbersOk, RouteOk, RouteFits};
+ghost use Rattle.plan_reading.specs.Key.{keyOf};
+ghost use Rattle.plan_reading.specs.Draft.{added};
+ghost use Rattle.plan_reading.specs.Reading.{maxBytes};
+ghost use Rattle.plan_reading.specs.Ranges.{PortOk, FlowOk, ExtraOk, JitterOk, NumbersOk, RouteOk, RouteFits};
 ghost use Rattle.plan.specs.Answer.{fieldOf};
 ghost use Rattle.loading.specs.Loading.{draftOf};
 

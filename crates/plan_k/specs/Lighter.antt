@@ -15,9 +15,9 @@ use Rattle.cqf.specs.Worked.{planK}
 use Rattle.cqf.specs.WorkedLighter.{planHeavy, planLight, valid-heavy, valid-light, lighter-K, least-heavy, least-light, margin-safe-heavy, margin-safe-light}
 use Rattle.plan.specs.Bytes.{number2, number4, sizeAt, wholeAt, valueAt, numbers2}
 use Rattle.plan.specs.Field.{routePorts, routeIn, headerIn, portInValue, flowIn, extraIn, jitterIn, clockIn, fieldIn, fieldAt, repeats}
-use Rattle.plan.specs.Store.{store}
-use Rattle.plan.specs.Draft.{blank, added}
-use Rattle.plan.specs.Reading.{stepAt, namesAbsent, jitterAbsent, extraAbsent, firstFrom, firstAbsent, closing, readFrom, readAs, readPlan, accepted}
+use Rattle.plan_reading.specs.Store.{store}
+use Rattle.plan_reading.specs.Draft.{blank, added}
+use Rattle.plan_reading.specs.Reading.{stepAt, namesAbsent, jitterAbsent, extraAbsent, firstFrom, firstAbsent, closing, readFrom, readAs, readPlan, accepted}
 use Rattle.loading.specs.Outcome.{result}
 use Rattle.planner.specs.Outcome.{leastAnswer, marginSafeAnswer}
 use Rattle.planner.specs.Calls.{load, after, heldFrom, heldBytes}

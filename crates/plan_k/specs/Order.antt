@@ -9,10 +9,10 @@ use Rattle.cqf.specs.Bounded.{elem, distinct, every}
 use Rattle.cqf.specs.Plan.{noPlan}
 use Rattle.plan.specs.Bytes.{number2, number4, sizeAt, wholeAt, valueAt, numbers2}
 use Rattle.plan.specs.Field.{routePorts, routeIn, headerIn, portInValue, flowIn, extraIn, jitterIn, clockIn, fieldIn, fieldAt, repeats}
-use Rattle.plan.specs.Store.{store}
-use Rattle.plan.specs.Draft.{blank, added}
-use Rattle.plan.specs.Reading.{stepAt, namesAbsent, jitterAbsent, extraAbsent, firstFrom, firstAbsent, closing, readFrom, readAs, readPlan}
-use Rattle.plan.specs.FieldOrder.{IsField, AllFields, none, more, SameFields}
+use Rattle.plan_reading.specs.Store.{store}
+use Rattle.plan_reading.specs.Draft.{blank, added}
+use Rattle.plan_reading.specs.Reading.{stepAt, namesAbsent, jitterAbsent, extraAbsent, firstFrom, firstAbsent, closing, readFrom, readAs, readPlan}
+use Rattle.plan_reading.specs.FieldOrder.{IsField, AllFields, none, more, SameFields}
 use Rattle.planner.specs.Calls.{load, after, heldFrom, heldBytes}
 use Rattle.planner.specs.Reply.{SameAnswers}
 use Rattle.planner.specs.Theorem.{order-free}

@@ -3,7 +3,7 @@ use Prim.Native.Nat.{ℕ}
 use mathlib.Core.List.{List, [], _∷_}
 use mathlib.Core.Option.{Option, none, some}
 use Rattle.cqf.specs.Plan.{Plan, noPlan}
-use Rattle.plan.specs.Reading.{PlanRead, accepted, rejected, readPlan}
+use Rattle.plan_reading.specs.Reading.{PlanRead, accepted, rejected, readPlan}
 use Rattle.loading.specs.Outcome.{loadLeaves}
 
 -- a question, with what it is given; the two searches are lent a scratch

@@ -12,8 +12,8 @@ use Rattle.cqf.specs.Plan.{Plan, validPlan}
 use Rattle.cqf.specs.Condition.{least, marginSafe}
 use Rattle.cqf.specs.Lighter.{Lighter}
 use Rattle.cqf.specs.LighterTheorem.{no-worse}
-use Rattle.plan.specs.Reading.{accepted, readPlan}
-use Rattle.plan.specs.laws.Valid.{accepted-valid}
+use Rattle.plan_reading.specs.Reading.{accepted, readPlan}
+use Rattle.plan_reading.specs.laws.Valid.{accepted-valid}
 use Rattle.planner.specs.Outcome.{searched, leastAnswer, marginSafeAnswer}
 use Rattle.planner.specs.Calls.{Call, after, heldBytes}
 use Rattle.planner.specs.NoWorse.{SearchNoWorse, AnswersNoWorse}

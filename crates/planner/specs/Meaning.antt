@@ -6,7 +6,7 @@ use mathlib.Core.Option.{some}
 use Prim.Native.Nat.{ℕ, _≤_}
 use Rattle.cqf.specs.Plan.{Plan}
 use Rattle.cqf.specs.LargeEnough.{Counterexample, AllOnTime}
-use Rattle.plan.specs.Reading.{accepted, readPlan}
+use Rattle.plan_reading.specs.Reading.{accepted, readPlan}
 use Rattle.loading.specs.Outcome.{Answer, result, refusal}
 use Rattle.planner.specs.Calls.{Call, after, heldBytes}
 

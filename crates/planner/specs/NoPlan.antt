@@ -13,7 +13,7 @@ use Rattle.cqf.specs.Bounded.{within}
 use Rattle.cqf.specs.Plan.{Plan, validPlan}
 use Rattle.cqf.specs.Condition.{admissible, least, marginSafe}
 use Rattle.cqf.specs.laws.Ranges.{top-positive}
-use Rattle.plan.specs.laws.Valid.{accepted-valid}
+use Rattle.plan_reading.specs.laws.Valid.{accepted-valid}
 use Rattle.loading.specs.Outcome.{Answer, result, numberOf}
 use Rattle.planner.specs.Outcome.{failingAt, checkAnswer}
 use Rattle.planner.specs.Calls as Calls

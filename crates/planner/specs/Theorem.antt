@@ -13,10 +13,10 @@ use Rattle.cqf.specs.Condition.{admissible, failing, lowestFailing}
 use Rattle.cqf.specs.LargeEnough.{LargeEnough}
 use Rattle.cqf.specs.Theorem.{large-enough}
 use Rattle.cqf.specs.laws.Longer.{longer}
-use Rattle.plan.specs.FieldOrder.{SameFields}
-use Rattle.plan.specs.Reading.{accepted, readPlan}
-use Rattle.plan.specs.laws.Order.{field-order}
-use Rattle.plan.specs.laws.Valid.{accepted-valid}
+use Rattle.plan_reading.specs.FieldOrder.{SameFields}
+use Rattle.plan_reading.specs.Reading.{accepted, readPlan}
+use Rattle.plan_reading.specs.laws.Order.{field-order}
+use Rattle.plan_reading.specs.laws.Valid.{accepted-valid}
 use Rattle.loading.specs.Outcome.{Answer, result}
 use Rattle.planner.specs.Outcome.{failingAt, checkAnswer}
 use Rattle.planner.specs.Meaning.{Refuses, Means, CheckMeans}

@@ -3,7 +3,7 @@ use Prim.Native.Nat.{ℕ}
 use mathlib.Core.Path.{_≡_, ap}
 use mathlib.Core.List.{List, [], _∷_}
 use Rattle.cqf.specs.Plan.{Plan}
-use Rattle.plan.specs.Reading.{accepted, rejected, readPlan}
+use Rattle.plan_reading.specs.Reading.{accepted, rejected, readPlan}
 use Rattle.loading.specs.Outcome.{result, refusal, readingAnswer, readingLeaves, loadAnswer, loadLeaves}
 
 module _ (held : Plan) (s : List ℕ) where

@@ -6,7 +6,7 @@ use mathlib.Core.Option.{Option, none, some}
 use Prim.Native.Nat.{ℕ}
 use native.Mathlib.Omega.{arith}
 use Rattle.cqf.specs.Plan.{Plan, noPlan, validPlan}
-use Rattle.plan.specs.Reading.{PlanRead, accepted, rejected, readPlan}
+use Rattle.plan_reading.specs.Reading.{PlanRead, accepted, rejected, readPlan}
 use Rattle.loading.specs.Outcome.{loadLeaves, readingLeaves}
 use Rattle.planner.specs.Calls.{Call, load, ask, leaves, afterFrom, after, accepting, keeping, heldFrom, heldBytes}
 

@@ -1,10 +1,10 @@
 -- `step` meets its contract.
 use mathlib.Core.Path.{sym, ap, _∙_}
 use denote.Ref.{now}
-use Rattle.plan.specs.Draft.{Draft}
-use Rattle.plan.specs.Reading.{loose}
+use Rattle.plan_reading.specs.Draft.{Draft}
+use Rattle.plan_reading.specs.Reading.{loose}
 use Rattle.plan.specs.Answer.{fieldReadOf}
-use Rattle.plan.specs.laws.Steps.{step-refused}
+use Rattle.plan_reading.specs.laws.Steps.{step-refused}
 use Rattle.loading.specs.Loading.{draftOf}
 use borrow.Author.Needs.{needs}
 use Rattle.loading.proofs.field.step.Statement.{statement}

@@ -5,14 +5,14 @@ use native.Mathlib.Omega.{arith}
 use borrow.Author.Tests.{lt-ltb, le-ltb}
 use denote.Ref.{now}
 use Rattle.plan.specs.Field.{routePorts, routeIn}
-use Rattle.plan.specs.Draft.{Draft, taken, fieldRepeats}
-use Rattle.plan.specs.Reading.{loose, routeAt}
+use Rattle.plan_reading.specs.Draft.{Draft, taken, fieldRepeats}
+use Rattle.plan_reading.specs.Reading.{loose, routeAt}
 use Rattle.plan.specs.Answer.{fieldOf}
 use Rattle.plan.specs.laws.Whole.{part-whole}
-use Rattle.plan.specs.laws.Passes.{field-is-whole}
-use Rattle.plan.specs.laws.Found.{found-numbers, found-route}
-use Rattle.plan.specs.laws.Kinds.{key-below}
-use Rattle.plan.specs.laws.Steps.{step-taken, step-repeats, step-added}
+use Rattle.plan_reading.specs.laws.Passes.{field-is-whole}
+use Rattle.plan_reading.specs.laws.Found.{found-numbers, found-route}
+use Rattle.plan_reading.specs.laws.Kinds.{key-below}
+use Rattle.plan_reading.specs.laws.Steps.{step-taken, step-repeats, step-added}
 use Rattle.loading.specs.Loading.{draftOf}
 use borrow.Author.Needs.{needs}
 use Rattle.loading.proofs.field.take_field.Statement.{statement}

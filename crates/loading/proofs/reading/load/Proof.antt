@@ -10,11 +10,11 @@ use lib.ListN.{length}
 use denote.Ref.{now}
 use Rattle.cqf.specs.Bounded.{within}
 use Rattle.cqf.specs.Plan.{noPlan}
-use Rattle.plan.specs.Draft.{Draft, blank}
-use Rattle.plan.specs.Reading.{loose, Step, more, stepAt, readFrom, readPlan, maxBytes}
-use Rattle.plan.specs.laws.PlanLength.{read-sized, read-unsized}
-use Rattle.plan.specs.laws.Within.{within-high}
-use Rattle.plan.specs.laws.Steps.{Onward, onward, read-end, read-stop, read-more}
+use Rattle.plan_reading.specs.Draft.{Draft, blank}
+use Rattle.plan_reading.specs.Reading.{loose, Step, more, stepAt, readFrom, readPlan, maxBytes}
+use Rattle.plan_reading.specs.laws.PlanLength.{read-sized, read-unsized}
+use Rattle.plan_reading.specs.laws.Within.{within-high}
+use Rattle.plan_reading.specs.laws.Steps.{Onward, onward, read-end, read-stop, read-more}
 use Rattle.tables.specs.Tables.{planOf}
 use Rattle.loading.specs.laws.Load.{refused-leaves, refused-answer, accepted-leaves, accepted-answer}
 use Rattle.loading.specs.Loading.{draftOf, progressOf, answerOf}

@@ -11,11 +11,11 @@ use Rattle.cqf.specs.Limits.{routeStride}
 use Rattle.plan.specs.declared.Field.{Field}
 use Rattle.plan.specs.declared.Flow.{Flow}
 use Rattle.plan.specs.Field.{routePorts}
-use Rattle.plan.specs.Key.{keyOf}
-use Rattle.plan.specs.Store.{store}
-use Rattle.plan.specs.Draft.{Draft, added}
+use Rattle.plan_reading.specs.Key.{keyOf}
+use Rattle.plan_reading.specs.Store.{store}
+use Rattle.plan_reading.specs.Draft.{Draft, added}
 use Rattle.plan.specs.Answer.{fieldOf}
-use Rattle.plan.specs.laws.Kinds.{key-below}
+use Rattle.plan_reading.specs.laws.Kinds.{key-below}
 use Rattle.loading.specs.Loading.{draftOf}
 use borrow.Author.Needs.{needs}
 use Rattle.loading.proofs.store.store_field.Statement.{statement}

@@ -7,7 +7,7 @@ use borrow.Author.Tests.{not-true, not-false}
 use Rattle.cqf.specs.Bounded.{within}
 use Rattle.cqf.specs.Plan.{Plan, validPlan}
 use Rattle.cqf.specs.Condition.{failing}
-use Rattle.plan.specs.laws.Within.{within-low, within-high}
+use Rattle.plan_reading.specs.laws.Within.{within-low, within-high}
 use Rattle.tables.specs.Tables.{planOf}
 use Rattle.loading.specs.Outcome.{Answer}
 use Rattle.planner.specs.Outcome.{checkAnswer}

@@ -6,10 +6,10 @@ use lib.Dec.{ltb}
 use lib.ListN.{getD, set, replicate}
 use Rattle.cqf.specs.Bounded.{distinct}
 use Rattle.cqf.specs.Plan.{Plan, noPlan}
 use Rattle.plan.specs.Field.{Field}
-use Rattle.plan.specs.Kind.{ofPort, ofFlow}
-use Rattle.plan.specs.Key.{keySlots, keyOf}
-use Rattle.plan.specs.Store.{store}
+use Rattle.plan_reading.specs.Kind.{ofPort, ofFlow}
+use Rattle.plan_reading.specs.Key.{keySlots, keyOf}
+use Rattle.plan_reading.specs.Store.{store}
 
 -- the tables so far, a flag for each key that has been seen, and how many port and flow fields there were. A field may say
 -- what its absence says, so the tables do not show what has been seen.

@@ -9,11 +9,11 @@ use lib.ListN.{length}
 use borrow.Author.Tests.{ltb-true, ltb-false}
 use Rattle.cqf.specs.Bounded.{within}
 use Rattle.cqf.specs.Plan.{Plan}
 use Rattle.plan.specs.Field.{Field, field, fieldAt}
-use Rattle.plan.specs.Key.{headerKey}
-use Rattle.plan.specs.Draft.{Draft, blank, hasKey, taken, fieldRepeats, added}
-use Rattle.plan.specs.Reading.{PlanRead, accepted, rejected, Mode, loose, Step, stop, more, routeAt, stepAt, firstAbsent, closing, readFrom, readAs, readPlan, maxBytes}
-use Rattle.plan.specs.laws.Steps.{step-more, onward, read-end, read-stop, read-more}
+use Rattle.plan_reading.specs.Key.{headerKey}
+use Rattle.plan_reading.specs.Draft.{Draft, blank, hasKey, taken, fieldRepeats, added}
+use Rattle.plan_reading.specs.Reading.{PlanRead, accepted, rejected, Mode, loose, Step, stop, more, routeAt, stepAt, firstAbsent, closing, readFrom, readAs, readPlan, maxBytes}
+use Rattle.plan_reading.specs.laws.Steps.{step-more, onward, read-end, read-stop, read-more}
 
 -- from offset at and draft d the fields of s are read to their end, which leaves draft e
 pub data Reads (s : List ℕ) : ℕ → Draft → Draft → Type 0 where

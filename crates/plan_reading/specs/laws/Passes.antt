@@ -10,10 +10,10 @@ use borrow.Author.Tests.{eqb-true}
 use Rattle.cqf.specs.Bounded.{every}
 use Rattle.cqf.specs.Limits.{guardOk, topOk, portOk, rateOk, lengthOk, blockingOk, extraOk, flowOk, periodOk, countOk, jitterOk, hopsOk}
 use Rattle.cqf.specs.Plan.{clockOk}
 use Rattle.plan.specs.Bytes.{number2, number4, headSize, tagAt, sizeAt, wholeAt, valueAt}
 use Rattle.plan.specs.Field.{Field, header, port, flow, extra, jitter, clock, FieldRead, field, refused, unless, headerTag, portTag, flowTag, extraTag, jitterTag, clockTag, headerSize, portSize, flowSize, extraSize, jitterSize, clockSize, hopsIn, routeIn, headerIn, portInValue, flowIn, extraIn, jitterIn, clockNumbers, clockIn, fieldIn, fieldAt}
-use Rattle.plan.specs.Ranges.{NumbersOk, RouteFits}
+use Rattle.plan_reading.specs.Ranges.{NumbersOk, RouteFits}
 use Rattle.plan.specs.laws.Route.{value-hops}
 
 -- the tag of a field, and the field whose numbers stand in a value of this tag
 abbrev pub tagOf : Field → ℕ

@@ -6,18 +6,18 @@ use lib.ListN.{getD, set, getD-replicate}
 use lib.Seq.{set-getD}
 use Rattle.cqf.specs.Limits.{portSlots, flowSlots}
 use Rattle.cqf.specs.Plan.{Clock, Plan, noPlan, equalClocks}
 use Rattle.plan.specs.Bytes.{tagAt, valueAt}
 use Rattle.plan.specs.Field.{Field, header, port, flow, extra, jitter, clock, routeIn}
-use Rattle.plan.specs.Store.{store}
-use Rattle.plan.specs.Draft.{Draft, blank, added, portsIn, flowsIn}
-use Rattle.plan.specs.Ranges.{ExtraOk, JitterOk, NumbersOk}
-use Rattle.plan.specs.Reading.{accepted, readPlan}
-use Rattle.plan.specs.FieldOrder.{AllFields, more, SaysNothing, ZeroMore}
-use Rattle.plan.specs.laws.Within.{slot-below}
-use Rattle.plan.specs.laws.Passes.{Passes, field-passes, passes-once}
-use Rattle.plan.specs.laws.Walk.{accepted-reads, closing-accepted}
-use Rattle.plan.specs.laws.Stored.{Stored, nothing, next, stored-permuted}
-use Rattle.plan.specs.laws.Order.{all-permuted, accepted-stored, flagged-blank}
+use Rattle.plan_reading.specs.Store.{store}
+use Rattle.plan_reading.specs.Draft.{Draft, blank, added, portsIn, flowsIn}
+use Rattle.plan_reading.specs.Ranges.{ExtraOk, JitterOk, NumbersOk}
+use Rattle.plan_reading.specs.Reading.{accepted, readPlan}
+use Rattle.plan_reading.specs.FieldOrder.{AllFields, more, SaysNothing, ZeroMore}
+use Rattle.plan_reading.specs.laws.Within.{slot-below}
+use Rattle.plan_reading.specs.laws.Passes.{Passes, field-passes, passes-once}
+use Rattle.plan_reading.specs.laws.Walk.{accepted-reads, closing-accepted}
+use Rattle.plan_reading.specs.laws.Stored.{Stored, nothing, next, stored-permuted}
+use Rattle.plan_reading.specs.laws.Order.{all-permuted, accepted-stored, flagged-blank}
 
 -- a column with 0 in the slot stays as it is
 kept : (l : List ℕ) (i v : ℕ) → getD l i 0 ≡ 0 → v ≡ 0 → set l i v ≡ l

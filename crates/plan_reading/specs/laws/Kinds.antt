@@ -7,11 +7,11 @@ use mathlib.Core.Bool.{true}
 use native.Mathlib.Omega.{arith}
 use Rattle.cqf.specs.Limits.{portSlots, flowSlots}
 use Rattle.cqf.specs.Plan.{Clock, clockOk}
 use Rattle.plan.specs.Field.{Field, header, port, flow, extra, jitter, clock}
-use Rattle.plan.specs.Kind.{ofHeader, ofPort, ofFlow, ofExtra, ofJitter, ofClock}
-use Rattle.plan.specs.Key.{headerKey, clockKey, keySlots, keyOf}
-use Rattle.plan.specs.Ranges.{HeaderOk, PortOk, FlowOk, ExtraOk, JitterOk, RouteOk, NumbersOk, RouteFits}
-use Rattle.plan.specs.laws.Within.{within-high}
+use Rattle.plan_reading.specs.Kind.{ofHeader, ofPort, ofFlow, ofExtra, ofJitter, ofClock}
+use Rattle.plan_reading.specs.Key.{headerKey, clockKey, keySlots, keyOf}
+use Rattle.plan_reading.specs.Ranges.{HeaderOk, PortOk, FlowOk, ExtraOk, JitterOk, RouteOk, NumbersOk, RouteFits}
+use Rattle.plan_reading.specs.laws.Within.{within-high}
 
 module _ {A : Type 0} (P : ℕ → A → Type 0) (other : A) (rest : (key : ℕ) → P key other) where
   pub of-header

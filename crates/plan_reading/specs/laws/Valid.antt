@@ -10,17 +10,17 @@ use Rattle.cqf.specs.Bounded.{anyTo}
 use Rattle.cqf.specs.Limits.{portSlots, flowSlots}
 use Rattle.cqf.specs.Plan.{Plan, present, validPort, validFlow, validPlan}
 use Rattle.cqf.specs.laws.Bounded.{allTo-every, anyTo-some}
 use Rattle.plan.specs.Bytes.{tagAt, valueAt}
 use Rattle.plan.specs.Field.{Field, header, port, flow, extra, jitter, clock}
-use Rattle.plan.specs.Key.{headerKey}
-use Rattle.plan.specs.Draft.{Draft, hasKey, fieldRepeats, added}
-use Rattle.plan.specs.Reading.{accepted, routeAt, readPlan}
-use Rattle.plan.specs.laws.Passes.{Passes, field-is-whole, field-passes, extra-number, jitter-number}
-use Rattle.plan.specs.laws.Slots.{port-whole, flow-whole}
-use Rattle.plan.specs.laws.Walk.{Reads, done, one, accepted-reads, closing-accepted}
-use Rattle.plan.specs.laws.Absent.{NamedThere, AllThere, all-there, there-front, there-route, there-jitter, there-extra}
-use Rattle.plan.specs.laws.Drafts.{ValidDraft, blank-valid, header-valid, port-valid, flow-valid}
-use Rattle.plan.specs.laws.Optional.{extra-valid, jitter-valid, clock-valid}
+use Rattle.plan_reading.specs.Key.{headerKey}
+use Rattle.plan_reading.specs.Draft.{Draft, hasKey, fieldRepeats, added}
+use Rattle.plan_reading.specs.Reading.{accepted, routeAt, readPlan}
+use Rattle.plan_reading.specs.laws.Passes.{Passes, field-is-whole, field-passes, extra-number, jitter-number}
+use Rattle.plan_reading.specs.laws.Slots.{port-whole, flow-whole}
+use Rattle.plan_reading.specs.laws.Walk.{Reads, done, one, accepted-reads, closing-accepted}
+use Rattle.plan_reading.specs.laws.Absent.{NamedThere, AllThere, all-there, there-front, there-route, there-jitter, there-extra}
+use Rattle.plan_reading.specs.laws.Drafts.{ValidDraft, blank-valid, header-valid, port-valid, flow-valid}
+use Rattle.plan_reading.specs.laws.Optional.{extra-valid, jitter-valid, clock-valid}
 
 -- a field of the walk keeps the draft valid
 field-valid

@@ -5,8 +5,8 @@ use mathlib.Core.List.{List}
 use mathlib.Core.Bool.{true, false}
 use lib.ListN.{length}
 use Rattle.cqf.specs.Bounded.{within}
-use Rattle.plan.specs.Draft.{blank}
-use Rattle.plan.specs.Reading.{rejected, Mode, maxBytes, readFrom, readAs}
+use Rattle.plan_reading.specs.Draft.{blank}
+use Rattle.plan_reading.specs.Reading.{rejected, Mode, maxBytes, readFrom, readAs}
 
 module _ (mode : Mode) (s : List ℕ) where
   pub read-unsized : within 1 maxBytes (length s) ≡ false → readAs mode s ≡ rejected 1 0

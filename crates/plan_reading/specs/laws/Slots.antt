@@ -11,8 +11,8 @@ use Rattle.cqf.specs.Limits.{maxHops, rateOk, blockingOk, extraOk, lengthOk, pe
 use Rattle.cqf.specs.Plan.{Plan, rateOf, blockingOf, extraOf, periodOf, countOf, lengthOf, jitterOf, hopsOf, routeOf, portIn, validPort, validFlow}
 use Rattle.cqf.specs.laws.Bounded.{or-cases}
 use Rattle.cqf.specs.laws.Slot.{emptyAt}
-use Rattle.plan.specs.Reading.{hasFlow}
-use Rattle.plan.specs.laws.Passes.{and-three}
+use Rattle.plan_reading.specs.Reading.{hasFlow}
+use Rattle.plan_reading.specs.laws.Passes.{and-three}
 
 -- whether slot q is empty, or holds a rate and a blocker in range; the extra bytes apart
 unfoldable pub validRate : Plan → ℕ → Bool

@@ -7,8 +7,8 @@ use lib.ListN.{length}
 use Rattle.cqf.specs.Bounded.{every}
 use Rattle.cqf.specs.Limits.{guardOk, topOk, portOk, rateOk, lengthOk, blockingOk, extraOk, flowOk, periodOk, countOk, jitterOk, hopsOk}
 use Rattle.cqf.specs.Plan.{clockOk}
 use Rattle.plan.specs.Field.{Field, header, port, flow, extra, jitter, clock}
-use Rattle.plan.specs.Kind.{ofFlow}
+use Rattle.plan_reading.specs.Kind.{ofFlow}
 
 pub record HeaderOk (g t : ℕ) : Type 0 where
   pub guard : guardOk g ≡ true

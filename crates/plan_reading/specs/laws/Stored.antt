@@ -4,12 +4,12 @@ use mathlib.Core.List.{List, [], _∷_, List·Permᴰ, List·Permᴰ·nil, List�
 use mathlib.Core.Bool.{false}
 use Prim.Native.Nat.{ℕ}
 use lib.ListN.{length, length-set}
 use Rattle.plan.specs.Bytes.{tagAt, valueAt}
 use Rattle.plan.specs.Field.{Field, routeIn}
-use Rattle.plan.specs.Key.{keySlots, keyOf}
-use Rattle.plan.specs.Draft.{Draft, taken, added}
-use Rattle.plan.specs.laws.Passes.{Passes, passes-once}
-use Rattle.plan.specs.laws.Commute.{taken-apart, fresh-apart, added-comm}
+use Rattle.plan_reading.specs.Key.{keySlots, keyOf}
+use Rattle.plan_reading.specs.Draft.{Draft, taken, added}
+use Rattle.plan_reading.specs.laws.Passes.{Passes, passes-once}
+use Rattle.plan_reading.specs.laws.Commute.{taken-apart, fresh-apart, added-comm}
 
 -- the route in the value of a field that stands alone
 abbrev routeOf : List ℕ → List ℕ

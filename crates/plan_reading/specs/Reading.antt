@@ -7,10 +7,10 @@ use lib.ListN.{length, getD}
 use Rattle.cqf.specs.Bounded.{within, every}
 use Rattle.cqf.specs.Limits.{flowOk}
 use Rattle.cqf.specs.Plan.{Plan, portIn}
 use Rattle.plan.specs.Bytes.{number2, headSize, tagAt, sizeAt, wholeAt, valueAt}
 use Rattle.plan.specs.Field.{FieldRead, field, refused, flowTag, extraTag, jitterTag, fieldAt, routeIn}
-use Rattle.plan.specs.Key.{headerKey}
-use Rattle.plan.specs.Draft.{Draft, blank, hasKey, taken, fieldRepeats, added}
+use Rattle.plan_reading.specs.Key.{headerKey}
+use Rattle.plan_reading.specs.Draft.{Draft, blank, hasKey, taken, fieldRepeats, added}
 
 -- a plan has 1 to 16,384 bytes
 abbrev pub maxBytes : ℕ

@@ -4,9 +4,9 @@ use mathlib.Core.List.{List}
 use mathlib.Core.Option.{Option, some, none}
 use Rattle.cqf.specs.Limits.{routeStride}
 use Rattle.cqf.specs.Plan.{Clock, Plan}
 use Rattle.plan.specs.Field.{Field}
-use Rattle.plan.specs.Kind.{ofHeader, ofPort, ofFlow, ofExtra, ofJitter, ofClock}
-use Rattle.plan.specs.Put.{Put, keep, number, run, put, given}
+use Rattle.plan_reading.specs.Kind.{ofHeader, ofPort, ofFlow, ofExtra, ofJitter, ofClock}
+use Rattle.plan_reading.specs.Put.{Put, keep, number, run, put, given}
 
 -- a number of the header, of a port, of a flow: into the slot of its number
 abbrev pub headerNumber : ((guard top : ℕ) → ℕ) → Field → Option ℕ

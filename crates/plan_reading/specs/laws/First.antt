@@ -5,9 +5,9 @@ use mathlib.Core.List.{List}
 use mathlib.Core.Bool.{Bool, true, false}
 use native.Mathlib.Omega.{arith}
 use lib.ListN.{length}
 use Rattle.plan.specs.Bytes.{headSize, sizeAt, wholeAt}
-use Rattle.plan.specs.Reading.{firstFrom}
+use Rattle.plan_reading.specs.Reading.{firstFrom}
 use Rattle.plan.specs.laws.Whole.{whole-fits}
 
 module _ (sought : List ℕ → ℕ → Bool) (s : List ℕ) (at : ℕ) where
   -- where no whole field stands the search ends

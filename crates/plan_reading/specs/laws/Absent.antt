@@ -9,10 +9,10 @@ use lib.Dec.{ltb}
 use lib.ListN.{length}
 use Rattle.cqf.specs.Bounded.{every}
 use Rattle.cqf.specs.Plan.{portIn}
 use Rattle.plan.specs.Bytes.{number2, headSize, tagAt, sizeAt, wholeAt, valueAt}
 use Rattle.plan.specs.Field.{flowTag, extraTag, jitterTag}
-use Rattle.plan.specs.Reading.{routeAt, hasFlow, namesAbsent, jitterAbsent, extraAbsent, orElse, firstField, firstAbsent}
-use Rattle.plan.specs.laws.First.{NoneFrom, none-front}
+use Rattle.plan_reading.specs.Reading.{routeAt, hasFlow, namesAbsent, jitterAbsent, extraAbsent, orElse, firstField, firstAbsent}
+use Rattle.plan_reading.specs.laws.First.{NoneFrom, none-front}
 
 module _ (rates s : List ℕ) (at : ℕ) where
   -- only a flow has a route

@@ -9,10 +9,10 @@ use lib.ListN.{length, getD, set, length-replicate}
 use lib.Seq.{sets, getD-set-same, getD-set-other}
 use Rattle.cqf.specs.Limits.{portSlots, flowSlots, maxHops, routeStride}
 use Rattle.cqf.specs.Plan.{Plan, noPlan, periodOf, countOf, lengthOf, hopsOf, routeOf}
 use Rattle.plan.specs.Field.{Field, flow}
-use Rattle.plan.specs.Store.{putsRate, putsBlocking, putsExtra, putsPeriod, putsCount, putsLength, putsJitter, putsHops, putsRoute, store}
-use Rattle.plan.specs.laws.Puts.{put-length}
-use Rattle.plan.specs.laws.Stores.{Outside, sets-outside, sublist-sets, sublist-same}
+use Rattle.plan_reading.specs.Store.{putsRate, putsBlocking, putsExtra, putsPeriod, putsCount, putsLength, putsJitter, putsHops, putsRoute, store}
+use Rattle.plan_reading.specs.laws.Puts.{put-length}
+use Rattle.plan_reading.specs.laws.Stores.{Outside, sets-outside, sublist-sets, sublist-same}
 
 -- the tables are of the sizes of document 01
 pub record Sized (p : Plan) : Type 0 where

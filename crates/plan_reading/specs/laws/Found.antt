@@ -4,12 +4,12 @@ use mathlib.Core.Path.{_≡_}
 use mathlib.Core.List.{List}
 use native.Mathlib.Omega.{arith}
 use lib.ListN.{length}
 use Rattle.plan.specs.Bytes.{headSize}
 use Rattle.plan.specs.Field.{Field, field, fieldAt}
-use Rattle.plan.specs.Ranges.{NumbersOk, RouteFits}
-use Rattle.plan.specs.Reading.{routeAt}
-use Rattle.plan.specs.laws.Passes.{field-is-whole, field-passes}
+use Rattle.plan_reading.specs.Ranges.{NumbersOk, RouteFits}
+use Rattle.plan_reading.specs.Reading.{routeAt}
+use Rattle.plan_reading.specs.laws.Passes.{field-is-whole, field-passes}
 use Rattle.plan.specs.laws.Whole.{whole-fits}
 
 module _ (s : List ℕ) (at : ℕ) (x : Field) (m : ℕ) (e : fieldAt s at ≡ field x m) where
   pub found-numbers : NumbersOk x

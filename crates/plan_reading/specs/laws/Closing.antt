@@ -5,9 +5,9 @@ use mathlib.Core.List.{List}
 use mathlib.Core.Bool.{true, false, not, or-true}
 use borrow.Author.Tests.{eq-eqb, ne-eqb, lt-ltb, le-ltb}
 use lib.ListN.{length}
-use Rattle.plan.specs.Key.{headerKey}
-use Rattle.plan.specs.Draft.{Draft, hasKey}
-use Rattle.plan.specs.Reading.{accepted, rejected, firstAbsent, closing}
+use Rattle.plan_reading.specs.Key.{headerKey}
+use Rattle.plan_reading.specs.Draft.{Draft, hasKey}
+use Rattle.plan_reading.specs.Reading.{accepted, rejected, firstAbsent, closing}
 
 module _ (s : List ℕ) (d : Draft) where
   -- no header, or no flow

@@ -10,15 +10,15 @@ use lib.ListN.{length}
 use lib.Seq.{set-comm, getD-set-same, getD-set-other}
 use Rattle.cqf.specs.Limits.{portSlots, flowSlots, routeStride, portOk, flowOk}
 use Rattle.cqf.specs.Plan.{Clock, Plan}
 use Rattle.plan.specs.Field.{Field}
-use Rattle.plan.specs.Key.{headerKey, portKeys, flowKeys, extraKeys, jitterKeys, clockKey, keySlots, keyOf}
-use Rattle.plan.specs.Put.{keep, put, given}
-use Rattle.plan.specs.Store.{headerNumber, portNumber, flowNumber, putsClock, putsExtra, putsJitter, putsRoute, store}
-use Rattle.plan.specs.Draft.{Draft, taken, added, portsIn, flowsIn}
-use Rattle.plan.specs.Ranges.{NumbersOk, RouteFits}
-use Rattle.plan.specs.laws.Within.{within-low, within-high}
-use Rattle.plan.specs.laws.Kinds.{of-header, of-port, of-flow, of-extra, of-jitter, of-clock, key-below}
-use Rattle.plan.specs.laws.Puts.{Block, Placed, put-comm, Owned, given-comm}
+use Rattle.plan_reading.specs.Key.{headerKey, portKeys, flowKeys, extraKeys, jitterKeys, clockKey, keySlots, keyOf}
+use Rattle.plan_reading.specs.Put.{keep, put, given}
+use Rattle.plan_reading.specs.Store.{headerNumber, portNumber, flowNumber, putsClock, putsExtra, putsJitter, putsRoute, store}
+use Rattle.plan_reading.specs.Draft.{Draft, taken, added, portsIn, flowsIn}
+use Rattle.plan_reading.specs.Ranges.{NumbersOk, RouteFits}
+use Rattle.plan_reading.specs.laws.Within.{within-low, within-high}
+use Rattle.plan_reading.specs.laws.Kinds.{of-header, of-port, of-flow, of-extra, of-jitter, of-clock, key-below}
+use Rattle.plan_reading.specs.laws.Puts.{Block, Placed, put-comm, Owned, given-comm}
 
 -- test 6 of one does not see another of a different key
 pub taken-apart : (d : Draft) (x y : Field) (r : List ℕ) → keyOf x ≢ keyOf y → taken (added d x r) y ≡ taken d y

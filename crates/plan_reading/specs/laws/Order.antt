@@ -6,14 +6,14 @@ use native.Mathlib.Omega.{arith}
 use lib.ListN.{length, getD, take, drop, length-append, length-drop, length-replicate, List·getD-append}
 use lib.Seq.{getD-append-add, drop-append-add, drop-append-le, take-append-le}
 use Rattle.cqf.specs.Plan.{Plan}
 use Rattle.plan.specs.Bytes.{headSize, tagAt, sizeAt, valueAt}
-use Rattle.plan.specs.Key.{keySlots}
-use Rattle.plan.specs.Draft.{Draft, blank, added}
-use Rattle.plan.specs.Reading.{accepted, routeAt, readPlan}
-use Rattle.plan.specs.FieldOrder.{IsField, AllFields, more, SameFields}
-use Rattle.plan.specs.laws.Passes.{field-passes}
-use Rattle.plan.specs.laws.Walk.{Reads, done, one, accepted-reads, closing-accepted}
-use Rattle.plan.specs.laws.Stored.{Stored, nothing, next, Flagged, stored-once, stored-permuted}
+use Rattle.plan_reading.specs.Key.{keySlots}
+use Rattle.plan_reading.specs.Draft.{Draft, blank, added}
+use Rattle.plan_reading.specs.Reading.{accepted, routeAt, readPlan}
+use Rattle.plan_reading.specs.FieldOrder.{IsField, AllFields, more, SameFields}
+use Rattle.plan_reading.specs.laws.Passes.{field-passes}
+use Rattle.plan_reading.specs.laws.Walk.{Reads, done, one, accepted-reads, closing-accepted}
+use Rattle.plan_reading.specs.laws.Stored.{Stored, nothing, next, Flagged, stored-once, stored-permuted}
 
 -- a whole field between other bytes has the tag, the length and the value that it has by itself
 module _ (front b rest : List ℕ) (is : IsField b) where

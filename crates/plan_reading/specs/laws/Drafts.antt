@@ -13,15 +13,15 @@ use borrow.Author.Tests.{lt-ltb}
 use Rattle.cqf.specs.Bounded.{every, distinct}
 use Rattle.cqf.specs.Limits.{portSlots, flowSlots, maxHops, guardOk, topOk}
 use Rattle.cqf.specs.Plan.{Plan, noPlan, clockOk, periodOf, routeOf, present, portIn}
 use Rattle.plan.specs.Field.{Field, header, port, flow}
-use Rattle.plan.specs.Key.{headerKey, keyOf}
-use Rattle.plan.specs.Store.{store}
-use Rattle.plan.specs.Draft.{Draft, blank, hasKey, added}
-use Rattle.plan.specs.Ranges.{HeaderOk, PortOk, FlowOk, RouteOk}
-use Rattle.plan.specs.laws.Within.{within-low, within-high, slot-below}
-use Rattle.plan.specs.laws.Slots.{validRate, validExtra, validIn, validJitter, valid-hops, rate-kept, flow-kept, rate-filled, flow-filled}
-use Rattle.plan.specs.laws.Tables
-use Rattle.plan.specs.laws.Tables.{Sized, sized-none, sized-store}
+use Rattle.plan_reading.specs.Key.{headerKey, keyOf}
+use Rattle.plan_reading.specs.Store.{store}
+use Rattle.plan_reading.specs.Draft.{Draft, blank, hasKey, added}
+use Rattle.plan_reading.specs.Ranges.{HeaderOk, PortOk, FlowOk, RouteOk}
+use Rattle.plan_reading.specs.laws.Within.{within-low, within-high, slot-below}
+use Rattle.plan_reading.specs.laws.Slots.{validRate, validExtra, validIn, validJitter, valid-hops, rate-kept, flow-kept, rate-filled, flow-filled}
+use Rattle.plan_reading.specs.laws.Tables
+use Rattle.plan_reading.specs.laws.Tables.{Sized, sized-none, sized-store}
 
 -- the draft's tables are valid, but for the ports that its routes and extra bytes name and the flows that its jitters name:
 -- those are in the plan of these rates and periods

@@ -9,8 +9,8 @@ use native.Mathlib.Omega.{arith}
 use native.Mathlib.Decide.{decLt}
 use lib.ListN.{length, length-set}
 use lib.Seq.{sets, length-sets}
-use Rattle.plan.specs.Put.{Put, keep, number, run, put, given}
-use Rattle.plan.specs.laws.Stores.{sets-comm}
+use Rattle.plan_reading.specs.Put.{Put, keep, number, run, put, given}
+use Rattle.plan_reading.specs.laws.Stores.{sets-comm}
 
 pub put-length : (l : List ℕ) (u : Put) → length (put l u) ≡ length l
 put-length l keep = refl

@@ -7,11 +7,11 @@ use native.Mathlib.Omega.{arith}
 use borrow.Author.Tests.{lt-ltb, le-ltb, ltb-true, ltb-false}
 use lib.Dec.{ltb}
 use lib.ListN.{length}
 use Rattle.plan.specs.Bytes.{headSize}
 use Rattle.plan.specs.Field.{Field, header, port, flow, extra, jitter, clock, FieldRead, field, refused, fieldAt}
-use Rattle.plan.specs.Draft.{Draft, taken, fieldRepeats, added, portsIn, flowsIn}
-use Rattle.plan.specs.Reading.{rejected, Mode, Step, stop, more, routeAt, fieldStep, stepAt, closing, readFrom}
-use Rattle.plan.specs.laws.Found.{found-forward, found-within}
+use Rattle.plan_reading.specs.Draft.{Draft, taken, fieldRepeats, added, portsIn, flowsIn}
+use Rattle.plan_reading.specs.Reading.{rejected, Mode, Step, stop, more, routeAt, fieldStep, stepAt, closing, readFrom}
+use Rattle.plan_reading.specs.laws.Found.{found-forward, found-within}
 
 -- a field that tests 2 to 5 refuse
 pub step-refused : (mode : Mode) (s : List ℕ) (at : ℕ) (d : Draft) (n o : ℕ) → fieldAt s at ≡ refused n o → stepAt mode s at d ≡ stop n o

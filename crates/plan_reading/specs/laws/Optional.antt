@@ -9,15 +9,15 @@ use native.Mathlib.Decide.{ℕ-discrete}
 use lib.Seq.{getD-set-same, getD-set-other}
 use Rattle.cqf.specs.Limits.{portSlots, flowSlots}
 use Rattle.cqf.specs.Plan.{Clock, Plan, portIn, clockOk}
 use Rattle.plan.specs.Field.{extra, jitter, clock}
-use Rattle.plan.specs.Store.{store}
-use Rattle.plan.specs.Draft.{Draft, added}
-use Rattle.plan.specs.Reading.{hasFlow}
-use Rattle.plan.specs.Ranges.{ExtraOk, JitterOk}
-use Rattle.plan.specs.laws.Within.{within-low, slot-below}
-use Rattle.plan.specs.laws.Slots.{validRate, validExtra, validIn, validJitter, extra-kept, extra-filled, jitter-kept, jitter-filled}
-use Rattle.plan.specs.laws.Tables.{sized-store}
-use Rattle.plan.specs.laws.Drafts.{ValidDraft, header-flag}
+use Rattle.plan_reading.specs.Store.{store}
+use Rattle.plan_reading.specs.Draft.{Draft, added}
+use Rattle.plan_reading.specs.Reading.{hasFlow}
+use Rattle.plan_reading.specs.Ranges.{ExtraOk, JitterOk}
+use Rattle.plan_reading.specs.laws.Within.{within-low, slot-below}
+use Rattle.plan_reading.specs.laws.Slots.{validRate, validExtra, validIn, validJitter, extra-kept, extra-filled, jitter-kept, jitter-filled}
+use Rattle.plan_reading.specs.laws.Tables.{sized-store}
+use Rattle.plan_reading.specs.laws.Drafts.{ValidDraft, header-flag}
 
 -- extra bytes of a port of the plan
 pub extra-valid

@@ -1,0 +1,22 @@
+-- Laws of the walk over the fields, and what an accepted plan is.
+pub mod Within
+pub mod Stores
+pub mod Passes
+pub mod Walk
+pub mod First
+pub mod Kinds
+pub mod Puts
+pub mod Tables
+pub mod Slots
+pub mod Drafts
+pub mod Optional
+pub mod Valid
+pub mod Commute
+pub mod Stored
+pub mod Order
+pub mod Zero
+pub mod Found
+pub mod Steps
+pub mod Absent
+pub mod Closing
+pub mod PlanLength

@@ -1,0 +1,1 @@
+// The reading of a whole plan, as definitions, in specs/.
