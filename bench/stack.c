@@ -70,6 +70,18 @@ MEASURED(on_refused_load) {
   return unused;
 }
 
+MEASURED(on_load_strict) {
+  MEASURE(cp_load_outcome (*volatile call)(cp_planner, const uint8_t *, size_t), see_load, cp_load_strict,
+          loaded = call(held, accepted.bytes, accepted.length));
+  return unused;
+}
+
+MEASURED(on_refused_load_strict) {
+  MEASURE(cp_load_outcome (*volatile call)(cp_planner, const uint8_t *, size_t), see_load, cp_load_strict,
+          loaded = call(held, refused.bytes, refused.length));
+  return unused;
+}
+
 MEASURED(on_check) {
   MEASURE(cp_answer (*volatile call)(cp_planner, uint64_t), see_check, cp_check, answer = call(held, held.top));
   return unused;
@@ -140,9 +152,13 @@ int main(int count, char **paths) {
   read_plan(paths[1], &accepted);
   row("cp_load, longest plan", on_load, sizeof held, sizeof loaded);
   if (loaded.answer.refusal != 0) return 1;
+  row("cp_load_strict", on_load_strict, sizeof held, sizeof loaded);
+  if (loaded.answer.refusal != 0) return 1;
   held = loaded.planner;
   read_plan(paths[2], &refused);
   row("cp_load, refused", on_refused_load, sizeof held, sizeof loaded);
+  if (loaded.answer.refusal == 0) return 1;
+  row("cp_load_strict, refused", on_refused_load_strict, sizeof held, sizeof loaded);
   if (loaded.answer.refusal == 0) return 1;
   questions("cp_check", "cp_slack", "cp_least", "cp_margin_safe");
   if (answer.refusal != 0) return 1;

@@ -2,7 +2,7 @@
  * an empty one too. A slice is a pointer and a length; a pointer that does not hold as many elements as its length says is
  * outside what is proved. An empty slice wants a pointer that is not null, aligned for its elements. A mutable slice overlaps nothing else.
  * Document 01's refusal number is in `refusal`, 0 where there is a result. Stack of a call, beside the planner and the answer that the
- * caller holds: cp_load 25 KB, a question 8.7 KB. No heap. */
+ * caller holds: a load 33 KB, a question 8.7 KB. No heap. */
 #ifndef CYCLE_PLANNER_H
 #define CYCLE_PLANNER_H
 #include <stddef.h>
@@ -37,8 +37,13 @@ typedef struct { uint32_t refusal, tag; uint64_t offset; uint64_t numbers[5]; } 
 cp_planner cp_empty(void);
 
 /* Result: first = port fields, second = flow fields, planner = the one that holds this plan.
- * Refusal 1 to 9: first = offset (place), second = 0, planner = the one given. */
+ * Refusal 1 to 9: first = offset (place), second = 0, planner = the one given. Fields may stand in any order. */
 cp_load_outcome cp_load(cp_planner planner, const uint8_t *plan, size_t length);
+
+/* The same by the strict reading: the header first, then the ports, the flows and the later tags, by tag and then by number.
+ * Refusal 12 too: a field should have stood earlier; it is tested between 6 and 7, first = that field's offset, second = 0,
+ * planner = the one given, as for 1 to 9. */
+cp_load_outcome cp_load_strict(cp_planner planner, const uint8_t *plan, size_t length);
 
 /* The plain question. Result: 0, 0. Refusal 20, 10: 0, 0. 21: first = lowest failing port, second = how many fail. */
 cp_answer cp_check(cp_planner planner, uint64_t duration);

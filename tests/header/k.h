@@ -30,12 +30,19 @@ static cp_planner planner_of_k(void) {
   return k;
 }
 
-/* A load's answer and the planner that it gives back. */
-static cp_planner loaded(const char *call, cp_planner before, const uint8_t *plan, size_t length, cp_answer want, cp_planner left) {
-  cp_load_outcome got = cp_load(before, plan, length);
+typedef cp_load_outcome (*load)(cp_planner planner, const uint8_t *plan, size_t length);
+
+/* A load's answer and the planner that it gives back, in either reading. */
+static cp_planner loaded_by(load read, const char *call, cp_planner before, const uint8_t *plan, size_t length, cp_answer want,
+                            cp_planner left) {
+  cp_load_outcome got = read(before, plan, length);
   same_answer(call, got.answer, want);
   same_planner(call, got.planner, left);
   return got.planner;
+}
+
+static cp_planner loaded(const char *call, cp_planner before, const uint8_t *plan, size_t length, cp_answer want, cp_planner left) {
+  return loaded_by(cp_load, call, before, plan, length, want, left);
 }
 
 /* A duration with the plain question's refusal and the spare of port 1. */

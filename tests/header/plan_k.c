@@ -2,6 +2,7 @@
  * each number of the lent scratch, against its expected value. Prints what differs; exit status 1 where something does. */
 #include "k.h"
 #include "later.h"
+#include "strict.h"
 
 _Static_assert(sizeof(cp_planner) == 7892, "a planner has 7,892 bytes");
 _Static_assert(offsetof(cp_planner, clock) == 8, "clocks come after top");
@@ -112,6 +113,7 @@ int main(void) {
   extra_bytes(k);
   jitter(k);
   clocks(k);
+  strict(k);
   fields();
   printf("header: %u passed, %u failed\n", passed, failed);
   return failed != 0;

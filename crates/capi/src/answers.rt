@@ -1,11 +1,13 @@
 // Each answer of the planner as numbers: document 01's refusal, 0 for a result, and what it carries.
 use crate::AnswerNumbers;
 use crate::FieldReadNumbers;
+use crate::LoadOutcomeNumbers;
 use crate::SlackAnswerNumbers;
 use plan::Field;
 use plan::FieldRead;
 use planner::CheckAnswer;
 use planner::LoadAnswer;
+use planner::LoadOutcome;
 use planner::SearchAnswer;
 use planner::SlackAnswer;
 use planner::check_number;
@@ -16,6 +18,7 @@ use planner::slack_number;
 ghost use mathlib.Core.Path.{_≡_};
 ghost use Prim.Native.Nat.{ℕ};
 ghost use Rattle.plan.specs.Answer.{fieldReadOf};
+ghost use Rattle.tables.specs.Tables.{planOf};
 ghost use Rattle.loading.specs.Outcome.{numberOf};
 ghost use Rattle.loading.specs.Answer.{loadOf};
 ghost use Rattle.planner.specs.Answer.{checkOf, slackOf, searchOf, leastOf, marginSafeOf};
@@ -44,13 +47,26 @@ fn numbered(refusal: u32, first: u64, second: u64) -> AnswerNumbers
     }
 }
 
-pub(crate) fn load_numbers(answer: LoadAnswer) -> AnswerNumbers
+fn load_numbers(answer: LoadAnswer) -> AnswerNumbers
     ensures { λ r. ⌜ r ≡ loadNumbers (loadOf answer) ⌝ }
 {
     let refusal = load_number(answer);
     match answer {
         LoadAnswer::Held { ports, flows } => numbered(refusal, ports as u64, flows as u64),
         LoadAnswer::Refused { fault: _, offset } => numbered(refusal, offset as u64, 0),
+    }
+}
+
+// A load's answer as numbers, beside the planner that it leaves.
+pub(crate) fn outcome_numbers(outcome: LoadOutcome) -> LoadOutcomeNumbers
+    ensures { λ r. ⌜ (planOf (r .planner) ≡ planOf (outcome .planner)) × (r .answer ≡ loadNumbers (loadOf (outcome .answer))) ⌝ }
+{
+    let planner = outcome.planner;
+    let answer = outcome.answer;
+    let numbers = load_numbers(answer);
+    LoadOutcomeNumbers {
+        planner,
+        answer: numbers,
     }
 }
 

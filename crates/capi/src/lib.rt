@@ -2,13 +2,14 @@
 use crate::answers::check_numbers;
 use crate::answers::field_numbers;
 use crate::answers::least_numbers;
-use crate::answers::load_numbers;
 use crate::answers::margin_safe_numbers;
+use crate::answers::outcome_numbers;
 use crate::answers::slack_numbers;
 use planner::Planner;
 ghost use mathlib.Core.Path.{_≡_};
 ghost use Rattle.cqf.specs.Plan.{noPlan};
 ghost use Rattle.plan.specs.Field.{fieldAt, repeats};
+ghost use Rattle.plan_reading.specs.Reading.{loose, strict};
 ghost use Rattle.tables.specs.Tables.{planOf};
 ghost use Rattle.loading.specs.Outcome.{loadAnswer, loadLeaves};
 ghost use Rattle.planner.specs.Outcome.{checkAnswer, slackAnswer, leastAnswer, leastLeaves, marginSafeAnswer, marginSafeLeaves};
@@ -67,16 +68,16 @@ pub extern "C" fn cp_repeats(value: &[u8]) -> bool
 
 #[no_mangle]
 pub extern "C" fn cp_load(planner: Planner, plan: &[u8]) -> LoadOutcomeNumbers
-    ensures { λ r. ⌜ (planOf (r .planner) ≡ loadLeaves (planOf planner) (now (plan .entry))) × (r .answer ≡ loadNumbers (loadAnswer (now (plan .entry)))) ⌝ }
+    ensures { λ r. ⌜ (planOf (r .planner) ≡ loadLeaves loose (planOf planner) (now (plan .entry))) × (r .answer ≡ loadNumbers (loadAnswer loose (now (plan .entry)))) ⌝ }
 {
-    let outcome = planner::load(planner, plan);
-    let held = outcome.planner;
-    let answer = outcome.answer;
-    let numbers = load_numbers(answer);
-    LoadOutcomeNumbers {
-        planner: held,
-        answer: numbers,
-    }
+    outcome_numbers(planner::read_plan(false, planner, plan))
+}
+
+#[no_mangle]
+pub extern "C" fn cp_load_strict(planner: Planner, plan: &[u8]) -> LoadOutcomeNumbers
+    ensures { λ r. ⌜ (planOf (r .planner) ≡ loadLeaves strict (planOf planner) (now (plan .entry))) × (r .answer ≡ loadNumbers (loadAnswer strict (now (plan .entry)))) ⌝ }
+{
+    outcome_numbers(planner::read_plan(true, planner, plan))
 }
 
 // 21 and 0 mean what they mean from `planner::check`: demand 3.

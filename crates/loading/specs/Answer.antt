@@ -2,8 +2,10 @@
 use Prim.Native.Nat.{ℕ}
 use mathlib.Core.Path.{_≡_}
 use mathlib.Core.List.{List, [], _∷_}
+use mathlib.Core.Bool.{Bool, true, false}
 use Rattle.cqf.specs.Plan.{Plan}
 use Rattle.plan.specs.Answer.{faultNumber}
+use Rattle.plan_reading.specs.Reading.{Mode, loose, strict}
 use Rattle.tables.specs.Tables.{planOf}
 use Rattle.loading.specs.Outcome.{Answer, result, refusal, Fields, loadAnswer, loadLeaves}
 use Rattle.loading.specs.declared.LoadAnswer.{LoadAnswer}
@@ -13,7 +15,12 @@ abbrev pub loadOf : LoadAnswer → Answer Fields
 loadOf (LoadAnswer.Held ports flows) = result (record { ports = ports; flows = flows })
 loadOf (LoadAnswer.Refused fault offset) = refusal (faultNumber fault) (offset ∷ [])
 
--- a load of these bytes by a planner that holds this plan: the plan that it leaves, and its answer
-pub record Loads (held : Plan) (bytes : List ℕ) (outcome : LoadOutcome) : Type 0 where
-  pub leaves : planOf (outcome .planner) ≡ loadLeaves held bytes
-  pub answers : loadOf (outcome .answer) ≡ loadAnswer bytes
+-- the reading that is strict or not
+abbrev pub modeOf : Bool → Mode
+modeOf true = strict
+modeOf false = loose
+
+-- a load of these bytes in this reading by a planner that holds this plan: the plan that it leaves, and its answer
+pub record Loads (mode : Mode) (held : Plan) (bytes : List ℕ) (outcome : LoadOutcome) : Type 0 where
+  pub leaves : planOf (outcome .planner) ≡ loadLeaves mode held bytes
+  pub answers : loadOf (outcome .answer) ≡ loadAnswer mode bytes

@@ -1,7 +1,7 @@
 -- The load's working values, as the definitions of the reading have them.
 use Prim.Native.Nat.{ℕ}
 use mathlib.Core.Path.{_≡_}
-use mathlib.Core.Bool.{Bool}
+use mathlib.Core.Bool.{Bool, true, false}
 use mathlib.Core.List.{List}
 use Rattle.cqf.specs.Plan.{Plan}
 use Rattle.numbers.specs.Clock.{clockOf}
@@ -38,8 +38,8 @@ draftOf t rates blockings extras periods counts lengths jitters hops routes seen
 
 -- one field read
 abbrev pub progressOf : Progress → (rates blockings extras periods counts lengths jitters hops routes seen : List ℕ) → Step
-progressOf (Progress.More next totals) rates blockings extras periods counts lengths jitters hops routes seen =
-    more next (draftOf totals rates blockings extras periods counts lengths jitters hops routes seen)
+progressOf (Progress.More next key totals) rates blockings extras periods counts lengths jitters hops routes seen =
+    more next key (draftOf totals rates blockings extras periods counts lengths jitters hops routes seen)
 progressOf (Progress.Stop fault offset) rates blockings extras periods counts lengths jitters hops routes seen = stop (faultNumber fault) offset
 
 -- what is sought in a field, in a plan with these rates and periods

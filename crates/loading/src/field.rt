@@ -1,4 +1,4 @@
-// One field of a plan that is being read: the tests 2 to 7, and the field stored.
+// One field of a plan that is being read: the tests 2 to 7, with 12 between 6 and 7, and the field stored.
 
 use crate::store::KEYS;
 use crate::store::Totals;
@@ -15,14 +15,22 @@ ghost use Prim.Native.Nat.{_≤_};
 ghost use mathlib.Core.Path.{_≡_};
 ghost use Rattle.plan.specs.Field.{field, fieldAt, routePorts};
 ghost use Rattle.plan_reading.specs.Draft.{fieldRepeats};
-ghost use Rattle.plan_reading.specs.Reading.{loose, stepAt, maxBytes};
+ghost use Rattle.plan_reading.specs.Reading.{late, stepAt, maxBytes};
 ghost use Rattle.plan.specs.Answer.{fieldOf};
+ghost use Rattle.loading.specs.Answer.{modeOf};
 ghost use Rattle.loading.specs.Loading.{draftOf, progressOf};
 
 // Whether the reading goes on after a field.
 pub(crate) enum Progress {
-    More { next: usize, totals: Totals },
-    Stop { fault: Fault, offset: usize },
+    More {
+        next: usize,
+        key: usize,
+        totals: Totals,
+    },
+    Stop {
+        fault: Fault,
+        offset: usize,
+    },
 }
 
 // Test 7: whether the field's route holds a port twice.
@@ -39,10 +47,22 @@ fn field_repeats(field: Field, route: &[u8]) -> bool
     }
 }
 
-// A field that passed the tests 2 to 5: the tests 6 and 7, and the field stored.
+// Test 12, of the strict reading only: whether a field should have stood earlier, last being the key of the field in front of it.
+fn is_late(strict: bool, field: Field, last: usize) -> bool
+    ensures { λ r. ⌜ r ≡ late (modeOf strict) last (fieldOf field) ⌝ }
+{
+    if !strict {
+        return false;
+    }
+    key_of(field) < last
+}
+
+// A field that passed the tests 2 to 5: the tests 6, 12 and 7, and the field stored. last is the key of the field in front of it.
 fn take_field(
+    strict: bool,
     plan: &[u8],
     at: usize,
+    last: usize,
     x: Field,
     next: usize,
     totals: Totals,
@@ -58,12 +78,18 @@ fn take_field(
     seen: &mut [u8; KEYS],
 ) -> Progress
     requires { ⌜ (totals .ports ≤ maxBytes) × (totals .flows ≤ maxBytes) × (fieldAt (now plan) at ≡ field (fieldOf x) next) ⌝ }
-    ensures { λ r. ⌜ progressOf r (now (rates .exit)) (now (blockings .exit)) (now (extras .exit)) (now (periods .exit)) (now (counts .exit)) (now (lengths .exit)) (now (jitters .exit)) (now (hops .exit)) (now (routes .exit)) (now (seen .exit)) ≡ stepAt loose (now (plan .entry)) at (draftOf totals (now (rates .entry)) (now (blockings .entry)) (now (extras .entry)) (now (periods .entry)) (now (counts .entry)) (now (lengths .entry)) (now (jitters .entry)) (now (hops .entry)) (now (routes .entry)) (now (seen .entry))) ⌝ }
+    ensures { λ r. ⌜ progressOf r (now (rates .exit)) (now (blockings .exit)) (now (extras .exit)) (now (periods .exit)) (now (counts .exit)) (now (lengths .exit)) (now (jitters .exit)) (now (hops .exit)) (now (routes .exit)) (now (seen .exit)) ≡ stepAt (modeOf strict) (now (plan .entry)) at last (draftOf totals (now (rates .entry)) (now (blockings .entry)) (now (extras .entry)) (now (periods .entry)) (now (counts .entry)) (now (lengths .entry)) (now (jitters .entry)) (now (hops .entry)) (now (routes .entry)) (now (seen .entry))) ⌝ }
 {
     let key = key_of(x);
     if 0 < seen[key] {
         return Progress::Stop {
             fault: Fault::Duplicate,
+            offset: at,
+        };
+    }
+    if is_late(strict, x, last) {
+        return Progress::Stop {
+            fault: Fault::OutOfOrder,
             offset: at,
         };
     }
@@ -89,13 +115,19 @@ fn take_field(
         routes,
         seen,
     );
-    Progress::More { next, totals: sums }
+    Progress::More {
+        next,
+        key,
+        totals: sums,
+    }
 }
 
 // The field at this offset.
 pub(crate) fn step(
+    strict: bool,
     plan: &[u8],
     at: usize,
+    last: usize,
     totals: Totals,
     rates: &mut [u32; 64],
     blockings: &mut [u16; 64],
@@ -109,12 +141,14 @@ pub(crate) fn step(
     seen: &mut [u8; KEYS],
 ) -> Progress
     requires { ⌜ (totals .ports ≤ maxBytes) × (totals .flows ≤ maxBytes) ⌝ }
-    ensures { λ r. ⌜ progressOf r (now (rates .exit)) (now (blockings .exit)) (now (extras .exit)) (now (periods .exit)) (now (counts .exit)) (now (lengths .exit)) (now (jitters .exit)) (now (hops .exit)) (now (routes .exit)) (now (seen .exit)) ≡ stepAt loose (now (plan .entry)) at (draftOf totals (now (rates .entry)) (now (blockings .entry)) (now (extras .entry)) (now (periods .entry)) (now (counts .entry)) (now (lengths .entry)) (now (jitters .entry)) (now (hops .entry)) (now (routes .entry)) (now (seen .entry))) ⌝ }
+    ensures { λ r. ⌜ progressOf r (now (rates .exit)) (now (blockings .exit)) (now (extras .exit)) (now (periods .exit)) (now (counts .exit)) (now (lengths .exit)) (now (jitters .exit)) (now (hops .exit)) (now (routes .exit)) (now (seen .exit)) ≡ stepAt (modeOf strict) (now (plan .entry)) at last (draftOf totals (now (rates .entry)) (now (blockings .entry)) (now (extras .entry)) (now (periods .entry)) (now (counts .entry)) (now (lengths .entry)) (now (jitters .entry)) (now (hops .entry)) (now (routes .entry)) (now (seen .entry))) ⌝ }
 {
     match read_field(plan, at) {
         FieldRead::Field { field, next } => take_field(
+            strict,
             plan,
             at,
+            last,
             field,
             next,
             totals,

@@ -8,6 +8,8 @@ mod first; // first.rt: the first field that is sought, as test 9 wants it
 mod store; // store.rt: a field stored into the columns
 
 pub use reading::load;
+pub use reading::load_strict;
+pub use reading::read_plan;
 
 pub enum LoadAnswer {
     Held { ports: u16, flows: u16 },

@@ -1,4 +1,5 @@
-// A whole plan read into columns of its own: test 1; fields from the front, each tested for 2 to 7; then 8, then 9.
+// A whole plan read into columns of its own: test 1; fields from the front, each tested for 2 to 7, strictly
+// with 12 between 6 and 7; then 8, then 9.
 
 use crate::LoadAnswer;
 use crate::LoadOutcome;
@@ -14,9 +15,9 @@ use plan::Fault;
 use tables::Planner;
 ghost use mathlib.Core.Path.{_≡_};
 ghost use Rattle.cqf.specs.Bounded.{within};
-ghost use Rattle.plan_reading.specs.Reading.{maxBytes};
+ghost use Rattle.plan_reading.specs.Reading.{loose, strict, maxBytes};
 ghost use Rattle.tables.specs.Tables.{planOf};
-ghost use Rattle.loading.specs.Answer.{Loads};
+ghost use Rattle.loading.specs.Answer.{Loads, modeOf};
 ghost use Rattle.loading.specs.Loading.{Closes};
 
 // All fields are read: the tests 8 and 9.
@@ -62,10 +63,10 @@ fn size_ok(size: usize) -> bool
     size <= MAX_BYTES
 }
 
-// The plan in these bytes is held in place of the one before, where the rules find no refusal; otherwise the planner is given
+// A load in either reading. The plan in these bytes is held in place of the one before, where the rules find no refusal; otherwise the planner is given
 // back as it came. The columns are fresh, and go into the planner once, where the plan is accepted.
-pub fn load(planner: Planner, plan: &[u8]) -> LoadOutcome
-    ensures { λ r. ⌜ Loads (planOf planner) (now (plan .entry)) r ⌝ }
+pub fn read_plan(strict: bool, planner: Planner, plan: &[u8]) -> LoadOutcome
+    ensures { λ r. ⌜ Loads (modeOf strict) (planOf planner) (now (plan .entry)) r ⌝ }
 {
     if !size_ok(plan.len()) {
         return LoadOutcome {
@@ -97,11 +98,14 @@ pub fn load(planner: Planner, plan: &[u8]) -> LoadOutcome
         ports: 0,
         flows: 0,
     };
+    let mut last = 0;
     let mut at = 0;
     while at < plan.len() {
         match step(
+            strict,
             plan,
             at,
+            last,
             totals,
             &mut rates,
             &mut blockings,
@@ -114,8 +118,13 @@ pub fn load(planner: Planner, plan: &[u8]) -> LoadOutcome
             &mut routes,
             &mut seen,
         ) {
-            Progress::More { next, totals: sums } => {
+            Progress::More {
+                next,
+                key,
+                totals: sums,
+            } => {
                 totals = sums;
+                last = key;
                 at = next;
             }
             Progress::Stop { fault, offset } => {
@@ -153,4 +162,18 @@ pub fn load(planner: Planner, plan: &[u8]) -> LoadOutcome
             offset: _,
         } => LoadOutcome { planner, answer },
     }
+}
+
+// The load: fields may stand in any order.
+pub fn load(planner: Planner, plan: &[u8]) -> LoadOutcome
+    ensures { λ r. ⌜ Loads loose (planOf planner) (now (plan .entry)) r ⌝ }
+{
+    read_plan(false, planner, plan)
+}
+
+// The strict load: each field stands before all that follow it, by tag and number, or the plan is refused.
+pub fn load_strict(planner: Planner, plan: &[u8]) -> LoadOutcome
+    ensures { λ r. ⌜ Loads strict (planOf planner) (now (plan .entry)) r ⌝ }
+{
+    read_plan(true, planner, plan)
 }

@@ -2,7 +2,7 @@
 use Prim.Native.Nat.{ℕ}
 use Rattle.numbers.specs.Clock.{clockOf}
 use Rattle.plan.specs.declared.Fault.{Fault}
-use Rattle.plan.specs.declared.Fault.the-variants.{Size, Truncated, UnknownTag, WrongLength, OutOfRange, Duplicate, RepeatedPort, Incomplete, UnknownPort}
+use Rattle.plan.specs.declared.Fault.the-variants.{Size, Truncated, UnknownTag, WrongLength, OutOfRange, Duplicate, OutOfOrder, RepeatedPort, Incomplete, UnknownPort}
 use Rattle.plan.specs.declared.Head.{Head}
 use Rattle.plan.specs.declared.Head.the-variants.{Whole, Cut}
 use Rattle.plan.specs.declared.Field as declaredField
@@ -16,6 +16,7 @@ faultNumber UnknownTag = 3
 faultNumber WrongLength = 4
 faultNumber OutOfRange = 5
 faultNumber Duplicate = 6
+faultNumber OutOfOrder = 12
 faultNumber RepeatedPort = 7
 faultNumber Incomplete = 8
 faultNumber UnknownPort = 9

@@ -1,5 +1,5 @@
 -- Numbers in bytes, high byte first, and a field's head and value.
-use Prim.Native.Nat.{ℕ, zero, suc, _+_, _*_}
+use Prim.Native.Nat.{ℕ, zero, suc, _+_, _*_, _<_}
 use mathlib.Core.List.{List, [], _∷_}
 use mathlib.Core.Bool.{Bool, cond, _&&_}
 use lib.Dec.{leb}
@@ -7,6 +7,10 @@ use lib.ListN.{length, getD, take, drop}
 
 abbrev pub byteAt : List ℕ → ℕ → ℕ
 byteAt s i = getD s i 0
+
+-- each number of the list is a byte
+abbrev pub Octets : List ℕ → Type 0
+Octets s = (i : ℕ) → byteAt s i < 256
 
 unfoldable pub number2 : List ℕ → ℕ → ℕ
 number2 s i = byteAt s i * 256 + byteAt s (i + 1)

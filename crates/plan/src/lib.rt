@@ -21,7 +21,7 @@ pub use route::route_repeats;
 pub use split::field_value;
 pub use split::split_head;
 
-// What a plan can be refused for: document 01's refusals 1 to 9.
+// What a plan can be refused for: the refusals 1 to 9, and the strict reading's 12.
 pub enum Fault {
     Size,
     Truncated,
@@ -29,6 +29,7 @@ pub enum Fault {
     WrongLength,
     OutOfRange,
     Duplicate,
+    OutOfOrder,
     RepeatedPort,
     Incomplete,
     UnknownPort,
@@ -95,6 +96,7 @@ pub fn fault_number(fault: Fault) -> u8
         Fault::WrongLength => 4,
         Fault::OutOfRange => 5,
         Fault::Duplicate => 6,
+        Fault::OutOfOrder => 12,
         Fault::RepeatedPort => 7,
         Fault::Incomplete => 8,
         Fault::UnknownPort => 9,

@@ -12,7 +12,7 @@ use Rattle.plan.specs.Bytes.{number2, number4, sizeAt, wholeAt, valueAt, number
 use Rattle.plan.specs.Field.{routePorts, routeIn, headerIn, portInValue, flowIn, extraIn, jitterIn, clockIn, fieldIn, fieldAt, repeats}
 use Rattle.plan_reading.specs.Store.{store}
 use Rattle.plan_reading.specs.Draft.{blank, added}
-use Rattle.plan_reading.specs.Reading.{stepAt, namesAbsent, jitterAbsent, extraAbsent, firstFrom, firstAbsent, closing, readFrom, readAs, readPlan, accepted}
+use Rattle.plan_reading.specs.Reading.{stepAt, namesAbsent, jitterAbsent, extraAbsent, firstFrom, firstAbsent, closing, readFrom, readAs, readPlan, loose, accepted}
 use Rattle.loading.specs.Outcome.{result, refusal, loadAnswer, loadLeaves}
 use Rattle.planner.specs.Outcome.{checkAnswer, slackAnswer}
 use Rattle.planner.specs.Calls.{load, afterFrom, after}
@@ -64,16 +64,16 @@ tableApart =
     ∷ at 142000 (result tt) (result (pos 0))
     ∷ []
 
-tableOfApart : linesOf (after (load (apart ++ bytesK) ∷ [])) tableApart ≡ tableApart
+tableOfApart : linesOf (after (load loose (apart ++ bytesK) ∷ [])) tableApart ≡ tableApart
 unfolding apart clock bytesK tableApart after afterFrom loadLeaves noPlan readPlan readAs readFrom blank stepAt fieldAt fieldIn headerIn portInValue flowIn extraIn jitterIn clockIn number2 number4 sizeAt wholeAt valueAt numbers2 routePorts routeIn repeats every distinct elem store added closing firstFrom firstAbsent namesAbsent jitterAbsent extraAbsent checkAnswer slackAnswer validPlan validPort validFlow allTo anyTo sublist admissible failing lowestFailing lowest countTo fails crossed capacity window workload demand sumTo frames begun stretch ceilDiv wireBits slack
 tableOfApart = refl
 
 -- where one of the two lengths is the duration itself, K's own table
-tableOfErrorAlone : linesOf (after (load (errorAlone ++ bytesK) ∷ [])) table ≡ table
+tableOfErrorAlone : linesOf (after (load loose (errorAlone ++ bytesK) ∷ [])) table ≡ table
 unfolding errorAlone clock bytesK table after afterFrom loadLeaves noPlan readPlan readAs readFrom blank stepAt fieldAt fieldIn headerIn portInValue flowIn extraIn jitterIn clockIn number2 number4 sizeAt wholeAt valueAt numbers2 routePorts routeIn repeats every distinct elem store added closing firstFrom firstAbsent namesAbsent jitterAbsent extraAbsent checkAnswer slackAnswer validPlan validPort validFlow allTo anyTo sublist admissible failing lowestFailing lowest countTo fails crossed capacity window workload demand sumTo frames begun stretch ceilDiv wireBits slack
 tableOfErrorAlone = refl
 
-tableOfDriftAlone : linesOf (after (load (driftAlone ++ bytesK) ∷ [])) table ≡ table
+tableOfDriftAlone : linesOf (after (load loose (driftAlone ++ bytesK) ∷ [])) table ≡ table
 unfolding driftAlone clock bytesK table after afterFrom loadLeaves noPlan readPlan readAs readFrom blank stepAt fieldAt fieldIn headerIn portInValue flowIn extraIn jitterIn clockIn number2 number4 sizeAt wholeAt valueAt numbers2 routePorts routeIn repeats every distinct elem store added closing firstFrom firstAbsent namesAbsent jitterAbsent extraAbsent checkAnswer slackAnswer validPlan validPort validFlow allTo anyTo sublist admissible failing lowestFailing lowest countTo fails crossed capacity window workload demand sumTo frames begun stretch ceilDiv wireBits slack
 tableOfDriftAlone = refl
 
@@ -96,14 +96,14 @@ tableMixed =
     ∷ at 227360 (result tt) (result (pos 0))
     ∷ []
 
-tableOfMixed : linesOf (after (load (apart ++ extra 1 32 ++ late1 ++ bytesK) ∷ [])) tableMixed ≡ tableMixed
+tableOfMixed : linesOf (after (load loose (apart ++ extra 1 32 ++ late1 ++ bytesK) ∷ [])) tableMixed ≡ tableMixed
 unfolding apart clock extra late1 jitter bytesK tableMixed after afterFrom loadLeaves noPlan readPlan readAs readFrom blank stepAt fieldAt fieldIn headerIn portInValue flowIn extraIn jitterIn clockIn number2 number4 sizeAt wholeAt valueAt numbers2 routePorts routeIn repeats every distinct elem store added closing firstFrom firstAbsent namesAbsent jitterAbsent extraAbsent checkAnswer slackAnswer validPlan validPort validFlow allTo anyTo sublist admissible failing lowestFailing lowest countTo fails crossed capacity window workload demand sumTo frames begun stretch ceilDiv wireBits slack
 tableOfMixed = refl
 
 -- 1,001 parts per million, 1,001 ns of timing jitter, and 1,000,001 ns of synchronization error; a second field after one that said
 -- 0; each at its tag
 refusals
-    : map loadAnswer
+    : map (loadAnswer loose)
     ((clock 0x03 0xe9 0x00 0x00 0x00 0x00 0x00 ++ bytesK)
     ∷ (clock 0x00 0x00 0x03 0xe9 0x00 0x00 0x00 ++ bytesK)
     ∷ (clock 0x00 0x00 0x00 0x00 0x0f 0x42 0x41 ++ bytesK)

@@ -11,7 +11,7 @@ use Rattle.plan.specs.Bytes.{number2, number4, sizeAt, wholeAt, valueAt, number
 use Rattle.plan.specs.Field.{routePorts, routeIn, headerIn, portInValue, flowIn, extraIn, jitterIn, clockIn, fieldIn, fieldAt, repeats}
 use Rattle.plan_reading.specs.Store.{store}
 use Rattle.plan_reading.specs.Draft.{blank, added}
-use Rattle.plan_reading.specs.Reading.{stepAt, namesAbsent, jitterAbsent, extraAbsent, firstFrom, firstAbsent, closing, readFrom, readAs, readPlan, accepted}
+use Rattle.plan_reading.specs.Reading.{stepAt, namesAbsent, jitterAbsent, extraAbsent, firstFrom, firstAbsent, closing, readFrom, readAs, readPlan, loose, accepted}
 use Rattle.loading.specs.Outcome.{result, refusal, loadAnswer, loadLeaves}
 use Rattle.planner.specs.Outcome.{checkAnswer, slackAnswer}
 use Rattle.planner.specs.Calls.{load, afterFrom, after}
@@ -37,8 +37,8 @@ table32 =
     ∷ at 227360 (result tt) (result (pos 0))
     ∷ []
 
-tableOf32 : linesOf (after (load (extra 1 32 ++ bytesK) ∷ [])) table32 ≡ table32
-unfolding extra bytesK table32 after afterFrom loadLeaves noPlan readPlan readAs readFrom blank stepAt fieldAt fieldIn headerIn portInValue flowIn extraIn jitterIn clockIn number2 number4 sizeAt wholeAt valueAt numbers2 routePorts routeIn repeats every distinct elem store added closing firstFrom firstAbsent namesAbsent jitterAbsent extraAbsent checkAnswer slackAnswer validPlan validPort validFlow allTo anyTo sublist admissible failing lowestFailing lowest countTo fails crossed capacity window workload demand sumTo frames begun stretch ceilDiv wireBits slack
+tableOf32 : linesOf (after (load loose (extra 1 32 ++ bytesK) ∷ [])) table32 ≡ table32
+unfolding extra bytesK _++_ table32 after afterFrom loadLeaves noPlan readPlan readAs readFrom blank stepAt fieldAt fieldIn headerIn portInValue flowIn extraIn jitterIn clockIn number2 number4 sizeAt wholeAt valueAt numbers2 routePorts routeIn repeats every distinct elem store added closing firstFrom firstAbsent namesAbsent jitterAbsent extraAbsent checkAnswer slackAnswer validPlan validPort validFlow allTo anyTo sublist admissible failing lowestFailing lowest countTo fails crossed capacity window workload demand sumTo frames begun stretch ceilDiv wireBits slack
 tableOf32 = refl
 
 -- flow 3 over port 3, which K does not have
@@ -47,7 +47,7 @@ flow3 = 0x03 ∷ 0x00 ∷ 0x0c ∷ 0x00 ∷ 0x03 ∷ 0x00 ∷ 0x01 ∷ 0x86 ∷ 
 
 -- 65 bytes, and a port 65; a second field of a port whose first said 0; an absent port, and a route of one before it; each at its tag
 refusals
-    : map loadAnswer
+    : map (loadAnswer loose)
     ((extra 1 65 ++ bytesK)
     ∷ (extra 65 0 ++ bytesK)
     ∷ (extra 1 0 ++ extra 1 32 ++ bytesK)

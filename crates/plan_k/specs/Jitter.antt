@@ -12,7 +12,7 @@ use Rattle.plan.specs.Bytes.{number2, number4, sizeAt, wholeAt, valueAt, number
 use Rattle.plan.specs.Field.{routePorts, routeIn, headerIn, portInValue, flowIn, extraIn, jitterIn, clockIn, fieldIn, fieldAt, repeats}
 use Rattle.plan_reading.specs.Store.{store}
 use Rattle.plan_reading.specs.Draft.{blank, added}
-use Rattle.plan_reading.specs.Reading.{stepAt, namesAbsent, jitterAbsent, extraAbsent, firstFrom, firstAbsent, closing, readFrom, readAs, readPlan, accepted}
+use Rattle.plan_reading.specs.Reading.{stepAt, namesAbsent, jitterAbsent, extraAbsent, firstFrom, firstAbsent, closing, readFrom, readAs, readPlan, loose, accepted}
 use Rattle.loading.specs.Outcome.{result, refusal, loadAnswer, loadLeaves}
 use Rattle.planner.specs.Outcome.{checkAnswer, slackAnswer}
 use Rattle.planner.specs.Calls.{load, afterFrom, after}
@@ -55,7 +55,7 @@ table1 =
     ∷ at 142000 (result tt) (result (pos 0))
     ∷ []
 
-tableOf1 : linesOf (after (load (late1 ++ bytesK) ∷ [])) table1 ≡ table1
+tableOf1 : linesOf (after (load loose (late1 ++ bytesK) ∷ [])) table1 ≡ table1
 unfolding late1 jitter bytesK table1 after afterFrom loadLeaves noPlan readPlan readAs readFrom blank stepAt fieldAt fieldIn headerIn portInValue flowIn extraIn jitterIn clockIn number2 number4 sizeAt wholeAt valueAt numbers2 routePorts routeIn repeats every distinct elem store added closing firstFrom firstAbsent namesAbsent jitterAbsent extraAbsent checkAnswer slackAnswer validPlan validPort validFlow allTo anyTo sublist admissible failing lowestFailing lowest countTo fails crossed capacity window workload demand sumTo frames begun stretch ceilDiv wireBits slack
 tableOf1 = refl
 
@@ -74,14 +74,14 @@ table2 =
     ∷ at 212000 (result tt) (result (pos 0))
     ∷ []
 
-tableOf2 : linesOf (after (load (late2 ++ bytesK) ∷ [])) table2 ≡ table2
+tableOf2 : linesOf (after (load loose (late2 ++ bytesK) ∷ [])) table2 ≡ table2
 unfolding late2 jitter bytesK table2 after afterFrom loadLeaves noPlan readPlan readAs readFrom blank stepAt fieldAt fieldIn headerIn portInValue flowIn extraIn jitterIn clockIn number2 number4 sizeAt wholeAt valueAt numbers2 routePorts routeIn repeats every distinct elem store added closing firstFrom firstAbsent namesAbsent jitterAbsent extraAbsent checkAnswer slackAnswer validPlan validPort validFlow allTo anyTo sublist admissible failing lowestFailing lowest countTo fails crossed capacity window workload demand sumTo frames begun stretch ceilDiv wireBits slack
 tableOf2 = refl
 
 -- 10,000,001 ns, and a flow 0; a second field of a flow whose first said 0; an absent flow, with extra bytes of an absent port before
 -- it and a route of one behind it; each at its tag
 refusals
-    : map loadAnswer
+    : map (loadAnswer loose)
     ((jitter 1 0x98 0x96 0x81 ++ bytesK)
     ∷ (jitter 0 0x00 0x00 0x00 ++ bytesK)
     ∷ (jitter 1 0x00 0x00 0x00 ++ late1 ++ bytesK)

@@ -5,3 +5,4 @@ pub mod Jitter
 pub mod Clock
 pub mod Lighter
 pub mod Order
+pub mod Strict

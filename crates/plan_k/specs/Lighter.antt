@@ -1,5 +1,5 @@
 -- The theorem of the lighter plan applied to plan K loaded in every respect and to a plan that is lighter in every respect at once,
--- both from their bytes, with what the two searches answer for each.
+-- both from their bytes, one loaded strictly and one loosely, with what the two searches answer for each.
 use mathlib.Core.Path.{_≡_, refl, ap, _∙_}
 use mathlib.Core.Bool.{true}
 use mathlib.Core.List.{List, [], _∷_}
@@ -17,7 +17,7 @@ use Rattle.plan.specs.Bytes.{number2, number4, sizeAt, wholeAt, valueAt, number
 use Rattle.plan.specs.Field.{routePorts, routeIn, headerIn, portInValue, flowIn, extraIn, jitterIn, clockIn, fieldIn, fieldAt, repeats}
 use Rattle.plan_reading.specs.Store.{store}
 use Rattle.plan_reading.specs.Draft.{blank, added}
-use Rattle.plan_reading.specs.Reading.{stepAt, namesAbsent, jitterAbsent, extraAbsent, firstFrom, firstAbsent, closing, readFrom, readAs, readPlan, accepted}
+use Rattle.plan_reading.specs.Reading.{stepAt, namesAbsent, jitterAbsent, extraAbsent, firstFrom, firstAbsent, closing, readFrom, readAs, loose, strict, accepted}
 use Rattle.loading.specs.Outcome.{result}
 use Rattle.planner.specs.Outcome.{leastAnswer, marginSafeAnswer}
 use Rattle.planner.specs.Calls.{load, after, heldFrom, heldBytes}
@@ -51,32 +51,32 @@ bytesLight =
     ∷ 0x06 ∷ 0x00 ∷ 0x0c ∷ 0x00 ∷ 0x00 ∷ 0x00 ∷ 0x32 ∷ 0x00 ∷ 0x00 ∷ 0x00 ∷ 0x01 ∷ 0x00 ∷ 0x00 ∷ 0x01 ∷ 0xf4
     ∷ []
 
--- both are accepted, and held after their loads
-readHeavy : readPlan bytesHeavy ≡ accepted planHeavy 1 2
-unfolding bytesHeavy planHeavy planK noPlan readPlan readAs readFrom blank stepAt fieldAt fieldIn headerIn portInValue flowIn extraIn jitterIn clockIn number2 number4 sizeAt wholeAt valueAt numbers2 routePorts routeIn repeats every distinct elem store added closing firstFrom firstAbsent namesAbsent jitterAbsent extraAbsent
+-- both are accepted, the one by the strict reading, and held after their loads
+readHeavy : readAs strict bytesHeavy ≡ accepted planHeavy 1 2
+unfolding bytesHeavy planHeavy planK noPlan readAs readFrom blank stepAt fieldAt fieldIn headerIn portInValue flowIn extraIn jitterIn clockIn number2 number4 sizeAt wholeAt valueAt numbers2 routePorts routeIn repeats every distinct elem store added closing firstFrom firstAbsent namesAbsent jitterAbsent extraAbsent
 readHeavy = refl
 
-readLight : readPlan bytesLight ≡ accepted planLight 1 1
-unfolding bytesLight planLight noPlan readPlan readAs readFrom blank stepAt fieldAt fieldIn headerIn portInValue flowIn extraIn jitterIn clockIn number2 number4 sizeAt wholeAt valueAt numbers2 routePorts routeIn repeats every distinct elem store added closing firstFrom firstAbsent namesAbsent jitterAbsent extraAbsent
+readLight : readAs loose bytesLight ≡ accepted planLight 1 1
+unfolding bytesLight planLight noPlan readAs readFrom blank stepAt fieldAt fieldIn headerIn portInValue flowIn extraIn jitterIn clockIn number2 number4 sizeAt wholeAt valueAt numbers2 routePorts routeIn repeats every distinct elem store added closing firstFrom firstAbsent namesAbsent jitterAbsent extraAbsent
 readLight = refl
 
-heldHeavy : heldBytes (load bytesHeavy ∷ []) ≡ some bytesHeavy
+heldHeavy : heldBytes (load strict bytesHeavy ∷ []) ≡ some bytesHeavy
 unfolding heldBytes heldFrom
 heldHeavy = rw readHeavy
 
-heldLight : heldBytes (load bytesLight ∷ []) ≡ some bytesLight
+heldLight : heldBytes (load loose bytesLight ∷ []) ≡ some bytesLight
 unfolding heldBytes heldFrom
 heldLight = rw readLight
 
-afterHeavy : after (load bytesHeavy ∷ []) ≡ planHeavy
-afterHeavy = after-held (load bytesHeavy ∷ []) bytesHeavy heldHeavy planHeavy 1 2 readHeavy
+afterHeavy : after (load strict bytesHeavy ∷ []) ≡ planHeavy
+afterHeavy = after-held (load strict bytesHeavy ∷ []) strict bytesHeavy heldHeavy planHeavy 1 2 readHeavy
 
-afterLight : after (load bytesLight ∷ []) ≡ planLight
-afterLight = after-held (load bytesLight ∷ []) bytesLight heldLight planLight 1 1 readLight
+afterLight : after (load loose bytesLight ∷ []) ≡ planLight
+afterLight = after-held (load loose bytesLight ∷ []) loose bytesLight heldLight planLight 1 1 readLight
 
-noWorse : AnswersNoWorse (after (load bytesLight ∷ [])) (after (load bytesHeavy ∷ []))
+noWorse : AnswersNoWorse (after (load loose bytesLight ∷ [])) (after (load strict bytesHeavy ∷ []))
 noWorse =
-    lighter-answers (load bytesHeavy ∷ []) (load bytesLight ∷ []) bytesHeavy bytesLight planHeavy planLight 1 2 1 1 heldHeavy readHeavy heldLight readLight
+    lighter-answers (load strict bytesHeavy ∷ []) (load loose bytesLight ∷ []) strict loose bytesHeavy bytesLight planHeavy planLight 1 2 1 1 heldHeavy readHeavy heldLight readLight
     lighter-K
 
 -- what the searches answer where these are the durations that they look for
@@ -99,13 +99,13 @@ answers {tables} {p} scratch same valid l m most safe long = (
 answersHeavy
     : (scratch : List ℕ)
     → portSlots ≤ length scratch
-    → (leastAnswer (after (load bytesHeavy ∷ [])) scratch ≡ result 56920) × (marginSafeAnswer (after (load bytesHeavy ∷ [])) scratch ≡ result 79480)
+    → (leastAnswer (after (load strict bytesHeavy ∷ [])) scratch ≡ result 56920) × (marginSafeAnswer (after (load strict bytesHeavy ∷ [])) scratch ≡ result 79480)
 unfolding planHeavy planK
 answersHeavy scratch long = answers scratch afterHeavy valid-heavy least-heavy margin-safe-heavy (lit≤ tt) (lit≤ tt) long
 
 answersLight
     : (scratch : List ℕ)
     → portSlots ≤ length scratch
-    → (leastAnswer (after (load bytesLight ∷ [])) scratch ≡ result 14019) × (marginSafeAnswer (after (load bytesLight ∷ [])) scratch ≡ result 14019)
+    → (leastAnswer (after (load loose bytesLight ∷ [])) scratch ≡ result 14019) × (marginSafeAnswer (after (load loose bytesLight ∷ [])) scratch ≡ result 14019)
 unfolding planLight
 answersLight scratch long = answers scratch afterLight valid-light least-light margin-safe-light (lit≤ tt) (lit≤ tt) long

@@ -11,7 +11,7 @@ use Rattle.plan.specs.Bytes.{number2, number4, sizeAt, wholeAt, valueAt, number
 use Rattle.plan.specs.Field.{routePorts, routeIn, headerIn, portInValue, flowIn, extraIn, jitterIn, clockIn, fieldIn, fieldAt, repeats}
 use Rattle.plan_reading.specs.Store.{store}
 use Rattle.plan_reading.specs.Draft.{blank, added}
-use Rattle.plan_reading.specs.Reading.{stepAt, namesAbsent, jitterAbsent, extraAbsent, firstFrom, firstAbsent, closing, readFrom, readAs, readPlan}
+use Rattle.plan_reading.specs.Reading.{stepAt, namesAbsent, jitterAbsent, extraAbsent, firstFrom, firstAbsent, closing, readFrom, readAs, readPlan, loose}
 use Rattle.plan_reading.specs.FieldOrder.{IsField, AllFields, none, more, SameFields}
 use Rattle.planner.specs.Calls.{load, after, heldFrom, heldBytes}
 use Rattle.planner.specs.Reply.{SameAnswers}
@@ -70,9 +70,9 @@ sameFieldsK =
       permuted = permuted;
     }
 
-heldReordered : heldBytes (load bytesReordered ∷ []) ≡ some bytesReordered
+heldReordered : heldBytes (load loose bytesReordered ∷ []) ≡ some bytesReordered
 unfolding bytesReordered noPlan heldBytes heldFrom readPlan readAs readFrom blank stepAt fieldAt fieldIn headerIn portInValue flowIn extraIn jitterIn clockIn number2 number4 sizeAt wholeAt valueAt numbers2 routePorts routeIn repeats every distinct elem store added closing firstFrom firstAbsent namesAbsent jitterAbsent extraAbsent
 heldReordered = refl
 
-sameAnswersK : SameAnswers (after (load bytesK ∷ [])) (after (load bytesReordered ∷ []))
-sameAnswersK = order-free (load bytesK ∷ []) (load bytesReordered ∷ []) bytesK bytesReordered heldK heldReordered sameFieldsK
+sameAnswersK : SameAnswers (after (load loose bytesK ∷ [])) (after (load loose bytesReordered ∷ []))
+sameAnswersK = order-free (load loose bytesK ∷ []) (load loose bytesReordered ∷ []) bytesK bytesReordered heldK heldReordered sameFieldsK

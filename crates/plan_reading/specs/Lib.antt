@@ -1,10 +1,14 @@
 -- The reading of a whole plan (document 01): what a field of each kind gives, stores and repeats, and the walk over the fields.
 pub mod Kind
 pub mod Key
+pub mod Rank
 pub mod Put
 pub mod Store
 pub mod Draft
 pub mod Reading
 pub mod FieldOrder
+pub mod Strict
+pub mod FieldBytes
 pub mod Ranges
 pub mod laws
+pub mod StrictTheorem

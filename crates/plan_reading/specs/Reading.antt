@@ -1,4 +1,5 @@
 -- The reading of a whole plan: fields from the front, each tested for 2 to 7; then 8, then 9; the first found is answered.
+-- Test 12, of the strict reading only, comes between 6 and 7.
 use Prim.Native.Nat.{ℕ, zero, suc, _+_}
 use mathlib.Core.List.{List, _∷_}
 use mathlib.Core.Bool.{Bool, true, false, cond, not, _&&_, _||_}
@@ -8,8 +9,8 @@ use Rattle.cqf.specs.Bounded.{within, every}
 use Rattle.cqf.specs.Limits.{flowOk}
 use Rattle.cqf.specs.Plan.{Plan, portIn}
 use Rattle.plan.specs.Bytes.{number2, headSize, tagAt, sizeAt, wholeAt, valueAt}
-use Rattle.plan.specs.Field.{FieldRead, field, refused, flowTag, extraTag, jitterTag, fieldAt, routeIn}
-use Rattle.plan_reading.specs.Key.{headerKey}
+use Rattle.plan.specs.Field.{Field, FieldRead, field, refused, flowTag, extraTag, jitterTag, fieldAt, routeIn}
+use Rattle.plan_reading.specs.Key.{headerKey, keyOf}
 use Rattle.plan_reading.specs.Draft.{Draft, blank, hasKey, taken, fieldRepeats, added}
 
 -- a plan has 1 to 16,384 bytes
@@ -21,30 +22,38 @@ pub data PlanRead : Type 0 where
   accepted : Plan → (ports flows : ℕ) → PlanRead
   rejected : (number offset : ℕ) → PlanRead
 
--- how the fields are read: loose, in any order
+-- how the fields are read: loose, in any order, or strict, in the one of their tags and numbers
 pub data Mode : Type 0 where
   loose : Mode
+  strict : Mode
 
--- one field: refused, or read with the offset after it
+-- one field: refused, or read with the offset after it and its key
 pub data Step : Type 0 where
   stop : (number offset : ℕ) → Step
-  more : ℕ → Draft → Step
+  more : (next key : ℕ) → Draft → Step
 
 -- the ports of the route in the field at this offset
 abbrev pub routeAt : List ℕ → ℕ → List ℕ
 routeAt s at = routeIn (valueAt s at)
 
--- tests 6 and 7 of a field that passed 2 to 5
-abbrev pub fieldStep : Mode → List ℕ → ℕ → Draft → FieldRead → Step
-fieldStep mode s at d (refused number offset) = stop number offset
-fieldStep mode s at d (field x next) =
-    cond (taken d x) (stop 6 at)
-    (cond (fieldRepeats x (routeAt s at)) (stop 7 at)
-    (more next (added d x (routeAt s at))))
+-- test 12: a field that should have stood earlier, last being the key of the field in front of it (0 for the first). Keys
+-- rise with tags and numbers.
+abbrev pub late : Mode → ℕ → Field → Bool
+late loose last x = false
+late strict last x = ltb (keyOf x) last
 
-unfoldable pub stepAt : Mode → List ℕ → ℕ → Draft → Step
+-- tests 6, 12 and 7 of a field that passed 2 to 5
+abbrev pub fieldStep : Mode → List ℕ → (at last : ℕ) → Draft → FieldRead → Step
+fieldStep mode s at last d (refused number offset) = stop number offset
+fieldStep mode s at last d (field x next) =
+    cond (taken d x) (stop 6 at)
+    (cond (late mode last x) (stop 12 at)
+    (cond (fieldRepeats x (routeAt s at)) (stop 7 at)
+    (more next (keyOf x) (added d x (routeAt s at)))))
+
+unfoldable pub stepAt : Mode → List ℕ → (at last : ℕ) → Draft → Step
 unfolding fieldAt
-stepAt mode s at d = fieldStep mode s at d (fieldAt s at)
+stepAt mode s at last d = fieldStep mode s at last d (fieldAt s at)
 
 -- the offset of the first whole field in the bytes, from this offset on, that is sought; the plan's length where none is.
 -- The first number bounds how many fields are looked at: the plan's length is enough.
@@ -101,21 +110,26 @@ closing s d =
     (rejected 9 (firstAbsent (d .tables .rates) (d .tables .periods) s))
     (accepted (d .tables) (d .ports) (d .flows)))
 
--- the fields from this offset on. The first number bounds how many are read: the plan's length is enough.
-unfoldable pub readFrom : Mode → ℕ → List ℕ → ℕ → Draft → PlanRead
+-- the fields from this offset on, last being the key of the one in front of it. The first number bounds how many are read: the
+-- plan's length is enough.
+unfoldable pub readFrom : Mode → ℕ → List ℕ → (at last : ℕ) → Draft → PlanRead
 unfolding stepAt closing
-readFrom mode zero s at d = closing s d
-readFrom mode (suc n) s at d =
+readFrom mode zero s at last d = closing s d
+readFrom mode (suc n) s at last d =
     elim (ltb at (length s)) [
-      | true ↦ elim (stepAt mode s at d) [ stop number offset ↦ rejected number offset | more next d′ ↦ readFrom mode n s next d′ ]
+      | true ↦
+          elim (stepAt mode s at last d) [
+            | stop number offset ↦ rejected number offset
+            | more next key d′ ↦ readFrom mode n s next key d′
+          ]
       | false ↦ closing s d
     ]
 
 unfoldable pub readAs : Mode → List ℕ → PlanRead
 unfolding readFrom blank
-readAs mode s = elim (within 1 maxBytes (length s)) [ true ↦ readFrom mode (length s) s 0 blank | false ↦ rejected 1 0 ]
+readAs mode s = elim (within 1 maxBytes (length s)) [ true ↦ readFrom mode (length s) s 0 0 blank | false ↦ rejected 1 0 ]
 
--- the reading of a load
+-- the loose reading
 unfoldable pub readPlan : List ℕ → PlanRead
 unfolding readAs
 readPlan s = readAs loose s

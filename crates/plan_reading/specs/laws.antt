@@ -1,10 +1,11 @@
--- Laws of the walk over the fields, and what an accepted plan is.
+-- Laws of the walk over the fields, what an accepted plan is, and the strict reading.
 pub mod Within
 pub mod Stores
 pub mod Passes
 pub mod Walk
 pub mod First
 pub mod Kinds
+pub mod Ranks
 pub mod Puts
 pub mod Tables
 pub mod Slots
@@ -17,6 +18,16 @@ pub mod Order
 pub mod Zero
 pub mod Found
 pub mod Steps
+pub mod Onward
 pub mod Absent
 pub mod Closing
 pub mod PlanLength
+pub mod Refusals
+pub mod Late
+pub mod Strictly
+pub mod OutOfOrder
+pub mod Rows
+pub mod InOrder
+pub mod Encoded
+pub mod Content
+pub mod Written

@@ -3,7 +3,7 @@ use Prim.Native.Nat.{ℕ}
 use mathlib.Core.List.{List, [], _∷_}
 use mathlib.Core.Option.{Option, none, some}
 use Rattle.cqf.specs.Plan.{Plan, noPlan}
-use Rattle.plan_reading.specs.Reading.{PlanRead, accepted, rejected, readPlan}
+use Rattle.plan_reading.specs.Reading.{PlanRead, accepted, rejected, Mode, readAs}
 use Rattle.loading.specs.Outcome.{loadLeaves}
 
 -- a question, with what it is given; the two searches are lent a scratch
@@ -13,13 +13,14 @@ pub data Question : Type 0 where
   least : (scratch : List ℕ) → Question
   marginSafe : (scratch : List ℕ) → Question
 
+-- a load says in which reading
 pub data Call : Type 0 where
-  load : (bytes : List ℕ) → Call
+  load : (mode : Mode) (bytes : List ℕ) → Call
   ask : Question → Call
 
 -- the plan held after a call: a question leaves it
 abbrev pub leaves : Plan → Call → Plan
-leaves p (load s) = loadLeaves p s
+leaves p (load mode s) = loadLeaves mode p s
 leaves p (ask x) = p
 
 unfoldable pub afterFrom : Plan → List Call → Plan
@@ -32,17 +33,17 @@ unfoldable pub after : List Call → Plan
 unfolding afterFrom noPlan
 after calls = afterFrom noPlan calls
 
--- the bytes of the last load in which the rules find no refusal
+-- the bytes of the last load in which the rules of its reading find no refusal
 abbrev pub accepting : Option (List ℕ) → List ℕ → PlanRead → Option (List ℕ)
 accepting held s (accepted p ports flows) = some s
 accepting held s (rejected number offset) = held
 
 abbrev pub keeping : Option (List ℕ) → Call → Option (List ℕ)
-keeping held (load s) = accepting held s (readPlan s)
+keeping held (load mode s) = accepting held s (readAs mode s)
 keeping held (ask x) = held
 
 unfoldable pub heldFrom : Option (List ℕ) → List Call → Option (List ℕ)
-unfolding readPlan
+unfolding readAs
 heldFrom held [] = held
 heldFrom held (c ∷ cs) = heldFrom (keeping held c) cs
 

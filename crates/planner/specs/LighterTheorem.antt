@@ -12,7 +12,8 @@ use Rattle.cqf.specs.Plan.{Plan, validPlan}
 use Rattle.cqf.specs.Condition.{least, marginSafe}
 use Rattle.cqf.specs.Lighter.{Lighter}
 use Rattle.cqf.specs.LighterTheorem.{no-worse}
-use Rattle.plan_reading.specs.Reading.{accepted, readPlan}
+use Rattle.plan_reading.specs.Reading.{accepted, Mode, readAs}
+use Rattle.plan_reading.specs.StrictTheorem.{read-loosely}
 use Rattle.plan_reading.specs.laws.Valid.{accepted-valid}
 use Rattle.planner.specs.Outcome.{searched, leastAnswer, marginSafeAnswer}
 use Rattle.planner.specs.Calls.{Call, after, heldBytes}
@@ -50,15 +51,18 @@ module _ (second first : Plan) (valid-second : validPlan second ≡ true) where
           marginSafes = search-no-worse 23 marginSafe (h .marginSafes);
         }
 
--- of the plans in the bytes of the last load of each sequence in which the rules find no refusal
+-- of the plans in the bytes of the last load of each sequence in which the rules of its reading find no refusal
 pub lighter-answers
-    : (calls others : List Call) (s t : List ℕ) (first second : Plan) (ports flows otherPorts otherFlows : ℕ)
+    : (calls others : List Call) (mode mode' : Mode) (s t : List ℕ) (first second : Plan) (ports flows otherPorts otherFlows : ℕ)
     → heldBytes calls ≡ some s
-    → readPlan s ≡ accepted first ports flows
+    → readAs mode s ≡ accepted first ports flows
     → heldBytes others ≡ some t
-    → readPlan t ≡ accepted second otherPorts otherFlows
+    → readAs mode' t ≡ accepted second otherPorts otherFlows
     → Lighter second first
     → AnswersNoWorse (after others) (after calls)
-lighter-answers calls others s t first second m n m' n' held reads kept reads' lighter =
-    rw (after-held calls s held first m n reads, after-held others t kept second m' n' reads')
-    (answers-no-worse second first (accepted-valid t second m' n' reads') (accepted-valid s first m n reads) lighter)
+lighter-answers calls others mode mode' s t first second m n m' n' held reads kept reads' lighter =
+    rw (after-held calls mode s held first m n reads, after-held others mode' t kept second m' n' reads')
+    (answers-no-worse second first
+    (accepted-valid t second m' n' (read-loosely mode' t second m' n' reads'))
+    (accepted-valid s first m n (read-loosely mode s first m n reads))
+    lighter)

@@ -6,7 +6,7 @@ use mathlib.Core.Option.{some}
 use Prim.Native.Nat.{ℕ, _≤_}
 use Rattle.cqf.specs.Plan.{Plan}
 use Rattle.cqf.specs.LargeEnough.{Counterexample, AllOnTime}
-use Rattle.plan_reading.specs.Reading.{accepted, readPlan}
+use Rattle.plan_reading.specs.Reading.{accepted, Mode, readAs}
 use Rattle.loading.specs.Outcome.{Answer, result, refusal}
 use Rattle.planner.specs.Calls.{Call, after, heldBytes}
 
@@ -25,13 +25,13 @@ pub record Means (p : Plan) (T : ℕ) (refuses accepts : Type 0) : Type 0 where
   pub on-time : accepts → AllOnTime p T
 
 -- the same after every sequence of calls that leaves the planner at these tables: the plan is the one in the bytes of the last
--- load in which the rules find no refusal, and T is from 1 to its top
+-- load in which the rules of its reading find no refusal, and T is from 1 to its top
 abbrev pub MeansHeld : Plan → ℕ → (refuses accepts : Type 0) → Type 0
 MeansHeld tables T refuses accepts =
-    (calls : List Call) (bytes : List ℕ) (p : Plan) (ports flows : ℕ)
+    (calls : List Call) (mode : Mode) (bytes : List ℕ) (p : Plan) (ports flows : ℕ)
     → tables ≡ after calls
     → heldBytes calls ≡ some bytes
-    → readPlan bytes ≡ accepted p ports flows
+    → readAs mode bytes ≡ accepted p ports flows
     → 1 ≤ T
     → T ≤ p .top
     → Means p T refuses accepts

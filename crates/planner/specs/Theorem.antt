@@ -16,6 +16,7 @@ use Rattle.cqf.specs.laws.Longer.{longer}
 use Rattle.plan_reading.specs.FieldOrder.{SameFields}
 use Rattle.plan_reading.specs.Reading.{accepted, readPlan}
 use Rattle.plan_reading.specs.laws.Order.{field-order}
+use Rattle.plan_reading.specs.StrictTheorem.{read-loosely}
 use Rattle.plan_reading.specs.laws.Valid.{accepted-valid}
 use Rattle.loading.specs.Outcome.{Answer, result}
 use Rattle.planner.specs.Outcome.{failingAt, checkAnswer}
@@ -80,11 +81,12 @@ accepted-longer s p ports flows reads T low high answer =
 
 -- of the plain question's own answer (document 01: demand 3)
 pub check-means : (tables : Plan) (T : ℕ) → CheckMeans tables T (checkAnswer tables T)
-check-means tables T calls bytes p ports flows left held reads low high =
-    let valid : validPlan p ≡ true = accepted-valid bytes p ports flows reads in
-    let same : tables ≡ p = left ∙ after-held calls bytes held p ports flows reads in
+check-means tables T calls mode bytes p ports flows left held reads low high =
+    let loosely = read-loosely mode bytes p ports flows reads in
+    let valid : validPlan p ≡ true = accepted-valid bytes p ports flows loosely in
+    let same : tables ≡ p = left ∙ after-held calls mode bytes held p ports flows reads in
     let ranged : within 1 (p .top) T ≡ true = rw (le-leb 1 T low, le-leb T (p .top) high) in
-    rw (same, check-within p T valid ranged) (plain-means p T (accepted-large-enough bytes p ports flows reads T low high))
+    rw (same, check-within p T valid ranged) (plain-means p T (accepted-large-enough bytes p ports flows loosely T low high))
 
 -- two sequences of calls whose last accepted plans have the same fields, in any order, leave planners that answer alike
 pub order-free

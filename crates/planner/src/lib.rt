@@ -14,6 +14,8 @@ mod seek;
 pub use loading::LoadAnswer;
 pub use loading::LoadOutcome;
 pub use loading::load;
+pub use loading::load_strict;
+pub use loading::read_plan;
 pub use number::check_number;
 pub use number::least_number;
 pub use number::load_number;

@@ -11,6 +11,7 @@ struct LoadOutcome {
 extern "C" {
     fn cp_empty() -> Planner;
     fn cp_load(planner: Planner, plan: *const u8, length: usize) -> LoadOutcome;
+    fn cp_load_strict(planner: Planner, plan: *const u8, length: usize) -> LoadOutcome;
     fn cp_check(planner: Planner, duration: u64) -> Answer;
     fn cp_slack(planner: Planner, port: u64, duration: u64) -> SlackAnswer;
     fn cp_least(planner: Planner, scratch: *mut u64, length: usize) -> Answer;
@@ -25,6 +26,11 @@ pub fn empty() -> Planner {
 
 pub fn load(planner: &Planner, plan: &[u8]) -> (Planner, Answer) {
     let outcome = unsafe { cp_load(planner.clone(), plan.as_ptr(), plan.len()) };
+    (outcome.planner, outcome.answer)
+}
+
+pub fn load_strict(planner: &Planner, plan: &[u8]) -> (Planner, Answer) {
+    let outcome = unsafe { cp_load_strict(planner.clone(), plan.as_ptr(), plan.len()) };
     (outcome.planner, outcome.answer)
 }
 

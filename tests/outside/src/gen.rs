@@ -1,12 +1,14 @@
 //! Plans by chance, from a seed: good ones of several kinds.
 
 pub mod damage;
+pub mod few;
 pub mod fit;
 pub mod kinds;
 pub mod laden;
 mod later;
 pub mod lighter;
 pub mod sized;
+pub mod strict;
 
 use crate::rng::Rng;
 
@@ -63,6 +65,19 @@ impl Piece {
             Piece::Raw(raw) => bytes.extend(raw),
         }
         bytes
+    }
+}
+
+/// The tag of a field, 0 for raw bytes.
+pub fn tag_of(piece: &Piece) -> u8 {
+    match piece {
+        Piece::Raw(_) => 0,
+        Piece::Header { .. } => 1,
+        Piece::Port { .. } => 2,
+        Piece::Flow { .. } => 3,
+        Piece::Extra { .. } => 4,
+        Piece::Jitter { .. } => 5,
+        Piece::Clocks { .. } => 6,
     }
 }
 

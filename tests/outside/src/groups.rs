@@ -16,6 +16,8 @@ pub mod questions;
 pub mod rows;
 pub mod runs;
 pub mod searches;
+pub mod strict;
+mod strict_k;
 mod worked;
 
 use crate::answers::Planner;

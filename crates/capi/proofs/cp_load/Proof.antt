@@ -5,14 +5,17 @@ use Rattle.capi.specs.Numbers.{loadNumbers}
 use Rattle.capi.proofs.cp_load.Statement.{statement}
 use Rattle.capi.proofs.cp_load.Tie as tie
 
-load-requires : tie.Need-load-requires
-load-requires c κs = search needs
+read-plan-requires : tie.Need-read-plan-requires
+read-plan-requires c κs = search needs
 
-load-numbers-requires : tie.Need-load-numbers-requires
-load-numbers-requires c κs = search needs
+outcome-numbers-requires : tie.Need-outcome-numbers-requires
+outcome-numbers-requires c κs = search needs
 
 returns : tie.Need-returns
-returns c = (c .before .before .load .ensures .leaves, c .load-numbers .ensures ∙ ap loadNumbers (c .before .before .load .ensures .answers))
+returns c =
+    let told = c .outcome-numbers .ensures in
+    let outcome = c .before .read-plan .ensures in
+    (told .0 ∙ outcome .leaves, told .1 ∙ ap loadNumbers (outcome .answers))
 
 pub cp-load-spec : {M : Type 1} → statement M
-cp-load-spec = tie.close (tie.spec load-requires load-numbers-requires returns)
+cp-load-spec = tie.close (tie.spec read-plan-requires outcome-numbers-requires returns)

@@ -61,5 +61,5 @@ module _ (answer : CheckAnswer) (numbers : AnswerNumbers) (is : numbers ≡ chec
   accepting = (λ e. number ∙ ap numberOf e, λ e. accepts answer (sym number ∙ e))
 
   pub check-numbers-mean : (p : Plan) (T : ℕ) → CheckMeans p T (checkOf answer) → CheckNumbersMean p T numbers
-  check-numbers-mean p T means calls bytes q ports flows left held read low high =
-      means-iff refusing accepting (means calls bytes q ports flows left held read low high)
+  check-numbers-mean p T means calls mode bytes q ports flows left held read low high =
+      means-iff refusing accepting (means calls mode bytes q ports flows left held read low high)

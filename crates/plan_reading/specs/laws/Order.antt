@@ -20,17 +20,17 @@ module _ (front b rest : List ℕ) (is : IsField b) where
   byte-inside : (i j : ℕ) → i < length b → j ≡ length front + i → getD (front ++ (b ++ rest)) j 0 ≡ getD b i 0
   byte-inside i j l e = rw e (getD-append-add front (b ++ rest) i 0 ∙ List·getD-append b rest 0 i l)
 
-  tag-inside : tagAt (front ++ (b ++ rest)) (length front) ≡ tagAt b 0
+  pub tag-inside : tagAt (front ++ (b ++ rest)) (length front) ≡ tagAt b 0
   tag-inside = byte-inside 0 (length front) (omega (arith, is .headed)) (omega arith)
 
-  size-inside : sizeAt (front ++ (b ++ rest)) (length front) ≡ sizeAt b 0
+  pub size-inside : sizeAt (front ++ (b ++ rest)) (length front) ≡ sizeAt b 0
   unfolding sizeAt
   size-inside =
       let high = byte-inside 1 (length front + 1) (omega (arith, is .headed)) (omega arith) in
       let low = byte-inside 2 (length front + 1 + 1) (omega (arith, is .headed)) (omega arith) in
       rw (high, low)
 
-  value-inside : valueAt (front ++ (b ++ rest)) (length front) ≡ valueAt b 0
+  pub value-inside : valueAt (front ++ (b ++ rest)) (length front) ≡ valueAt b 0
   unfolding valueAt
   value-inside =
       let fits : sizeAt b 0 ≤ length (drop headSize b) = omega (arith, length-drop headSize b, is .whole) in

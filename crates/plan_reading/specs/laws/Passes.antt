@@ -13,17 +13,11 @@ use Rattle.cqf.specs.Plan.{clockOk}
 use Rattle.plan.specs.Bytes.{number2, number4, headSize, tagAt, sizeAt, wholeAt, valueAt}
 use Rattle.plan.specs.Field.{Field, header, port, flow, extra, jitter, clock, FieldRead, field, refused, unless, headerTag, portTag, flowTag, extraTag, jitterTag, clockTag, headerSize, portSize, flowSize, extraSize, jitterSize, clockSize, hopsIn, routeIn, headerIn, portInValue, flowIn, extraIn, jitterIn, clockNumbers, clockIn, fieldIn, fieldAt}
 use Rattle.plan_reading.specs.Ranges.{NumbersOk, RouteFits}
+use Rattle.plan_reading.specs.Rank.{tagOf}
+use Rattle.plan_reading.specs.FieldBytes.{sizeOf}
 use Rattle.plan.specs.laws.Route.{value-hops}
 
--- the tag of a field, and the field whose numbers stand in a value of this tag
-abbrev pub tagOf : Field → ℕ
-tagOf (header g t) = headerTag
-tagOf (port n r b) = portTag
-tagOf (flow n p c l h) = flowTag
-tagOf (extra n b) = extraTag
-tagOf (jitter n j) = jitterTag
-tagOf (clock k) = clockTag
-
+-- the field whose numbers stand in a value of this tag
 abbrev numbersIn : ℕ → List ℕ → Field
 numbersIn tag v =
     cond (eqb tag headerTag) (header (number4 v 0) (number4 v 4))
@@ -37,6 +31,7 @@ numbersIn tag v =
 pub record Passes (tag : ℕ) (v : List ℕ) (x : Field) : Type 0 where
   pub kind : tag ≡ tagOf x
   pub numbers : numbersIn tag v ≡ x
+  pub size : length v ≡ sizeOf x
   pub ok : NumbersOk x
   pub route : RouteFits x (routeIn v)
 
@@ -97,7 +92,7 @@ module _ (tag : ℕ) (v : List ℕ) (at after : ℕ) {x : Field} {next : ℕ} wh
       let b = unless-passes 5 at (guardOk (number4 v 0) && topOk (number4 v 4)) _ (a .1) in
       let t = and-eq-true-iff (guardOk (number4 v 0)) (topOk (number4 v 4)) .0 (b .0) in
       read-as tag v after (header (number4 v 0) (number4 v 4))
-      (record { kind = k; numbers = rw k; ok = record { guard = t .0; top = t .1 }; route = tt })
+      (record { kind = k; numbers = rw k; size = eqb-true _ _ (a .0); ok = record { guard = t .0; top = t .1 }; route = tt })
       (b .1)
 
   port-read : tag ≡ portTag → portInValue v at after ≡ field x next → Read tag v after x next
@@ -107,7 +102,7 @@ module _ (tag : ℕ) (v : List ℕ) (at after : ℕ) {x : Field} {next : ℕ} wh
       let b = unless-passes 5 at (portOk (number2 v 0) && rateOk (number4 v 2) && blockingOk (number2 v 6)) _ (a .1) in
       let t = and-three (portOk (number2 v 0)) (rateOk (number4 v 2)) (blockingOk (number2 v 6)) (b .0) in
       read-as tag v after (port (number2 v 0) (number4 v 2) (number2 v 6))
-      (record { kind = k; numbers = rw k; ok = record { number = t .0; rate = t .1; blocking = t .2 }; route = tt })
+      (record { kind = k; numbers = rw k; size = eqb-true _ _ (a .0); ok = record { number = t .0; rate = t .1; blocking = t .2 }; route = tt })
       (b .1)
 
   flow-read : tag ≡ flowTag → flowIn v at after ≡ field x next → Read tag v after x next
@@ -124,6 +119,7 @@ module _ (tag : ℕ) (v : List ℕ) (at after : ℕ) {x : Field} {next : ℕ} wh
       (record {
         kind = k;
         numbers = rw k;
+        size = eqb-true _ _ (and-eq-true-iff (hopsOk (hopsIn (length v))) _ .0 (a .0) .1);
         ok = record { number = t .0; period = t .1; count = t .2; length = t .3; hops = and-eq-true-iff _ _ .0 (a .0) .0 };
         route = record { hops = value-hops v; ports = t .4 };
       })
@@ -136,7 +132,7 @@ module _ (tag : ℕ) (v : List ℕ) (at after : ℕ) {x : Field} {next : ℕ} wh
       let b = unless-passes 5 at (portOk (number2 v 0) && extraOk (number2 v 2)) _ (a .1) in
       let t = and-eq-true-iff (portOk (number2 v 0)) (extraOk (number2 v 2)) .0 (b .0) in
       read-as tag v after (extra (number2 v 0) (number2 v 2))
-      (record { kind = k; numbers = rw k; ok = record { number = t .0; bytes = t .1 }; route = tt })
+      (record { kind = k; numbers = rw k; size = eqb-true _ _ (a .0); ok = record { number = t .0; bytes = t .1 }; route = tt })
       (b .1)
 
   jitter-read : tag ≡ jitterTag → jitterIn v at after ≡ field x next → Read tag v after x next
@@ -146,7 +142,7 @@ module _ (tag : ℕ) (v : List ℕ) (at after : ℕ) {x : Field} {next : ℕ} wh
       let b = unless-passes 5 at (flowOk (number2 v 0) && jitterOk (number4 v 2)) _ (a .1) in
       let t = and-eq-true-iff (flowOk (number2 v 0)) (jitterOk (number4 v 2)) .0 (b .0) in
       read-as tag v after (jitter (number2 v 0) (number4 v 2))
-      (record { kind = k; numbers = rw k; ok = record { number = t .0; ns = t .1 }; route = tt })
+      (record { kind = k; numbers = rw k; size = eqb-true _ _ (a .0); ok = record { number = t .0; ns = t .1 }; route = tt })
       (b .1)
 
   clock-read : tag ≡ clockTag → clockIn v at after ≡ field x next → Read tag v after x next
@@ -154,7 +150,7 @@ module _ (tag : ℕ) (v : List ℕ) (at after : ℕ) {x : Field} {next : ℕ} wh
   clock-read k e =
       let a = unless-passes 4 at (eqb (length v) clockSize) _ e in
       let b = unless-passes 5 at (clockOk (clockNumbers v)) _ (a .1) in
-      read-as tag v after (clock (clockNumbers v)) (record { kind = k; numbers = rw k; ok = b .0; route = tt }) (b .1)
+      read-as tag v after (clock (clockNumbers v)) (record { kind = k; numbers = rw k; size = eqb-true _ _ (a .0); ok = b .0; route = tt }) (b .1)
 
   unknown : refused 3 at ≡ field x next → Read tag v after x next
   unknown e = let z : _≡_ {A = ℕ} 0 1 = cc in absurd (omega arith)

@@ -36,7 +36,7 @@ stored-once {f = f} (next {b = b} {bs = bs} {d = d} x k fresh rest) (next y m _ 
 abbrev pub Flagged : Draft → Type 0
 Flagged d = length (d .seen) ≡ keySlots
 
-added-flagged : (d : Draft) (x : Field) (r : List ℕ) → Flagged d → Flagged (added d x r)
+pub added-flagged : (d : Draft) (x : Field) (r : List ℕ) → Flagged d → Flagged (added d x r)
 unfolding added
 added-flagged d x r s = length-set (d .seen) (keyOf x) 1 ∙ s
 

@@ -13,7 +13,8 @@ use Rattle.plan.specs.Field.{Field, field, fieldAt}
 use Rattle.plan_reading.specs.Key.{headerKey}
 use Rattle.plan_reading.specs.Draft.{Draft, blank, hasKey, taken, fieldRepeats, added}
 use Rattle.plan_reading.specs.Reading.{PlanRead, accepted, rejected, Mode, loose, Step, stop, more, routeAt, stepAt, firstAbsent, closing, readFrom, readAs, readPlan, maxBytes}
-use Rattle.plan_reading.specs.laws.Steps.{step-more, onward, read-end, read-stop, read-more}
+use Rattle.plan_reading.specs.laws.Steps.{step-more}
+use Rattle.plan_reading.specs.laws.Onward.{onward, read-end, read-stop, read-more}
 
 -- from offset at and draft d the fields of s are read to their end, which leaves draft e
 pub data Reads (s : List ℕ) : ℕ → Draft → Draft → Type 0 where
@@ -35,31 +36,32 @@ pub record Ends (s : List ℕ) (at : ℕ) (d : Draft) (r : PlanRead) : Type 0 wh
 
 -- an accepted reading walks over all the fields, of which there are no more than bytes left
 reads-from
-    : (mode : Mode) (n : ℕ) (s : List ℕ) (at : ℕ) (d : Draft) (p : Plan) (ports flows : ℕ)
+    : (mode : Mode) (n : ℕ) (s : List ℕ) (at last : ℕ) (d : Draft) (p : Plan) (ports flows : ℕ)
     → length s ≤ at + n
-    → readFrom mode (length s) s at d ≡ accepted p ports flows
+    → readFrom mode (length s) s at last d ≡ accepted p ports flows
     → Ends s at d (accepted p ports flows)
-reads-from mode zero s at d p m k enough e =
+reads-from mode zero s at last d p m k enough e =
     let end : length s ≤ at = omega arith in
-    record { final = d; walk = Reads.done {at = at} refl end; closes = sym (read-end mode s at d (length s) end) ∙ e }
-reads-from mode (suc n) s at d p m k enough e = go (reads-from mode n s) (ltb at (length s)) refl
+    record { final = d; walk = Reads.done {at = at} refl end; closes = sym (read-end mode s at last d (length s) end) ∙ e }
+reads-from mode (suc n) s at last d p m k enough e = go (reads-from mode n s) (ltb at (length s)) refl
   where
     Again : Type 0
     Again =
-        (at : ℕ) (d : Draft) (p : Plan) (m k : ℕ)
+        (at last : ℕ) (d : Draft) (p : Plan) (m k : ℕ)
         → length s ≤ at + n
-        → readFrom mode (length s) s at d ≡ accepted p m k
+        → readFrom mode (length s) s at last d ≡ accepted p m k
         → Ends s at d (accepted p m k)
 
-    step : Again → at < length s → (r : Step) → stepAt mode s at d ≡ r → Ends s at d (accepted p m k)
+    step : Again → at < length s → (r : Step) → stepAt mode s at last d ≡ r → Ends s at d (accepted p m k)
     step again less (stop number offset) q =
-        let y : rejected number offset ≡ accepted p m k = sym (read-stop mode s at d less number offset q) ∙ e in
+        let y : rejected number offset ≡ accepted p m k = sym (read-stop mode s at last d less number offset q) ∙ e in
         let z : _≡_ {A = ℕ} 0 1 = cc in
         absurd (omega arith)
-    step again less (more next d′) q =
-        let t = step-more mode s at d next d′ q in
+    step again less (more next key d′) q =
+        let t = step-more mode s at last d next key d′ q in
         let rest =
-        again next d′ p m k (omega (arith, onward mode s at d next d′ q .forward)) (sym (read-more mode s at d less next d′ q) ∙ e) in
+        again next key d′ p m k (omega (arith, onward mode s at last d next key d′ q .forward))
+        (sym (read-more mode s at last d less next key d′ q) ∙ e) in
         record {
           final = rest .final;
           walk = Reads.one {d = d} {e = rest .final} (t .part) next less (t .stands) (t .fresh) (t .no-repeat) (rw (t .adds) (rest .walk));
@@ -67,13 +69,13 @@ reads-from mode (suc n) s at d p m k enough e = go (reads-from mode n s) (ltb at
         }
 
     go : Again → (b : Bool) → ltb at (length s) ≡ b → Ends s at d (accepted p m k)
-    go again true q = step again (ltb-true _ _ q) (stepAt mode s at d) refl
+    go again true q = step again (ltb-true _ _ q) (stepAt mode s at last d) refl
     go again false q =
         let end = ltb-false _ _ q in
-        record { final = d; walk = Reads.done refl end; closes = sym (read-end mode s at d (length s) end) ∙ e }
+        record { final = d; walk = Reads.done refl end; closes = sym (read-end mode s at last d (length s) end) ∙ e }
 
 -- an accepted plan is read from the front to its end
-read-as
+pub read-as
     : (mode : Mode) (s : List ℕ) (p : Plan) (ports flows : ℕ)
     → readAs mode s ≡ accepted p ports flows
     → Ends s 0 blank (accepted p ports flows)
@@ -82,9 +84,9 @@ read-as mode s p m k e = go (within 1 maxBytes (length s)) e
   where
     go
         : (b : Bool)
-        → elim b [ true ↦ readFrom mode (length s) s 0 blank | false ↦ rejected 1 0 ] ≡ accepted p m k
+        → elim b [ true ↦ readFrom mode (length s) s 0 0 blank | false ↦ rejected 1 0 ] ≡ accepted p m k
         → Ends s 0 blank (accepted p m k)
-    go true e = reads-from mode (length s) s 0 blank p m k (omega arith) e
+    go true e = reads-from mode (length s) s 0 0 blank p m k (omega arith) e
     go false e = let z : _≡_ {A = ℕ} 0 1 = cc in absurd (omega arith)
 
 pub accepted-reads

@@ -1,4 +1,5 @@
--- The plan held after a sequence of calls is the one in the bytes of the last load in which the rules find no refusal.
+-- The plan held after a sequence of calls is the one in the bytes of the last load in which the rules of its reading find no
+-- refusal. Either reading finds the same plan in them.
 use mathlib.Core.Path.{_≡_, refl}
 use mathlib.Core.Bool.{false}
 use mathlib.Core.List.{List, [], _∷_}
@@ -6,7 +7,8 @@ use mathlib.Core.Option.{Option, none, some}
 use Prim.Native.Nat.{ℕ}
 use native.Mathlib.Omega.{arith}
 use Rattle.cqf.specs.Plan.{Plan, noPlan, validPlan}
-use Rattle.plan_reading.specs.Reading.{PlanRead, accepted, rejected, readPlan}
+use Rattle.plan_reading.specs.Reading.{PlanRead, accepted, rejected, Mode, readAs, readPlan}
+use Rattle.plan_reading.specs.StrictTheorem.{read-loosely}
 use Rattle.loading.specs.Outcome.{loadLeaves, readingLeaves}
 use Rattle.planner.specs.Calls.{Call, load, ask, leaves, afterFrom, after, accepting, keeping, heldFrom, heldBytes}
 
@@ -21,20 +23,23 @@ record Holds (held : Option (List ℕ)) (p : Plan) : Type 0 where
   last : (s : List ℕ) → held ≡ some s → readTables (readPlan s) ≡ some p
 
 -- a call keeps that so
-load-holds : (held : Option (List ℕ)) (p : Plan) (s : List ℕ) → Holds held p → Holds (keeping held (load s)) (leaves p (load s))
+load-holds
+    : (held : Option (List ℕ)) (p : Plan) (mode : Mode) (s : List ℕ)
+    → Holds held p
+    → Holds (keeping held (load mode s)) (leaves p (load mode s))
 unfolding loadLeaves
-load-holds held p s h = go (readPlan s) refl
+load-holds held p mode s h = go (readAs mode s) refl
   where
-    go : (r : PlanRead) → readPlan s ≡ r → Holds (accepting held s r) (readingLeaves p r)
+    go : (r : PlanRead) → readAs mode s ≡ r → Holds (accepting held s r) (readingLeaves p r)
     go (accepted q m n) e =
         record {
           nothing = λ d. let z : q ≡ noPlan = cc in z;
-          last = λ t d. let st : s ≡ t = cc in rw (← st, e);
+          last = λ t d. let st : s ≡ t = cc in rw (← st, read-loosely mode s q m n e);
         }
     go (rejected m n) e = h
 
 call-holds : (held : Option (List ℕ)) (p : Plan) (c : Call) → Holds held p → Holds (keeping held c) (leaves p c)
-call-holds held p (load s) h = load-holds held p s h
+call-holds held p (load mode s) h = load-holds held p mode s h
 call-holds held p (ask x) h = h
 
 calls-hold-from : (held : Option (List ℕ)) (p : Plan) (calls : List Call) → Holds held p → Holds (heldFrom held calls) (afterFrom p calls)
@@ -61,12 +66,15 @@ after-loaded calls s e = go (readPlan s) refl (calls-hold calls .last s e)
 
 -- after a sequence of calls with an accepted load, the planner holds the plan in the last one's bytes
 pub after-held
-    : (calls : List Call) (s : List ℕ)
+    : (calls : List Call) (mode : Mode) (s : List ℕ)
     → heldBytes calls ≡ some s
     → (p : Plan) (ports flows : ℕ)
-    → readPlan s ≡ accepted p ports flows
+    → readAs mode s ≡ accepted p ports flows
     → after calls ≡ p
-after-held calls s e p m n r = let h = after-loaded calls s e .reads in cc
+after-held calls mode s e p m n r =
+    let h = after-loaded calls s e .reads in
+    let q = read-loosely mode s p m n r in
+    cc
 
 -- after one without it is the empty one, whose tables are not valid
 empty-invalid : validPlan noPlan ≡ false

@@ -1,20 +1,7 @@
 //! Damaged plans: every refusal from 1 to 9, alone and several at once.
 
-use super::{encode, Piece};
+use super::{encode, tag_of, Piece};
 use crate::rng::Rng;
-
-/// The tag of a field, 0 for raw bytes.
-fn tag_of(piece: &Piece) -> u8 {
-    match piece {
-        Piece::Raw(_) => 0,
-        Piece::Header { .. } => 1,
-        Piece::Port { .. } => 2,
-        Piece::Flow { .. } => 3,
-        Piece::Extra { .. } => 4,
-        Piece::Jitter { .. } => 5,
-        Piece::Clocks { .. } => 6,
-    }
-}
 
 fn any_of(rng: &mut Rng, pieces: &[Piece], tag: u8) -> Option<usize> {
     let places: Vec<usize> = (0..pieces.len()).filter(|place| tag_of(&pieces[*place]) == tag).collect();
@@ -68,7 +55,8 @@ fn past_an_end(rng: &mut Rng, pieces: &mut [Piece]) {
     }
 }
 
-fn again(rng: &mut Rng, pieces: &mut Vec<Piece>) {
+/// A field a second time, with the same numbers or others, anywhere.
+pub fn again(rng: &mut Rng, pieces: &mut Vec<Piece>) {
     let tag = rng.pick(&[4, 5, 6]);
     let one = any_of(rng, pieces, tag).filter(|_| rng.chance(2, 3));
     let mut copy = pieces[one.unwrap_or_else(|| rng.index(pieces.len()))].clone();
@@ -86,7 +74,7 @@ fn again(rng: &mut Rng, pieces: &mut Vec<Piece>) {
 }
 
 /// A port twice in a route, next to itself or not.
-fn twice(rng: &mut Rng, pieces: &mut [Piece]) {
+pub fn twice(rng: &mut Rng, pieces: &mut [Piece]) {
     if let Some(route) = any_route(rng, pieces) {
         let hop = rng.index(route.len());
         let port = route[hop];

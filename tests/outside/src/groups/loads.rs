@@ -4,10 +4,10 @@ use super::clocks::with_clocks;
 use super::extra::with_extra;
 use super::jitter::with_jitter;
 use super::known::K;
-use crate::answers::Planner;
+use crate::answers::{Answer, Planner};
 use crate::ffi;
-use crate::gen::{self, damage, encode, sized, Piece};
-use crate::model::read::{load_answer, read};
+use crate::gen::{self, damage, encode, few, sized, Piece};
+use crate::model::read::{load_answer, read_as, Reading};
 use crate::model::tables::tables_of;
 use crate::report::Tally;
 
@@ -19,48 +19,61 @@ fn moved(plan: &[u8], shift: usize) -> Vec<u8> {
     bytes
 }
 
-pub fn one_load(tally: &mut Tally, before: &Planner, plan: &[u8]) -> Planner {
-    let outcome = read(plan);
+/// A load compared with the model: the planner given, the plan, and the planner that comes back.
+pub type Load = fn(&mut Tally, &Planner, &[u8]) -> Planner;
+
+/// A load in either reading.
+pub fn load_as(tally: &mut Tally, reading: Reading, before: &Planner, plan: &[u8]) -> Planner {
+    let outcome = read_as(reading, plan);
     let want = load_answer(&outcome);
-    tally.saw("load", want.refusal);
+    let (call, load): (_, fn(&Planner, &[u8]) -> (Planner, Answer)) = match reading {
+        Reading::Loose => ("load", ffi::load),
+        Reading::Strict => ("load_strict", ffi::load_strict),
+    };
+    tally.saw(call, want.refusal);
     let shift = tally.passed as usize % 8;
-    let (after, answer) = ffi::load(before, &moved(plan, shift)[shift..]);
-    tally.same(format_args!("cp_load"), answer, want);
+    let (after, answer) = load(before, &moved(plan, shift)[shift..]);
+    tally.same(format_args!("cp_{call}"), answer, want);
     let want = outcome.map_or(before.clone(), |held| tables_of(&held));
-    tally.same(format_args!("planner after cp_load: first table and slot that differ"), after.differs(&want), None);
+    tally.same(format_args!("planner after cp_{call}: first table and slot that differ"), after.differs(&want), None);
     after
 }
 
+/// A loose load.
+pub fn one_load(tally: &mut Tally, before: &Planner, plan: &[u8]) -> Planner {
+    load_as(tally, Reading::Loose, before, plan)
+}
+
 /// A plan cut at every byte, and with every byte changed in some ways.
-fn every_byte(tally: &mut Tally, case: u64, plan: &[u8], planner: &Planner) {
+pub fn every_byte(tally: &mut Tally, case: u64, plan: &[u8], planner: &Planner, load: Load) {
     for end in 0..plan.len() {
         tally.case(case, &plan[..end]);
-        one_load(tally, planner, &plan[..end]);
+        load(tally, planner, &plan[..end]);
     }
     for place in 0..plan.len() {
         for change in [plan[place] ^ 1, plan[place].wrapping_add(1), plan[place].wrapping_sub(1), 0, 255] {
             let mut changed = plan.to_vec();
             changed[place] = change;
             tally.case(case, &changed);
-            one_load(tally, planner, &changed);
+            load(tally, planner, &changed);
         }
     }
 }
 
-fn sizes(tally: &mut Tally, planner: &Planner) {
+pub fn sizes(tally: &mut Tally, planner: &Planner, load: Load) {
     for case in 0..40 {
         let mut rng = tally.rng(1 << 40 | case);
         let good = gen::plan(&mut rng);
         for size in [0, 1, 2, 3, 16_383, 16_384, 16_385, 65_536 + 52, 100_000] {
             let plan = sized::sized(&mut rng, &good, size);
             tally.case(case, &plan);
-            one_load(tally, planner, &plan);
+            load(tally, planner, &plan);
         }
         for size in [16_383, 16_384, 16_385, 16_386] {
             for tag in [1, 2, 3, 4, 5, 6, 7] {
                 let plan = sized::topped_up(&good, tag, size);
                 tally.case(case, &plan);
-                one_load(tally, planner, &plan);
+                load(tally, planner, &plan);
             }
         }
     }
@@ -82,56 +95,11 @@ fn pairs(tally: &mut Tally, planner: &Planner) {
     }
 }
 
-/// Every order of a few fields: extra bytes before and after their port and jitter before and after its flow, of absent ports and
-/// flows, twice, and a route astray; clocks once and twice.
+/// Every order of a few fields.
 fn orders(tally: &mut Tally, planner: &Planner) {
-    let flow = |number, port| Piece::Flow { number, period: 1_000, count: 1, length: 64, route: vec![port] };
-    let extra = |number, extra| Piece::Extra { number, extra };
-    let jitter = |number, jitter| Piece::Jitter { number, jitter };
-    let clocks = |drift, timing_jitter, sync_error| Piece::Clocks { drift, timing_jitter, sync_error };
-    let port = Piece::Port { number: 1, rate: 1, blocker: 0 };
-    for more in [
-        vec![extra(1, 32)],
-        vec![extra(1, 0), extra(1, 32)],
-        vec![extra(1, 64), extra(9, 0)],
-        vec![extra(9, 1), extra(64, 0)],
-        vec![flow(2, 9), extra(9, 1)],
-        vec![flow(2, 9), flow(3, 8), extra(9, 1)],
-        vec![flow(2, 9), extra(9, 1), extra(9, 0)],
-        vec![extra(65, 1), extra(9, 0)],
-        vec![jitter(1, 30_000)],
-        vec![jitter(1, 0), jitter(1, 30_000)],
-        vec![jitter(1, 10_000_000), jitter(9, 0)],
-        vec![jitter(9, 1), jitter(256, 0)],
-        vec![jitter(9, 1), flow(9, 1)],
-        vec![jitter(9, 0), extra(9, 1)],
-        vec![flow(2, 9), jitter(9, 1)],
-        vec![flow(2, 9), jitter(9, 1), extra(9, 1)],
-        vec![jitter(257, 1), jitter(9, 0)],
-        vec![jitter(1, 10_000_001), jitter(9, 0)],
-        vec![clocks(100, 2, 1_000)],
-        vec![clocks(0, 0, 0), clocks(100, 2, 1_000)],
-        vec![clocks(1_001, 0, 0), clocks(0, 0, 0)],
-        vec![clocks(1_000, 1_000, 1_000_000), jitter(1, 1), extra(1, 1)],
-        vec![clocks(0, 0, 1), jitter(9, 0), flow(2, 9)],
-    ] {
-        let mut rest = vec![Piece::Header { guard: 0, top: 1 }, port.clone(), flow(1, 1)];
-        rest.extend(more);
-        every_order(tally, planner, &mut Vec::new(), &rest);
-    }
-}
-
-fn every_order(tally: &mut Tally, planner: &Planner, taken: &mut Vec<Piece>, rest: &[Piece]) {
-    if rest.is_empty() {
-        let plan = encode(taken);
+    for plan in few::fields().iter().flat_map(|pieces| few::every_order(pieces)) {
         tally.case(0, &plan);
         one_load(tally, planner, &plan);
-    }
-    for place in 0..rest.len() {
-        let mut others = rest.to_vec();
-        taken.push(others.remove(place));
-        every_order(tally, planner, taken, &others);
-        taken.pop();
     }
 }
 
@@ -153,15 +121,15 @@ pub fn run(tally: &mut Tally) {
     let empty = ffi::empty();
     tally.same(format_args!("cp_empty: first table and slot that differ"), empty.differs(&Planner::zero()), None);
     let held = ffi::load(&empty, &K).0;
-    sizes(tally, &held);
+    sizes(tally, &held, one_load);
     pairs(tally, &held);
     orders(tally, &held);
-    every_byte(tally, 0, &K, &held);
-    every_byte(tally, 0, &with_extra(32, true), &held);
-    every_byte(tally, 0, &with_jitter(1, 30_000, true), &held);
-    every_byte(tally, 0, &with_jitter(2, 10_000_000, false), &held);
-    every_byte(tally, 0, &with_clocks(100, 2, 1_000, true), &held);
-    every_byte(tally, 0, &with_clocks(1_000, 1_000, 1_000_000, false), &held);
+    every_byte(tally, 0, &K, &held, one_load);
+    every_byte(tally, 0, &with_extra(32, true), &held, one_load);
+    every_byte(tally, 0, &with_jitter(1, 30_000, true), &held, one_load);
+    every_byte(tally, 0, &with_jitter(2, 10_000_000, false), &held, one_load);
+    every_byte(tally, 0, &with_clocks(100, 2, 1_000, true), &held, one_load);
+    every_byte(tally, 0, &with_clocks(1_000, 1_000, 1_000_000, false), &held, one_load);
     for case in 0..tally.cases {
         let mut rng = tally.rng(case);
         let good = gen::plan(&mut rng);
@@ -171,7 +139,7 @@ pub fn run(tally: &mut Tally) {
         one_load(tally, before, &plan);
         without_zeros(tally, before, &good);
         if case % 50 == 0 && plan.len() < 300 {
-            every_byte(tally, case, &plan, before);
+            every_byte(tally, case, &plan, before, one_load);
         }
         for _ in 0..8 {
             let plan = damage::damaged(&mut rng, &good);

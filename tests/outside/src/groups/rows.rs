@@ -1,9 +1,9 @@
-//! Rows of loads, good and bad, on one planner, with questions between them.
+//! Rows of loads in either reading, good and bad, on one planner, with questions between them.
 
-use super::{ask_all, loads::one_load};
+use super::{ask_all, loads::load_as};
 use crate::ffi;
-use crate::gen::{self, damage, encode, sized};
-use crate::model::read::read;
+use crate::gen::{self, damage, encode, sized, strict};
+use crate::model::read::{read_as, Reading};
 use crate::model::Plan;
 use crate::report::Tally;
 
@@ -16,7 +16,11 @@ pub fn run(tally: &mut Tally) {
         ask_all(tally, &planner, None, &mut rng);
         let good = gen::plan(&mut rng);
         for _ in 0..rng.range(2, 8) {
-            let other = gen::plan(&mut rng);
+            let reading = rng.pick(&[Reading::Loose, Reading::Strict]);
+            let mut other = gen::plan(&mut rng);
+            if rng.chance(2, 3) {
+                other = strict::sorted(&other);
+            }
             let bytes = match rng.below(8) {
                 0..=2 => encode(&other),
                 3 => damage::damaged(&mut rng, &good),
@@ -25,13 +29,15 @@ pub fn run(tally: &mut Tally) {
                 _ => damage::damaged(&mut rng, &other),
             };
             tally.case(case, &bytes);
-            planner = one_load(tally, &planner, &bytes);
-            if let Ok(plan) = read(&bytes) {
+            planner = load_as(tally, reading, &planner, &bytes);
+            if let Ok(plan) = read_as(reading, &bytes) {
                 held = Some(plan);
             }
             ask_all(tally, &planner, held.as_ref(), &mut rng);
         }
     }
+    tally.must_have_seen("load", &[0, 1]);
+    tally.must_have_seen("load_strict", &[0, 1, 12]);
     tally.must_have_seen("check", &[0, 10, 20, 21]);
     tally.must_have_seen("slack", &[0, 10, 20, 24]);
     tally.must_have_seen("least", &[0, 11, 20, 22]);

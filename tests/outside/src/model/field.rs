@@ -16,6 +16,20 @@ pub enum Field {
     Clocks(Clocks),
 }
 
+impl Field {
+    /// Where the strict order puts a field: by tag, within a tag by number (0 for a field that has none).
+    pub fn rank(&self) -> (u8, u64) {
+        match self {
+            Field::Header { .. } => (1, 0),
+            Field::Port { number, .. } => (2, *number),
+            Field::Flow { number, .. } => (3, *number),
+            Field::Extra { number, .. } => (4, *number),
+            Field::Jitter { number, .. } => (5, *number),
+            Field::Clocks(_) => (6, 0),
+        }
+    }
+}
+
 fn number(bytes: &[u8]) -> u64 {
     bytes.iter().fold(0, |sum, byte| sum * 256 + u64::from(*byte))
 }

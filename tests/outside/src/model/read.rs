@@ -1,9 +1,17 @@
-//! Reading a plan's bytes, with refusals 1 to 9.
+//! Reading a plan's bytes, loosely or strictly, with refusals 1 to 9 and 12.
 
 use super::field::{field_at, repeats, Field};
 use super::{Clocks, Flow, Plan, Port};
 use crate::answers::Answer;
 use std::collections::BTreeMap;
+
+#[derive(Clone, Copy, PartialEq, Eq, Debug)]
+pub enum Reading {
+    /// Fields in any order.
+    Loose,
+    /// No field behind one that it should have stood before.
+    Strict,
+}
 
 #[derive(Default)]
 struct Gathered {
@@ -16,11 +24,13 @@ struct Gathered {
     /// Jitter by flow, likewise.
     jitters: BTreeMap<u64, (u64, usize)>,
     tags: BTreeMap<usize, u64>,
+    /// The rank of each field taken so far.
+    ranks: Vec<(u8, u64)>,
 }
 
 impl Gathered {
-    /// Tests 6 and 7, then the field is kept.
-    fn take(&mut self, field: Field, offset: usize) -> Result<(), u32> {
+    /// Tests 6, 12 where the reading is strict, and 7; then the field is kept.
+    fn take(&mut self, field: Field, offset: usize, reading: Reading) -> Result<(), u32> {
         let again = match &field {
             Field::Header { .. } => self.header.is_some(),
             Field::Port { number, .. } => self.ports.contains_key(number),
@@ -32,6 +42,11 @@ impl Gathered {
         if again {
             return Err(6);
         }
+        let rank = field.rank();
+        if reading == Reading::Strict && self.ranks.iter().any(|in_front| *in_front > rank) {
+            return Err(12);
+        }
+        self.ranks.push(rank);
         match field {
             Field::Header { guard, top } => self.header = Some((guard, top)),
             Field::Clocks(clocks) => self.clocks = Some(clocks),
@@ -82,8 +97,13 @@ fn first_lost(fields: &BTreeMap<u64, (u64, usize)>, absent: impl Fn(u64) -> bool
     fields.iter().filter(|(number, _)| absent(**number)).map(|(_, (_, offset))| *offset).min()
 }
 
-/// A plan from its bytes, or the refusal and its place.
+/// A plan from its bytes read loosely, or the refusal and its place.
 pub fn read(plan: &[u8]) -> Result<Plan, (u32, usize)> {
+    read_as(Reading::Loose, plan)
+}
+
+/// A plan from its bytes in either reading.
+pub fn read_as(reading: Reading, plan: &[u8]) -> Result<Plan, (u32, usize)> {
     if plan.is_empty() || plan.len() > 16_384 {
         return Err((1, 0));
     }
@@ -91,7 +111,7 @@ pub fn read(plan: &[u8]) -> Result<Plan, (u32, usize)> {
     let mut offset = 0;
     while offset < plan.len() {
         let (field, after) = field_at(plan, offset).map_err(|refusal| (refusal, offset))?;
-        gathered.take(field, offset).map_err(|refusal| (refusal, offset))?;
+        gathered.take(field, offset, reading).map_err(|refusal| (refusal, offset))?;
         offset = after;
     }
     gathered.close(plan.len())

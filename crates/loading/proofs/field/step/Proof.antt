@@ -2,9 +2,9 @@
 use mathlib.Core.Path.{sym, ap, _∙_}
 use denote.Ref.{now}
 use Rattle.plan_reading.specs.Draft.{Draft}
-use Rattle.plan_reading.specs.Reading.{loose}
 use Rattle.plan.specs.Answer.{fieldReadOf}
 use Rattle.plan_reading.specs.laws.Steps.{step-refused}
+use Rattle.loading.specs.Answer.{modeOf}
 use Rattle.loading.specs.Loading.{draftOf}
 use borrow.Author.Needs.{needs}
 use Rattle.loading.proofs.field.step.Statement.{statement}
@@ -36,7 +36,7 @@ returns c = search needs
 returns-2 : tie.Need-returns-2
 returns-2 c =
     let a = c .before .before .before .before .before in
-    sym (step-refused loose _ _ (held a) _ _ (sym (c .before .before .before .read-field .ensures) ∙ ap fieldReadOf (c .before .fault .given .1)))
+    sym (step-refused (modeOf (a .args .strict)) _ _ _ (held a) _ _ (sym (c .before .before .before .read-field .ensures) ∙ ap fieldReadOf (c .before .fault .given .1)))
 
 pub step-spec : {M : Type 1} → statement M
 step-spec =

@@ -1,18 +1,20 @@
--- `take_field` meets its contract: the tests 6 and 7 of a field that was read, and the field stored.
-use mathlib.Core.Path.{_≡_, sym, _∙_}
+-- `take_field` meets its contract: the tests 6, 12 and 7 of a field that was read, and the field stored.
+use Prim.Native.Nat.{ℕ}
+use mathlib.Core.Path.{_≡_, refl, sym, ap, _∙_}
 use mathlib.Core.Bool.{false}
 use native.Mathlib.Omega.{arith}
 use borrow.Author.Tests.{lt-ltb, le-ltb}
 use denote.Ref.{now}
 use Rattle.plan.specs.Field.{routePorts, routeIn}
-use Rattle.plan_reading.specs.Draft.{Draft, taken, fieldRepeats}
-use Rattle.plan_reading.specs.Reading.{loose, routeAt}
+use Rattle.plan_reading.specs.Draft.{Draft, taken, fieldRepeats, added}
+use Rattle.plan_reading.specs.Reading.{more, routeAt, late}
 use Rattle.plan.specs.Answer.{fieldOf}
 use Rattle.plan.specs.laws.Whole.{part-whole}
 use Rattle.plan_reading.specs.laws.Passes.{field-is-whole}
 use Rattle.plan_reading.specs.laws.Found.{found-numbers, found-route}
 use Rattle.plan_reading.specs.laws.Kinds.{key-below}
-use Rattle.plan_reading.specs.laws.Steps.{step-taken, step-repeats, step-added}
+use Rattle.plan_reading.specs.laws.Steps.{step-taken, step-late, step-repeats, step-added}
+use Rattle.loading.specs.Answer.{modeOf}
 use Rattle.loading.specs.Loading.{draftOf}
 use borrow.Author.Needs.{needs}
 use Rattle.loading.proofs.field.take_field.Statement.{statement}
@@ -24,9 +26,12 @@ held c =
     draftOf (c .args .totals) (now (c .args .rates)) (now (c .args .blockings)) (now (c .args .extras)) (now (c .args .periods)) (now (c .args .counts))
     (now (c .args .lengths)) (now (c .args .jitters)) (now (c .args .hops)) (now (c .args .routes)) (now (c .args .seen))
 
--- the states on the way, each named once: past test 7, and the start from past test 6
-abbrev past-7 : tie.After-store-field-arg10 → tie.Else2
+-- the states on the way, each named once: past test 7; past test 6 from past test 12; and the start from past test 6
+abbrev past-7 : tie.After-store-field-arg10 → tie.Else3
 past-7 c = c .before .before .before .before .before .before .before .before .before .before
+
+abbrev past-6 : tie.Else2 → tie.Else1
+past-6 c = c .before .before
 
 abbrev entry : tie.Else1 → tie.Start
 entry c = c .before .before .before .before
@@ -35,15 +40,21 @@ entry c = c .before .before .before .before
 free : (c : tie.Else1) → taken (held (entry c)) (fieldOf (entry c .args .x)) ≡ false
 free c = rw (← c .before .before .key-of .ensures) (le-ltb _ _ (c .if1 .left))
 
+-- the field stands in time
+in-time : (c : tie.Else2) →
+    let a = entry (past-6 c) in
+    late (modeOf (a .args .strict)) (a .args .last) (fieldOf (a .args .x)) ≡ false
+in-time c = sym (c .before .is-late .ensures) ∙ c .if2 .left
+
 -- the route's bytes that were split off are those of the field that was read
-route-read : (c : tie.After-route-bytes) → routePorts (now (c .route-bytes .result)) ≡ routeAt (now (entry (c .before .before) .args .plan)) (entry (c .before .before) .args .at)
+route-read : (c : tie.After-route-bytes) → routePorts (now (c .route-bytes .result)) ≡ routeAt (now (entry (past-6 (c .before .before)) .args .plan)) (entry (past-6 (c .before .before)) .args .at)
 unfolding routeIn
 route-read c =
-    let a = entry (c .before .before) in
+    let a = entry (past-6 (c .before .before)) in
     rw (c .route-bytes .ensures, c .before .field-value .ensures, part-whole _ _ (field-is-whole _ _ (fieldOf (a .args .x)) (a .args .next) (a .pre .2)))
 
 repeats-read : (c : tie.After-field-repeats) →
-    let a = entry (c .before .before .before) in
+    let a = entry (past-6 (c .before .before .before)) in
     c .field-repeats .result ≡ fieldRepeats (fieldOf (a .args .x)) (routeAt (now (a .args .plan)) (a .args .at))
 repeats-read c = c .field-repeats .ensures ∙ rw (route-read (c .before))
 
@@ -56,8 +67,19 @@ element-copy-out-if1 c = omega (arith, c .key-of .ensures, key-below (fieldOf (c
 returns : tie.Need-returns
 returns c =
     let a = c .before .before .before .before in
-    sym (step-taken loose _ _ (held a) (fieldOf (a .args .x)) (a .args .next) (a .pre .2)
+    sym (step-taken (modeOf (a .args .strict)) _ _ _ (held a) (fieldOf (a .args .x)) (a .args .next) (a .pre .2)
     (rw (← c .before .before .key-of .ensures) (lt-ltb _ _ (c .if1 .taken))))
+
+is-late-requires : tie.Need-is-late-requires
+is-late-requires c κs = search needs
+
+returns-2 : tie.Need-returns-2
+returns-2 c =
+    let six = c .before .before in
+    let a = entry six in
+    sym (step-late (modeOf (a .args .strict)) _ _ _ (held a) (fieldOf (a .args .x)) (a .args .next) (a .pre .2)
+    (free six)
+    (sym (c .before .is-late .ensures) ∙ c .if2 .taken))
 
 field-value-requires : tie.Need-field-value-requires
 field-value-requires c κs = search needs
@@ -68,30 +90,35 @@ route-bytes-requires c κs = search needs
 field-repeats-requires : tie.Need-field-repeats-requires
 field-repeats-requires c κs = search needs
 
-returns-2 : tie.Need-returns-2
-returns-2 c =
-    let six = c .before .before .before .before in
+returns-3 : tie.Need-returns-3
+returns-3 c =
+    let twelve = c .before .before .before .before in
+    let six = past-6 twelve in
     let a = entry six in
-    sym (step-repeats loose _ _ (held a) (fieldOf (a .args .x)) (a .args .next) (a .pre .2)
+    sym (step-repeats (modeOf (a .args .strict)) _ _ _ (held a) (fieldOf (a .args .x)) (a .args .next) (a .pre .2)
     (free six)
-    (sym (repeats-read (c .before)) ∙ c .if2 .taken))
+    (in-time twelve)
+    (sym (repeats-read (c .before)) ∙ c .if3 .taken))
 
 store-field-requires : tie.Need-store-field-requires
 store-field-requires c κs =
     let route = past-7 c .before .before in
-    let a = entry (route .before .before) in
+    let a = entry (past-6 (route .before .before)) in
     (a .pre .0, a .pre .1, found-numbers _ _ _ _ (a .pre .2), rw (route-read route) (found-route _ _ _ _ (a .pre .2)))
 
-returns-3 : tie.Need-returns-3
-returns-3 c =
+returns-4 : tie.Need-returns-4
+returns-4 c =
     let seven = past-7 (c .before) in
     let route = seven .before .before in
-    let six = route .before .before in
+    let twelve = route .before .before in
+    let six = past-6 twelve in
     let a = entry six in
     rw (c .store-field .ensures, route-read route)
-    (sym (step-added loose _ _ (held a) (fieldOf (a .args .x)) (a .args .next) (a .pre .2)
+    (ap (λ (key : ℕ). more (a .args .next) key (added (held a) (fieldOf (a .args .x)) (routeAt (now (a .args .plan)) (a .args .at)))) (six .before .before .key-of .ensures)
+    ∙ sym (step-added (modeOf (a .args .strict)) _ _ _ (held a) (fieldOf (a .args .x)) (a .args .next) (a .pre .2)
     (free six)
-    (sym (repeats-read (seven .before)) ∙ seven .if2 .left)))
+    (in-time twelve)
+    (sym (repeats-read (seven .before)) ∙ seven .if3 .left)))
 
 pub take-field-spec : {M : Type 1} → statement M
 take-field-spec =
@@ -100,9 +127,11 @@ take-field-spec =
     key-of-requires
     element-copy-out-if1
     returns
+    is-late-requires
+    returns-2
     field-value-requires
     route-bytes-requires
     field-repeats-requires
-    returns-2
+    returns-3
     store-field-requires
-    returns-3)
+    returns-4)

@@ -1,4 +1,4 @@
--- `load` meets its contract: test 1, then the fields. The invariant: the reading from this offset on gives what the reading from the start gives.
+-- `read_plan` meets its contract: test 1, then the fields. The invariant: the reading from this offset on gives what the reading from the start gives.
 use Prim.Native.Nat.{ℕ, _-_, _≤_}
 use mathlib.Core.Path.{_≡_, refl, sym, ap, _∙_}
 use mathlib.Core.Bool.{true}
@@ -11,30 +11,31 @@ use denote.Ref.{now}
 use Rattle.cqf.specs.Bounded.{within}
 use Rattle.cqf.specs.Plan.{noPlan}
 use Rattle.plan_reading.specs.Draft.{Draft, blank}
-use Rattle.plan_reading.specs.Reading.{loose, Step, more, stepAt, readFrom, readPlan, maxBytes}
+use Rattle.plan_reading.specs.Reading.{Mode, Step, more, stepAt, readFrom, readAs, maxBytes}
 use Rattle.plan_reading.specs.laws.PlanLength.{read-sized, read-unsized}
 use Rattle.plan_reading.specs.laws.Within.{within-high}
-use Rattle.plan_reading.specs.laws.Steps.{Onward, onward, read-end, read-stop, read-more}
+use Rattle.plan_reading.specs.laws.Onward.{Onward, onward, read-end, read-stop, read-more}
 use Rattle.tables.specs.Tables.{planOf}
 use Rattle.loading.specs.laws.Load.{refused-leaves, refused-answer, accepted-leaves, accepted-answer}
+use Rattle.loading.specs.Answer.{modeOf}
 use Rattle.loading.specs.Loading.{draftOf, progressOf, answerOf}
 use Rattle.loading.specs.declared.field.Progress.{Progress}
-use Rattle.loading.proofs.reading.load.Statement.{statement}
-use Rattle.loading.proofs.reading.load.Tie as tie
+use Rattle.loading.proofs.reading.read_plan.Statement.{statement}
+use Rattle.loading.proofs.reading.read_plan.Tie as tie
 
 -- the fields before this offset are read, into this draft
-record Reached (s : List ℕ) (d : Draft) (at : ℕ) : Type 0 where
+record Reached (mode : Mode) (s : List ℕ) (d : Draft) (at last : ℕ) : Type 0 where
   inside : at ≤ length s
   ports : d .ports ≤ at
   flows : d .flows ≤ at
-  rest : readFrom loose (length s) s 0 blank ≡ readFrom loose (length s) s at d
+  rest : readFrom mode (length s) s 0 0 blank ≡ readFrom mode (length s) s at last d
 
 abbrev Inv-loop : tie.InvT-loop
-Inv-loop planner plan rates₀ blockings₀ extras₀ periods₀ counts₀ lengths₀ jitters₀ hops₀ routes₀ seen₀ totals₀ at₀ rates blockings extras periods counts lengths jitters hops routes seen totals at =
-    Reached plan (draftOf totals rates blockings extras periods counts lengths jitters hops routes seen) at
+Inv-loop strict planner plan rates₀ blockings₀ extras₀ periods₀ counts₀ lengths₀ jitters₀ hops₀ routes₀ seen₀ totals₀ last₀ at₀ rates blockings extras periods counts lengths jitters hops routes seen totals last at =
+    Reached (modeOf strict) plan (draftOf totals rates blockings extras periods counts lengths jitters hops routes seen) at last
 
 abbrev μ-loop : tie.MeasureT-loop
-μ-loop planner plan rates₀ blockings₀ extras₀ periods₀ counts₀ lengths₀ jitters₀ hops₀ routes₀ seen₀ totals₀ at₀ rates blockings extras periods counts lengths jitters hops routes seen totals at =
+μ-loop strict planner plan rates₀ blockings₀ extras₀ periods₀ counts₀ lengths₀ jitters₀ hops₀ routes₀ seen₀ totals₀ last₀ at₀ rates blockings extras periods counts lengths jitters hops routes seen totals last at =
     length plan - at
 
 -- the states on the way, each named once: in a turn from where its columns are lent, the loop's from its end, and the start
@@ -47,13 +48,19 @@ at-last c = c .before .before .before .before .before
 abbrev entry : tie.At-loop Inv-loop μ-loop → tie.Start Inv-loop μ-loop
 entry c = c .before .before .before .before
 
--- where a turn begins: the plan's bytes, the offset and the draft so far
+-- where a turn begins: the reading, the plan's bytes, the offset, the key before it and the draft so far
 module _ (c : tie.At-loop Inv-loop μ-loop) where
+  abbrev mode : Mode
+  mode = modeOf (entry c .args .strict)
+
   abbrev bytes : List ℕ
   bytes = now (entry c .args .plan)
 
   abbrev here : ℕ
   here = c .loop .at
+
+  abbrev last : ℕ
+  last = c .loop .last
 
   abbrev held : Draft
   held =
@@ -65,14 +72,13 @@ module _ (c : tie.At-loop Inv-loop μ-loop) where
   sized = sym (c .before .before .size-ok .ensures) ∙ not-false (c .before .before .size-ok .result) (c .before .if1 .left)
 
   -- the reading of the plan is the reading from here on
-  rest-read : readPlan bytes ≡ readFrom loose (length bytes) bytes here held
-  unfolding readPlan
-  rest-read = read-sized loose bytes sized ∙ c .loop .inv .rest
+  rest-read : readAs mode bytes ≡ readFrom mode (length bytes) bytes here last held
+  rest-read = read-sized mode bytes sized ∙ c .loop .inv .rest
 
 -- the step of a field that was read with this outcome, into the columns as the turn left them
 abbrev stepped-as : tie.After-step Inv-loop μ-loop → Progress → Step
 stepped-as c r =
-    let l = c .step .last .1 .1 .1 in
+    let l = c .step .last .1 .1 .1 .1 .1 in
     progressOf r (l .0) (l .1 .0) (l .1 .1 .0) (l .1 .1 .1 .0) (l .1 .1 .1 .1 .0) (l .1 .1 .1 .1 .1 .0) (l .1 .1 .1 .1 .1 .1 .0)
     (l .1 .1 .1 .1 .1 .1 .1 .0) (l .1 .1 .1 .1 .1 .1 .1 .1 .0) (l .1 .1 .1 .1 .1 .1 .1 .1 .1 .0)
 
@@ -87,34 +93,37 @@ module _ (c : tie.After-known-told Inv-loop μ-loop) where
   abbrev next : ℕ
   next = c .before .next .given .0 .0
 
+  abbrev key : ℕ
+  key = c .before .next .given .0 .1 .0
+
   abbrev read : Draft
   read =
-      let l = c .before .before .before .step .last .1 .1 .1 in
-      draftOf (c .before .next .given .0 .1 .0) (l .0) (l .1 .0) (l .1 .1 .0) (l .1 .1 .1 .0) (l .1 .1 .1 .1 .0) (l .1 .1 .1 .1 .1 .0)
+      let l = c .before .before .before .step .last .1 .1 .1 .1 .1 in
+      draftOf (c .before .next .given .0 .1 .1 .0) (l .0) (l .1 .0) (l .1 .1 .0) (l .1 .1 .1 .0) (l .1 .1 .1 .1 .0) (l .1 .1 .1 .1 .1 .0)
       (l .1 .1 .1 .1 .1 .1 .0) (l .1 .1 .1 .1 .1 .1 .1 .0) (l .1 .1 .1 .1 .1 .1 .1 .1 .0) (l .1 .1 .1 .1 .1 .1 .1 .1 .1 .0)
 
-  stepped : stepAt loose (bytes turn) (here turn) (held turn) ≡ more next read
+  stepped : stepAt (mode turn) (bytes turn) (here turn) (last turn) (held turn) ≡ more next key read
   stepped = sym (c .before .before .before .step .ensures) ∙ ap (stepped-as (c .before .before .before)) (c .before .next .given .1)
 
   goes-on : Onward (bytes turn) (here turn) (held turn) next read
-  goes-on = onward loose (bytes turn) (here turn) (held turn) next read stepped
+  goes-on = onward (mode turn) (bytes turn) (here turn) (last turn) (held turn) next key read stepped
 
 -- all fields are read
-at-end : (c : tie.After-close Inv-loop μ-loop) → readPlan (bytes (at-last c)) ≡ answerOf (held (at-last c) .tables) (c .close .result)
+at-end : (c : tie.After-close Inv-loop μ-loop) → readAs (mode (at-last c)) (bytes (at-last c)) ≡ answerOf (held (at-last c) .tables) (c .close .result)
 at-end c =
     let l = at-last c in
     rest-read l
-    ∙ read-end loose (bytes l) (here l) (held l) _ (c .before .before .before .before .loop-test .left)
+    ∙ read-end (mode l) (bytes l) (here l) (last l) (held l) _ (c .before .before .before .before .loop-test .left)
     ∙ sym (c .close .ensures (held l .tables) refl refl)
 
 size-ok-requires : tie.Need-size-ok-requires Inv-loop μ-loop
 size-ok-requires c κs = tt
 
 returns : tie.Need-returns Inv-loop μ-loop
-unfolding readPlan
 returns c =
-    let e = read-unsized loose (now (c .before .before .before .args .plan)) (sym (c .before .size-ok .ensures) ∙ not-true (c .before .size-ok .result) (c .if1 .taken)) in
-    record { leaves = sym (refused-leaves _ _ 1 0 e); answers = sym (refused-answer _ 1 0 e) }
+    let m = modeOf (c .before .before .before .args .strict) in
+    let e = read-unsized m (now (c .before .before .before .args .plan)) (sym (c .before .size-ok .ensures) ∙ not-true (c .before .size-ok .result) (c .if1 .taken)) in
+    record { leaves = sym (refused-leaves m _ _ 1 0 e); answers = sym (refused-answer m _ 1 0 e) }
 
 loop-holds : tie.Need-loop-holds Inv-loop μ-loop
 unfolding blank noPlan
@@ -141,7 +150,7 @@ loop-again c =
       inside = goes-on c .inside;
       ports = omega (arith, i .ports, goes-on c .ports, goes-on c .forward);
       flows = omega (arith, i .flows, goes-on c .flows, goes-on c .forward);
-      rest = i .rest ∙ read-more loose (bytes l) (here l) (held l) (tested c .loop-test .taken) (next c) (read c) (stepped c);
+      rest = i .rest ∙ read-more (mode l) (bytes l) (here l) (last l) (held l) (tested c .loop-test .taken) (next c) (key c) (read c) (stepped c);
     }
 
 enum-known-fault : tie.Need-enum-known-fault Inv-loop μ-loop
@@ -153,9 +162,9 @@ returns-2 c =
     let l = test .before in
     let e =
     rest-read l
-    ∙ read-stop loose (bytes l) (here l) (held l) (test .loop-test .taken) _ _
+    ∙ read-stop (mode l) (bytes l) (here l) (last l) (held l) (test .loop-test .taken) _ _
     (sym (c .before .before .before .step .ensures) ∙ ap (stepped-as (c .before .before .before)) (c .before .fault .given .1)) in
-    record { leaves = sym (refused-leaves _ (bytes l) _ _ e); answers = sym (refused-answer (bytes l) _ _ e) }
+    record { leaves = sym (refused-leaves (mode l) _ (bytes l) _ _ e); answers = sym (refused-answer (mode l) (bytes l) _ _ e) }
 
 close-requires : tie.Need-close-requires Inv-loop μ-loop
 close-requires c κs = tt
@@ -172,8 +181,8 @@ returns-3 c =
     let s = bytes l in
     let e = at-end (c .before .before .before) ∙ ap (answerOf _) (c .enum-told .given .1) in
     record {
-      leaves = sym (accepted-leaves (planOf (entry l .args .planner)) s _ _ _ e);
-      answers = rw (c .enum-told .given .1) (sym (accepted-answer s _ _ _ e));
+      leaves = sym (accepted-leaves (mode l) (planOf (entry l .args .planner)) s _ _ _ e);
+      answers = rw (c .enum-told .given .1) (sym (accepted-answer (mode l) s _ _ _ e));
     }
 
 returns-4 : tie.Need-returns-4 Inv-loop μ-loop
@@ -182,12 +191,12 @@ returns-4 c =
     let s = bytes l in
     let e = at-end (c .before .before .before) ∙ ap (answerOf _) (c .enum-told2 .given .1) in
     record {
-      leaves = sym (refused-leaves (planOf (entry l .args .planner)) s _ _ e);
-      answers = rw (c .enum-told2 .given .1) (sym (refused-answer s _ _ e));
+      leaves = sym (refused-leaves (mode l) (planOf (entry l .args .planner)) s _ _ e);
+      answers = rw (c .enum-told2 .given .1) (sym (refused-answer (mode l) s _ _ e));
     }
 
-pub load-spec : {M : Type 1} → statement M
-load-spec =
+pub read-plan-spec : {M : Type 1} → statement M
+read-plan-spec =
     tie.close
     (tie.spec
     Inv-loop

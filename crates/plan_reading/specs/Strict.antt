@@ -1,0 +1,90 @@
+-- What is said of the strict reading: the fields of a plan as they are read, whether they stand in order, and what is answered
+-- where they do not.
+use Prim.Native.Nat.{ℕ, zero, suc}
+use mathlib.Core.Path.{_≡_}
+use mathlib.Core.List.{List, [], _∷_, List·Permᴰ}
+use mathlib.Core.Bool.{Bool, true, false, cond, _&&_, _||_}
+use lib.Dec.{leb, ltb, eqb}
+use lib.ListN.{length}
+use Rattle.cqf.specs.Plan.{Plan}
+use Rattle.plan.specs.Field.{Field, field, refused, fieldAt}
+use Rattle.plan_reading.specs.Kind.{ofFlow}
+use Rattle.plan_reading.specs.Rank.{before}
+use Rattle.plan_reading.specs.Reading.{PlanRead, accepted, rejected, Mode, routeAt, readAs}
+
+-- the plan that a reading accepts, with its numbers of port and flow fields
+pub record Accepts (mode : Mode) (s : List ℕ) : Type 0 where
+  pub plan : Plan
+  pub ports : ℕ
+  pub flows : ℕ
+  pub reads : readAs mode s ≡ accepted plan ports flows
+
+-- a field as it is read: its kind and numbers, and the ports of its route, which only a flow has
+pub record Entry : Type 0 where
+  pub part : Field
+  pub route : List ℕ
+
+abbrev pub entryOf : Field → List ℕ → Entry
+entryOf x r = record { part = x; route = ofFlow [] (λ n period count length hops. r) x }
+
+-- the fields from this offset on, as far as each passes the tests 2 to 5. The first number bounds how many are read: the plan's
+-- length is enough.
+unfoldable pub fieldsFrom : ℕ → List ℕ → ℕ → List Entry
+unfolding fieldAt
+fieldsFrom zero s at = []
+fieldsFrom (suc n) s at =
+    elim (fieldAt s at) [ field x next ↦ entryOf x (routeAt s at) ∷ fieldsFrom n s next | refused number offset ↦ [] ]
+
+-- the fields of a plan, from the front
+unfoldable pub fieldsIn : List ℕ → List Entry
+unfolding fieldsFrom
+fieldsIn s = fieldsFrom (length s) s 0
+
+-- two plans hold the same fields, in whatever order
+abbrev pub SameContent : List ℕ → List ℕ → Type 0
+SameContent s t = List·Permᴰ (fieldsIn s) (fieldsIn t)
+
+-- each field stands before all that follow it
+unfoldable pub ahead : Field → List Entry → Bool
+ahead x [] = true
+ahead x (e ∷ es) = before x (e .part) && ahead x es
+
+unfoldable pub rising : List Entry → Bool
+unfolding ahead
+rising [] = true
+rising (e ∷ es) = ahead (e .part) es && rising es
+
+-- the plan's fields stand in strict order
+abbrev pub InOrder : List ℕ → Type 0
+InOrder s = rising (fieldsIn s) ≡ true
+
+-- a field that should have stood earlier: one in front of it is due after it
+unfoldable pub overdue : Field → List Field → Bool
+overdue x [] = false
+overdue x (y ∷ ys) = before x y || overdue x ys
+
+-- the offset of the first such field from this offset on, with these in front of it; the plan's length where there is none
+unfoldable pub lateFrom : ℕ → List Field → List ℕ → ℕ → ℕ
+unfolding fieldAt overdue
+lateFrom zero front s at = length s
+lateFrom (suc n) front s at =
+    elim (fieldAt s at) [
+      | field x next ↦ elim (overdue x front) [ true ↦ at | false ↦ lateFrom n (x ∷ front) s next ]
+      | refused number offset ↦ length s
+    ]
+
+unfoldable pub firstLate : List ℕ → ℕ
+unfolding lateFrom
+firstLate s = lateFrom (length s) [] s 0
+
+-- whether an answer of the loose reading is found before test 12 finds a field at this offset. Fields are taken from the front,
+-- each tested for 2 to 6, then 12, then 7; 8, 9 and acceptance come when all have been.
+abbrev pub foundBefore : List ℕ → ℕ → PlanRead → Bool
+foundBefore s at (accepted p ports flows) = leb (length s) at
+foundBefore s at (rejected number offset) =
+    cond (leb number 6) (leb offset at) (cond (eqb number 7) (ltb offset at) (leb (length s) at))
+
+-- what the strict reading answers where the loose one answers this, at being the offset of the first field that should have
+-- stood earlier
+abbrev pub strictly : List ℕ → ℕ → PlanRead → PlanRead
+strictly s at answer = cond (foundBefore s at answer) answer (rejected 12 at)
