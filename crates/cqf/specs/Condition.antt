@@ -158,6 +158,11 @@ unfoldable pub least : Plan → ℕ
 unfolding smallest admissible
 least p = smallest (admissible p) (p .top)
 
+-- the smallest admissible duration from t to top, or one above top where there is none
+unfoldable pub leastFrom : Plan → ℕ → ℕ
+unfolding smallest admissible
+leastFrom p t = smallest (λ u. leb t u && admissible p u) (p .top)
+
 -- the margin-safe duration: the smallest from which each up to top is admissible, or one above top where there is none
 unfoldable pub marginSafe : Plan → ℕ
 unfolding smallest safeFrom

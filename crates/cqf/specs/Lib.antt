@@ -3,6 +3,7 @@ pub mod Bounded
 pub mod Limits
 pub mod Plan
 pub mod Condition
+pub mod FixedPoint
 pub mod Emission
 pub mod Cycles
 pub mod Run
@@ -13,6 +14,7 @@ pub mod Worked
 pub mod WorkedJitter
 pub mod WorkedClock
 pub mod WorkedCycles
+pub mod WorkedFixedPoint
 pub mod laws
 pub mod Theorem
 pub mod LighterTheorem

@@ -24,6 +24,10 @@ pub mod Monotone
 pub mod Need
 pub mod Longer
 pub mod Smallest
+pub mod LeastFrom
 pub mod Ranges
 pub mod Search
+pub mod FixedPoint
+pub mod MostSteps
+pub mod Converges
 pub mod Lighter

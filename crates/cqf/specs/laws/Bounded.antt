@@ -31,6 +31,21 @@ unfolding sumTo
 sumTo-le zero g h le = zero-le
 sumTo-le (suc n) g h le = omega (arith, sumTo-le n g h (λ i l. le i (omega arith)), le n (omega arith))
 
+-- where each term is at most another, and the sums are not, the terms are the same
+pub sumTo-equal
+    : (n : ℕ) (g h : ℕ → ℕ)
+    → ((i : ℕ) → i < n → g i ≤ h i)
+    → sumTo n h ≤ sumTo n g
+    → (i : ℕ)
+    → i < n
+    → g i ≡ h i
+unfolding sumTo
+sumTo-equal zero g h le most i l = absurd (not-suc-le-zero l)
+sumTo-equal (suc n) g h le most i l =
+    let last = le n (omega arith) in
+    let sums = sumTo-le n g h (λ i l. le i (omega arith)) in
+    below (λ i. g i ≡ h i) n (sumTo-equal n g h (λ i l. le i (omega arith)) (omega arith)) (omega arith) i l
+
 -- a sum is at least each of its terms
 pub sumTo-term : (n : ℕ) (g : ℕ → ℕ) (i : ℕ) → i < n → g i ≤ sumTo n g
 unfolding sumTo

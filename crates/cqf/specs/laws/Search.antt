@@ -1,6 +1,7 @@
 -- The two searches by jumps: what each has shown at the duration that it has reached, and where it may go from there.
 use mathlib.Core.Path.{_≡_, refl, sym, ap, _∙_}
 use mathlib.Core.Bool.{true, false}
+use mathlib.Mathlib.Data.Bool.Basic.{eq-false-of-not-eq-true}
 use Prim.Native.Nat.{ℕ, suc, _≤_, _<_}
 use native.Mathlib.Nat.{le-refl, le-trans}
 use native.Mathlib.Decide.{decLt, decLe}
@@ -8,18 +9,24 @@ use native.Mathlib.Omega.{arith}
 use Rattle.cqf.specs.Bounded.{maxTo}
 use Rattle.cqf.specs.Limits.{portSlots}
 use Rattle.cqf.specs.Plan.{Plan, rateOf, validPlan}
-use Rattle.cqf.specs.Condition.{demand, capacity, workload, need, largestNeed, fails, admissible, least, marginSafe}
+use Rattle.cqf.specs.Condition.{demand, capacity, workload, need, largestNeed, fails, admissible, least, leastFrom, marginSafe}
 use Rattle.cqf.specs.laws.Bounds.{maxTo-most, maxTo-at}
 use Rattle.cqf.specs.laws.Condition.{demand-pos, demand-crossed}
 use Rattle.cqf.specs.laws.Need.{needFor, need-some, need-busy, workload-positive, enough, needed, fails-crossed, fails-over, over-of-fails, admissible-none, not-admissible, jump-up, jump-down}
-use Rattle.cqf.specs.laws.Smallest.{smallest-is, smallest-none, least-of, margin-safe-is, margin-safe-none}
+use Rattle.cqf.specs.laws.Smallest.{margin-safe-is, margin-safe-none}
+use Rattle.cqf.specs.laws.LeastFrom.{least-from-is, least-from-none, least-from-first}
 use Rattle.cqf.specs.laws.Ranges.{top-positive, crossed-rate}
 
--- up: no duration below t is admissible
-pub record Climbed (p : Plan) (t : ℕ) : Type 0 where
-  pub first : 1 ≤ t
+-- up: no duration from d to below t is admissible
+pub record Ascended (p : Plan) (d t : ℕ) : Type 0 where
+  pub start : 1 ≤ d
+  pub first : d ≤ t
   pub within : t ≤ p .top
-  pub none : (u : ℕ) → 1 ≤ u → u < t → admissible p u ≡ false
+  pub none : (u : ℕ) → d ≤ u → u < t → admissible p u ≡ false
+
+-- from 1 on
+abbrev pub Climbed : Plan → ℕ → Type 0
+Climbed p t = Ascended p 1 t
 
 -- down: every duration from t to top is admissible
 pub record Descended (p : Plan) (t : ℕ) : Type 0 where
@@ -68,33 +75,51 @@ module _ (p : Plan) (valid : validPlan p ≡ true) where
   fails-largest t q long slot e =
       rw (largest-is t) (le-trans (fails-need t q long e) (maxTo-most portSlots (λ q. need p q t) q slot))
 
+  -- none fails exactly where it is no more than the duration
+  pub largest-none : (t : ℕ) → 0 < t → largestNeed p t ≤ t → (q : ℕ) → q < portSlots → fails p t q ≡ false
+  largest-none t long l q slot = eq-false-of-not-eq-true (λ e. omega (arith, l, fails-largest t q long slot e))
+
+  pub ascent-start : (d : ℕ) → 1 ≤ d → d ≤ p .top → Ascended p d d
+  ascent-start d h l = record { start = h; first = le-refl d; within = l; none = λ u k m. absurd (omega arith) }
+
+  module _ {d t : ℕ} (s : Ascended p d t) where
+    -- where no port fails, this is the least duration from d on
+    pub ascent-found : ((q : ℕ) → q < portSlots → fails p t q ≡ false) → leastFrom p d ≡ t
+    ascent-found h = least-from-is p d t (s .start) (s .first) (s .within) (admissible-none p t h) (s .none)
+
+    module _ (less : t < largestNeed p t) where
+      -- nothing below the largest need is admissible, since the port that has it fails up to there
+      ascent-passed : (u : ℕ) → d ≤ u → u < largestNeed p t → admissible p u ≡ false
+      ascent-passed u h l = go (decLt u t)
+        where
+          go : Dec (u < t) → admissible p u ≡ false
+          go (yes below) = s .none u h below
+          go (no above) =
+              let m = largest-fails t less in
+              let e = m .2 in
+              let busy = demand-pos p (m .0) t valid (le-trans (s .start) (s .first)) (fails-crossed p t (m .0) e) in
+              not-admissible p u (m .0) (m .1)
+              (jump-up p t u (m .0) (crossed-rate p valid (m .0) (fails-crossed p t (m .0) e)) e (omega arith)
+              (omega (arith, m .3, need-some p (m .0) t busy)))
+
+      pub ascent-next : largestNeed p t ≤ p .top → Ascended p d (largestNeed p t)
+      ascent-next l = record { start = s .start; first = omega (arith, s .first, less); within = l; none = ascent-passed }
+
+      pub ascent-over : p .top < largestNeed p t → leastFrom p d ≡ suc (p .top)
+      ascent-over l = least-from-none p d (λ u h m. ascent-passed u h (omega arith))
+
+  -- the same from 1 on
   pub climb-start : Climbed p 1
-  climb-start = record { first = le-refl 1; within = top-positive p valid; none = λ u h l. absurd (omega arith) }
+  climb-start = ascent-start 1 (le-refl 1) (top-positive p valid)
 
-  -- where no port fails, this is the least duration
   pub climb-found : (t : ℕ) → Climbed p t → ((q : ℕ) → q < portSlots → fails p t q ≡ false) → least p ≡ t
-  climb-found t s h = least-of p ∙ smallest-is (admissible p) (p .top) t (s .first) (s .within) (admissible-none p t h) (s .none)
+  climb-found t s h = sym (least-from-first p) ∙ ascent-found s h
 
-  module _ (t : ℕ) (s : Climbed p t) (less : t < largestNeed p t) where
-    -- nothing below the largest need is admissible, since the port that has it fails up to there
-    climb-passed : (u : ℕ) → 1 ≤ u → u < largestNeed p t → admissible p u ≡ false
-    climb-passed u h l = go (decLt u t)
-      where
-        go : Dec (u < t) → admissible p u ≡ false
-        go (yes below) = s .none u h below
-        go (no above) =
-            let m = largest-fails t less in
-            let e = m .2 in
-            let busy = demand-pos p (m .0) t valid (s .first) (fails-crossed p t (m .0) e) in
-            not-admissible p u (m .0) (m .1)
-            (jump-up p t u (m .0) (crossed-rate p valid (m .0) (fails-crossed p t (m .0) e)) e (omega arith)
-            (omega (arith, m .3, need-some p (m .0) t busy)))
+  pub climb-next : (t : ℕ) → Climbed p t → t < largestNeed p t → largestNeed p t ≤ p .top → Climbed p (largestNeed p t)
+  climb-next t = ascent-next
 
-    pub climb-next : largestNeed p t ≤ p .top → Climbed p (largestNeed p t)
-    climb-next l = record { first = omega arith; within = l; none = climb-passed }
-
-    pub climb-over : p .top < largestNeed p t → least p ≡ suc (p .top)
-    climb-over l = least-of p ∙ smallest-none (admissible p) (p .top) (λ u h m. climb-passed u h (omega arith))
+  pub climb-over : (t : ℕ) → Climbed p t → t < largestNeed p t → p .top < largestNeed p t → least p ≡ suc (p .top)
+  climb-over t s less l = sym (least-from-first p) ∙ ascent-over s less l
 
   pub descent-start : Descended p (suc (p .top))
   descent-start = record { first = omega arith; within = le-refl _; safe = λ u h l. absurd (omega arith) }
