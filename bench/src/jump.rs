@@ -1,4 +1,4 @@
-//! The planner's two searches in Rust, on the planner's own tables, step by step as in climb.rt and descend.rt of crates/planner.
+//! The planner's two searches in Rust, on the planner's own tables, step by step as in iterate.rt and descend.rt of crates/planner.
 //! CHECKED says whether the sum over the hops tests its indices, as safe Rust does; the form test makes it needless.
 
 use crate::answers::{Answer, Planner};
@@ -98,7 +98,7 @@ fn largest_need(planner: &Planner, demands: &[u64; PORTS]) -> u64 {
 }
 
 /// The least duration, or one above top where there is none; and the rounds.
-fn climb<const CHECKED: bool>(planner: &Planner, out: &mut [u64; PORTS]) -> (u64, u64) {
+fn ascend<const CHECKED: bool>(planner: &Planner, out: &mut [u64; PORTS]) -> (u64, u64) {
     let top = planner.top as u64;
     let (mut t, mut rounds) = (1, 0);
     loop {
@@ -144,7 +144,7 @@ pub fn least<const CHECKED: bool>(planner: &Planner, scratch: &mut [u64]) -> (An
         return (Answer::refused(11), 0);
     }
     let out: &mut [u64; PORTS] = (&mut scratch[..PORTS]).try_into().unwrap();
-    let (found, rounds) = climb::<CHECKED>(planner, out);
+    let (found, rounds) = ascend::<CHECKED>(planner, out);
     if found <= planner.top as u64 {
         return (Answer::new(0, found, 0), rounds);
     }

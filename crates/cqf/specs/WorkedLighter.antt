@@ -14,7 +14,7 @@ use Rattle.cqf.specs.Lighter.{LighterPort, LighterFlow, Lighter}
 use Rattle.cqf.specs.NoWorse.{NoWorse}
 use Rattle.cqf.specs.laws.Valid.{present-period, present-slot}
 use Rattle.cqf.specs.laws.Condition.{none-fails}
-use Rattle.cqf.specs.laws.Search.{climb-start, climb-next, climb-found, descent-start, descent-next, descent-stop}
+use Rattle.cqf.specs.laws.Search.{ascent-start, ascent-next, ascent-least, descent-start, descent-next, descent-stop}
 use Rattle.cqf.specs.LighterTheorem.{no-worse}
 use Rattle.cqf.specs.Worked.{planK}
 
@@ -113,15 +113,15 @@ failures = (refl, refl)
 pub least-heavy : least planHeavy ≡ 56920
 unfolding planHeavy planK noPlan largestNeed maxTo need admissible failing countTo fails crossed anyTo elem sublist capacity window workload demand sumTo frames begun stretch ceilDiv wireBits
 least-heavy =
-    climb-found planHeavy valid-heavy 56920
-    (climb-next planHeavy valid-heavy 1 (climb-start planHeavy valid-heavy) (lit≤ tt) (lit≤ tt))
+    ascent-least planHeavy valid-heavy
+    (ascent-next planHeavy valid-heavy (ascent-start planHeavy valid-heavy 1 (lit≤ tt) (lit≤ tt)) (lit≤ tt) (lit≤ tt))
     (none-fails planHeavy 56920 refl)
 
 pub least-light : least planLight ≡ 14019
 unfolding planLight noPlan largestNeed maxTo need admissible failing countTo fails crossed anyTo elem sublist capacity window workload demand sumTo frames begun stretch ceilDiv wireBits
 least-light =
-    climb-found planLight valid-light 14019
-    (climb-next planLight valid-light 1 (climb-start planLight valid-light) (lit≤ tt) (lit≤ tt))
+    ascent-least planLight valid-light
+    (ascent-next planLight valid-light (ascent-start planLight valid-light 1 (lit≤ tt) (lit≤ tt)) (lit≤ tt) (lit≤ tt))
     (none-fails planLight 14019 refl)
 
 -- the margin-safe durations: down from top by what the port needs one below

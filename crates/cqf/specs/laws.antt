@@ -27,6 +27,7 @@ pub mod Smallest
 pub mod LeastFrom
 pub mod Ranges
 pub mod Search
+pub mod Ended
 pub mod FixedPoint
 pub mod MostSteps
 pub mod Converges

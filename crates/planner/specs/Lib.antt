@@ -11,3 +11,4 @@ pub mod Theorem
 pub mod LighterTheorem
 pub mod Failing
 pub mod Search
+pub mod Iterate

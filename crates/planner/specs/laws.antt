@@ -9,6 +9,7 @@ pub mod Signed
 pub mod Answers
 pub mod PortNeed
 pub mod Scratch
-pub mod Climb
+pub mod PortTest
+pub mod Iteration
 pub mod Descent
 pub mod Searched

@@ -1,8 +1,9 @@
 // The cycle planner: the held plan, the load, and the questions.
-mod climb;
+mod ascend;
 mod demand;
 mod descend;
 mod failing;
+mod iterate;
 mod need;
 mod number;
 mod port_demand;

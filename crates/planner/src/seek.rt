@@ -1,5 +1,5 @@
 // What a search looks for, and how it is found.
-use super::climb::climb;
+use super::ascend::ascend;
 use super::descend::descend;
 use numbers::clock::Clock;
 ghost use mathlib.Core.Path.{_≡_};
@@ -38,7 +38,7 @@ pub(crate) fn seek<'a>(
     ensures { λ r. ⌜ Found (wanted goal) (planBy guard top (clockOf clock) (now (rates .entry)) (now (blockings .entry)) (now (extras .entry)) (now (periods .entry)) (now (counts .entry)) (now (lengths .entry)) (now (jitters .entry)) (now (hops .entry)) (now (routes .entry))) r (now (out .exit)) ⌝ }
 {
     match goal {
-        Goal::Least => climb(
+        Goal::Least => ascend(
             guard,
             top,
             clock,

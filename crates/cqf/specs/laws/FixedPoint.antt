@@ -1,17 +1,17 @@
 -- The fixed-point iteration: it ends in as many steps as durations visited, with the least duration from its start on; stopped
 -- before, it can go on; and its length is bounded by the periods that begin.
 use mathlib.Core.Path.{_≡_, refl, sym, ap, subst, _∙_}
-use mathlib.Core.Bool.{Bool, true, false, cond}
+use mathlib.Core.Bool.{Bool, true, false}
 use mathlib.Core.List.{List, [], _∷_}
-use Prim.Native.Nat.{ℕ, zero, suc, _+_, _≤_, _<_}
+use Prim.Native.Nat.{ℕ, zero, suc, _+_, _-_, _≤_, _<_}
 use native.Mathlib.Nat.{zero-add, suc-add, not-suc-le-zero, le-refl, le-trans}
 use native.Mathlib.Omega.{arith}
 use lib.ListN.{length, getD}
-use lib.Dec.{leb}
-use borrow.Author.Tests.{le-leb, lt-leb, leb-true, leb-false, ltb-true, ltb-false}
+use borrow.Author.Tests.{leb-true, leb-false, ltb-true, ltb-false}
 use Rattle.cqf.specs.Plan.{Plan, validPlan}
 use Rattle.cqf.specs.Condition.{largestNeed, leastFrom}
 use Rattle.cqf.specs.FixedPoint.{settles, passesTop, visitedIn, Outcome, found, none, unfinished, after, iterate, ended}
+use Rattle.cqf.specs.laws.Ended.{ended-within, ended-above, after-ended}
 use Rattle.cqf.specs.laws.Search.{Ascended, largest-none, ascent-found, ascent-next, ascent-over}
 
 -- a step is the last or goes on to a larger need up to top
@@ -38,19 +38,6 @@ pub after-add : (j k : ℕ) (o : Outcome) → after j (after k o) ≡ after (j +
 after-add j k (found t n) = ap (found t) (omega arith)
 after-add j k (none n) = ap none (omega arith)
 after-add j k (unfinished t) = refl
-
-after-ended : (p : Plan) (t n : ℕ) → after 1 (ended p t n) ≡ ended p t (suc n)
-after-ended p t n = go (leb t (p .top))
-  where
-    go : (x : Bool) → after 1 (cond x (found t n) (none n)) ≡ cond x (found t (suc n)) (none (suc n))
-    go true = ap (found t) (omega arith)
-    go false = ap none (omega arith)
-
-pub ended-within : (p : Plan) {best t : ℕ} (n : ℕ) → best ≡ t → t ≤ p .top → ended p best n ≡ found t n
-ended-within p n e l = rw (e, le-leb _ _ l)
-
-pub ended-above : (p : Plan) {best : ℕ} (n : ℕ) → best ≡ suc (p .top) → ended p best n ≡ none n
-ended-above p n e = rw (e, lt-leb (suc (p .top)) (p .top) (le-refl _))
 
 after-unfinished : (o : Outcome) (u : ℕ) → after 1 o ≡ unfinished u → o ≡ unfinished u
 after-unfinished (found t n) u e = absurd (let z : _≡_ {A = ℕ} 0 1 = cc in omega arith)
@@ -125,6 +112,33 @@ module _ (p : Plan) where
           ∙ ap (after 1) (more (after-unfinished _ u (sym (iterate-rises t a d h) ∙ e)))
           ∙ after-add 1 a (iterate p u b)
           ∙ ap (λ (k : ℕ). after k (iterate p u b)) (omega arith)
+
+  -- one step more from there
+  module _ (t a : ℕ) {u : ℕ} (e : iterate p t a ≡ unfinished u) where
+    module _ {n : ℕ} (less : a < n) where
+      with-rest : iterate p t n ≡ after a (iterate p u (suc (n - suc a)))
+      with-rest = ap (iterate p t) (omega (arith, less)) ∙ resumes-in a (suc (n - suc a)) t u e
+
+      pub then-settled : settles p u ≡ true → iterate p t n ≡ found u (a + 1)
+      then-settled d = with-rest ∙ ap (after a) (iterate-settled u _ d)
+
+      pub then-over : settles p u ≡ false → passesTop p u ≡ true → iterate p t n ≡ none (a + 1)
+      then-over d h = with-rest ∙ ap (after a) (iterate-over u _ d h)
+
+    pub then-rises : settles p u ≡ false → passesTop p u ≡ false → iterate p t (a + 1) ≡ unfinished (largestNeed p u)
+    unfolding iterate
+    then-rises d h = resumes-in a 1 t u e ∙ ap (after a) (iterate-rises u 0 d h)
+
+  -- there are no more durations than the room for them
+  pub visited-most : (m t : ℕ) → length (visitedIn p m t) ≤ m
+  unfolding visitedIn
+  visited-most zero t = le-refl 0
+  visited-most (suc m) t = go (visited-most m (largestNeed p t)) (step-at p t)
+    where
+      go : length (visitedIn p m (largestNeed p t)) ≤ m → Step p t → length (visitedIn p (suc m) t) ≤ suc m
+      go more (settled e _) = omega (arith, ap length (visited-settled m t e))
+      go more (over e d _ _) = omega (arith, ap length (visited-over m t e d))
+      go more (rises e d _ _) = omega (arith, ap length (visited-rises m t e d))
 
   module _ (valid : validPlan p ≡ true) where
     -- where it stopped, no duration from its start on was passed that is admissible

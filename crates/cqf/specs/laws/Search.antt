@@ -1,6 +1,6 @@
 -- The two searches by jumps: what each has shown at the duration that it has reached, and where it may go from there.
 use mathlib.Core.Path.{_≡_, refl, sym, ap, _∙_}
-use mathlib.Core.Bool.{true, false}
+use mathlib.Core.Bool.{true, false, false≢true}
 use mathlib.Mathlib.Data.Bool.Basic.{eq-false-of-not-eq-true}
 use Prim.Native.Nat.{ℕ, suc, _≤_, _<_}
 use native.Mathlib.Nat.{le-refl, le-trans}
@@ -23,10 +23,6 @@ pub record Ascended (p : Plan) (d t : ℕ) : Type 0 where
   pub first : d ≤ t
   pub within : t ≤ p .top
   pub none : (u : ℕ) → d ≤ u → u < t → admissible p u ≡ false
-
--- from 1 on
-abbrev pub Climbed : Plan → ℕ → Type 0
-Climbed p t = Ascended p 1 t
 
 -- down: every duration from t to top is admissible
 pub record Descended (p : Plan) (t : ℕ) : Type 0 where
@@ -79,6 +75,13 @@ module _ (p : Plan) (valid : validPlan p ≡ true) where
   pub largest-none : (t : ℕ) → 0 < t → largestNeed p t ≤ t → (q : ℕ) → q < portSlots → fails p t q ≡ false
   largest-none t long l q slot = eq-false-of-not-eq-true (λ e. omega (arith, l, fails-largest t q long slot e))
 
+  pub none-largest : (t : ℕ) → ((q : ℕ) → q < portSlots → fails p t q ≡ false) → largestNeed p t ≤ t
+  none-largest t h = go (decLt t (largestNeed p t))
+    where
+      go : Dec (t < largestNeed p t) → largestNeed p t ≤ t
+      go (yes less) = let m = largest-fails t less in absurd (false≢true (sym (h (m .0) (m .1)) ∙ m .2))
+      go (no l) = omega arith
+
   pub ascent-start : (d : ℕ) → 1 ≤ d → d ≤ p .top → Ascended p d d
   ascent-start d h l = record { start = h; first = le-refl d; within = l; none = λ u k m. absurd (omega arith) }
 
@@ -108,18 +111,9 @@ module _ (p : Plan) (valid : validPlan p ≡ true) where
       pub ascent-over : p .top < largestNeed p t → leastFrom p d ≡ suc (p .top)
       ascent-over l = least-from-none p d (λ u h m. ascent-passed u h (omega arith))
 
-  -- the same from 1 on
-  pub climb-start : Climbed p 1
-  climb-start = ascent-start 1 (le-refl 1) (top-positive p valid)
-
-  pub climb-found : (t : ℕ) → Climbed p t → ((q : ℕ) → q < portSlots → fails p t q ≡ false) → least p ≡ t
-  climb-found t s h = sym (least-from-first p) ∙ ascent-found s h
-
-  pub climb-next : (t : ℕ) → Climbed p t → t < largestNeed p t → largestNeed p t ≤ p .top → Climbed p (largestNeed p t)
-  climb-next t = ascent-next
-
-  pub climb-over : (t : ℕ) → Climbed p t → t < largestNeed p t → p .top < largestNeed p t → least p ≡ suc (p .top)
-  climb-over t s less l = sym (least-from-first p) ∙ ascent-over s less l
+  -- the same from 1 on: this is the least duration
+  pub ascent-least : {t : ℕ} → Ascended p 1 t → ((q : ℕ) → q < portSlots → fails p t q ≡ false) → least p ≡ t
+  ascent-least s h = sym (least-from-first p) ∙ ascent-found s h
 
   pub descent-start : Descended p (suc (p .top))
   descent-start = record { first = omega arith; within = le-refl _; safe = λ u h l. absurd (omega arith) }

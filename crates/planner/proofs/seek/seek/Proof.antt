@@ -6,8 +6,8 @@ use Rattle.planner.proofs.seek.seek.Tie as tie
 enum-told : tie.Need-enum-told
 enum-told c = search needs
 
-climb-requires : tie.Need-climb-requires
-climb-requires c κs = search needs
+ascend-requires : tie.Need-ascend-requires
+ascend-requires c κs = search needs
 
 enum-told-2 : tie.Need-enum-told-2
 enum-told-2 c = search needs
@@ -19,7 +19,7 @@ same-length : tie.Need-same-length
 same-length c = search needs
 
 returns : tie.Need-returns
-returns c = rw (c .before .before .before .before .enum-told .given .1) (c .before .before .climb .ensures)
+returns c = rw (c .before .before .before .before .enum-told .given .1) (c .before .before .ascend .ensures)
 
 same-length-2 : tie.Need-same-length-2
 same-length-2 c = search needs
@@ -32,7 +32,7 @@ seek-spec =
     tie.close
     (tie.spec
     enum-told
-    climb-requires
+    ascend-requires
     enum-told-2
     descend-requires
     same-length
