@@ -16,6 +16,7 @@ static cp_planner held, empty;
 static cp_load_outcome loaded;
 static cp_answer answer;
 static cp_slack_answer slacked;
+static cp_fixed_point_answer stepped;
 static cp_field_read field;
 static uint64_t scratch[PORTS];
 static uint8_t repeats;
@@ -28,6 +29,7 @@ static cp_load_outcome see_load(cp_planner p, const uint8_t *b, size_t n) { SEEN
 static cp_answer see_check(cp_planner p, uint64_t d) { SEEN; (void)p, (void)d; return answer; }
 static cp_slack_answer see_slack(cp_planner p, uint64_t n, uint64_t d) { SEEN; (void)p, (void)n, (void)d; return slacked; }
 static cp_answer see_search(cp_planner p, uint64_t *s, size_t n) { SEEN; (void)p, (void)s, (void)n; return answer; }
+static cp_fixed_point_answer see_steps(cp_planner p, uint64_t d, uint64_t n) { SEEN; (void)p, (void)d, (void)n; return stepped; }
 static cp_field_read see_field(const uint8_t *b, size_t n, size_t o) { SEEN; (void)b, (void)n, (void)o; return field; }
 static uint8_t see_repeats(const uint8_t *b, size_t n) { SEEN; (void)b, (void)n; return 0; }
 
@@ -105,6 +107,12 @@ MEASURED(on_margin_safe) {
   return unused;
 }
 
+MEASURED(on_fixed_point) {
+  MEASURE(cp_fixed_point_answer (*volatile call)(cp_planner, uint64_t, uint64_t), see_steps, cp_fixed_point,
+          stepped = call(held, 1, 1 << 20));
+  return unused;
+}
+
 MEASURED(on_field) {
   MEASURE(cp_field_read (*volatile call)(const uint8_t *, size_t, size_t), see_field, cp_field,
           field = call(accepted.bytes, accepted.length, 0));
@@ -133,12 +141,13 @@ static void read_plan(const char *path, plan_bytes *plan) {
   fclose(file);
 }
 
-static void questions(const char *check, const char *slack, const char *least, const char *margin_safe) {
+static void questions(const char *check, const char *slack, const char *least, const char *margin_safe, const char *fixed_point) {
   const size_t given = sizeof held;
   row(check, on_check, given, sizeof answer);
   row(slack, on_slack, given, sizeof slacked);
   row(least, on_least, given, sizeof answer);
   row(margin_safe, on_margin_safe, given, sizeof answer);
+  row(fixed_point, on_fixed_point, given, sizeof stepped);
 }
 
 int main(int count, char **paths) {
@@ -160,11 +169,11 @@ int main(int count, char **paths) {
   if (loaded.answer.refusal == 0) return 1;
   row("cp_load_strict, refused", on_refused_load_strict, sizeof held, sizeof loaded);
   if (loaded.answer.refusal == 0) return 1;
-  questions("cp_check", "cp_slack", "cp_least", "cp_margin_safe");
+  questions("cp_check", "cp_slack", "cp_least", "cp_margin_safe", "cp_fixed_point");
   if (answer.refusal != 0) return 1;
   held = overloaded;
-  questions("cp_check, refused", "cp_slack, negative", "cp_least, refused", "cp_margin_safe, refused");
-  if (answer.refusal == 0) return 1;
+  questions("cp_check, refused", "cp_slack, negative", "cp_least, refused", "cp_margin_safe, refused", "cp_fixed_point, refused");
+  if (answer.refusal == 0 || stepped.refusal != 22) return 1;
   row("cp_field", on_field, 0, sizeof field);
   row("cp_repeats", on_repeats, 0, sizeof repeats);
   return 0;

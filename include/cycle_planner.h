@@ -2,7 +2,7 @@
  * an empty one too. A slice is a pointer and a length; a pointer that does not hold as many elements as its length says is
  * outside what is proved. An empty slice wants a pointer that is not null, aligned for its elements. A mutable slice overlaps nothing else.
  * Document 01's refusal number is in `refusal`, 0 where there is a result. Stack of a call, beside the planner and the answer that the
- * caller holds: a load 33 KB, a question 8.7 KB. No heap. */
+ * caller holds: a load 33 KB, a question 8.8 KB. No heap. */
 #ifndef CYCLE_PLANNER_H
 #define CYCLE_PLANNER_H
 #include <stddef.h>
@@ -31,6 +31,7 @@ typedef struct {
 typedef struct { uint32_t refusal; uint64_t first, second; } cp_answer;
 typedef struct { cp_planner planner; cp_answer answer; } cp_load_outcome;
 typedef struct { uint32_t refusal; int64_t slack; } cp_slack_answer;
+typedef struct { uint32_t refusal; uint64_t first, second, steps; } cp_fixed_point_answer;
 typedef struct { uint32_t refusal, tag; uint64_t offset; uint64_t numbers[5]; } cp_field_read;
 
 /* The planner that holds no plan. */
@@ -56,6 +57,12 @@ cp_slack_answer cp_slack(cp_planner planner, uint64_t port, uint64_t duration);
  * failing port at top, second = how many fail; the first 64 numbers are the demand at top. Later numbers never change. */
 cp_answer cp_least(cp_planner planner, uint64_t *scratch, size_t length);
 cp_answer cp_margin_safe(cp_planner planner, uint64_t *scratch, size_t length);
+
+/* The least admissible duration at or after a start, by at most so many steps of the fixed-point iteration. Result: first =
+ * duration in ns, second = 0, steps = how many were used. Refusal 20, 10 (a start outside 1 to top): 0, 0, 0. 22, none up to top:
+ * first = lowest failing port at top, second = how many fail, steps = how many were used. 26, the steps ended before: first = the
+ * duration reached, second = 0, steps = those given; another call with that duration for its start goes on from there. */
+cp_fixed_point_answer cp_fixed_point(cp_planner planner, uint64_t start, uint64_t steps);
 
 /* The field at an offset of a plan, by tests 2 to 5. Result: tag 1 to 6; offset = the one after the field; numbers:
  * 1, header: guard, top; 2, port: number, rate, blocker; 3, flow: number, period, count, length, hops; 4, extra bytes per

@@ -1,4 +1,4 @@
-//! Plans found by a search for many rounds: periods in ns, lengths and blockers in bytes, rates in Mbit/s.
+//! Plans found by a search for many steps: periods in ns, lengths and blockers in bytes, rates in Mbit/s.
 
 /// One port: the flows of the shortest frames, and those whose second period begins late, with the bytes of their frames.
 pub struct OnePort {

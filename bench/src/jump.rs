@@ -97,31 +97,31 @@ fn largest_need(planner: &Planner, demands: &[u64; PORTS]) -> u64 {
     (0..PORTS).map(|slot| need(planner, slot, demands[slot])).max().unwrap_or(0)
 }
 
-/// The least duration, or one above top where there is none; and the rounds.
+/// The least duration, or one above top where there is none; and the steps.
 fn ascend<const CHECKED: bool>(planner: &Planner, out: &mut [u64; PORTS]) -> (u64, u64) {
     let top = planner.top as u64;
-    let (mut t, mut rounds) = (1, 0);
+    let (mut t, mut steps) = (1, 0);
     loop {
-        rounds += 1;
+        steps += 1;
         demands::<CHECKED>(planner, t, out);
         let span = window(planner, t);
         if !(0..PORTS).any(|slot| fails(planner, slot, span, out[slot])) {
-            return (t, rounds);
+            return (t, steps);
         }
         let next = largest_need(planner, out);
         if top < next {
-            return (top + 1, rounds);
+            return (top + 1, steps);
         }
         t = next;
     }
 }
 
-/// The margin-safe duration, or one above top where there is none; and the rounds.
+/// The margin-safe duration, or one above top where there is none; and the steps.
 fn descend<const CHECKED: bool>(planner: &Planner, out: &mut [u64; PORTS]) -> (u64, u64) {
     let top = planner.top as u64;
-    let (mut below, mut rounds) = (top, 0);
+    let (mut below, mut steps) = (top, 0);
     let found = loop {
-        rounds += 1;
+        steps += 1;
         demands::<CHECKED>(planner, below, out);
         let most = largest_need(planner, out).max(1);
         if below < most {
@@ -132,10 +132,10 @@ fn descend<const CHECKED: bool>(planner: &Planner, out: &mut [u64; PORTS]) -> (u
     if found <= top {
         demands::<CHECKED>(planner, found, out);
     }
-    (found, rounds)
+    (found, steps)
 }
 
-/// The answer `least` gives, and the rounds.
+/// The answer `least` gives, and the steps.
 pub fn least<const CHECKED: bool>(planner: &Planner, scratch: &mut [u64]) -> (Answer, u64) {
     if !valid_plan(planner) {
         return (Answer::refused(20), 0);
@@ -144,14 +144,14 @@ pub fn least<const CHECKED: bool>(planner: &Planner, scratch: &mut [u64]) -> (An
         return (Answer::refused(11), 0);
     }
     let out: &mut [u64; PORTS] = (&mut scratch[..PORTS]).try_into().unwrap();
-    let (found, rounds) = ascend::<CHECKED>(planner, out);
+    let (found, steps) = ascend::<CHECKED>(planner, out);
     if found <= planner.top as u64 {
-        return (Answer::new(0, found, 0), rounds);
+        return (Answer::new(0, found, 0), steps);
     }
-    (refused_at_top::<CHECKED>(22, planner, out), rounds)
+    (refused_at_top::<CHECKED>(22, planner, out), steps)
 }
 
-/// The answer `margin_safe` gives, and the rounds.
+/// The answer `margin_safe` gives, and the steps.
 pub fn margin_safe<const CHECKED: bool>(planner: &Planner, scratch: &mut [u64]) -> (Answer, u64) {
     if !valid_plan(planner) {
         return (Answer::refused(20), 0);
@@ -160,9 +160,9 @@ pub fn margin_safe<const CHECKED: bool>(planner: &Planner, scratch: &mut [u64]) 
         return (Answer::refused(11), 0);
     }
     let out: &mut [u64; PORTS] = (&mut scratch[..PORTS]).try_into().unwrap();
-    let (found, rounds) = descend::<CHECKED>(planner, out);
+    let (found, steps) = descend::<CHECKED>(planner, out);
     if found <= planner.top as u64 {
-        return (Answer::new(0, found, 0), rounds);
+        return (Answer::new(0, found, 0), steps);
     }
-    (refused_at_top::<CHECKED>(23, planner, out), rounds)
+    (refused_at_top::<CHECKED>(23, planner, out), steps)
 }

@@ -21,35 +21,55 @@ use answers::{Answer, Planner};
 use std::io::Write;
 use std::os::raw::c_long;
 
-/// The answer, if the part came to one, and its rounds (none told by the planner) or durations tried.
+/// The answer, if the part came to one, and its steps (none told by the planner) or durations tried.
 type Outcome = (Option<Answer>, u64);
 
 #[inline(never)]
-extern "C" fn jump_least<const CHECKED: bool>(planner: Planner, scratch: &mut [u64; 64], rounds: &mut u64) -> Answer {
+extern "C" fn jump_least<const CHECKED: bool>(planner: Planner, scratch: &mut [u64; 64], steps: &mut u64) -> Answer {
     let (answer, taken) = jump::least::<CHECKED>(&planner, scratch);
-    *rounds = taken;
+    *steps = taken;
     answer
 }
 
 #[inline(never)]
-extern "C" fn jump_safe<const CHECKED: bool>(planner: Planner, scratch: &mut [u64; 64], rounds: &mut u64) -> Answer {
+extern "C" fn jump_safe<const CHECKED: bool>(planner: Planner, scratch: &mut [u64; 64], steps: &mut u64) -> Answer {
     let (answer, taken) = jump::margin_safe::<CHECKED>(&planner, scratch);
-    *rounds = taken;
+    *steps = taken;
     answer
+}
+
+/// Steps of the iteration given to each call.
+const SIXTEEN: u64 = 16;
+
+/// The iteration from 1 to its end, sixteen steps a call; and the steps.
+fn sixteens(planner: &Planner) -> (Answer, u64) {
+    let (mut from, mut used) = (1, 0);
+    loop {
+        let part = ffi::fixed_point(planner, from, SIXTEEN);
+        used += part.steps;
+        if part.refusal != 26 {
+            return (part.answer(), used);
+        }
+        from = part.first;
+    }
 }
 
 /// A search. What callgrind counts: from here to the return.
 #[no_mangle]
 #[inline(never)]
 fn measured_search(part: &str, planner: &Planner, scratch: &mut [u64; 64], most: u64) -> Outcome {
-    let mut rounds = 0;
+    let mut steps = 0;
     match part {
         "least" => (Some(ffi::least(planner, scratch)), 0),
         "safe" => (Some(ffi::margin_safe(planner, scratch)), 0),
-        "jump-least" => (Some(jump_least::<true>(planner.clone(), scratch, &mut rounds)), rounds),
-        "jump-safe" => (Some(jump_safe::<true>(planner.clone(), scratch, &mut rounds)), rounds),
-        "bare-least" => (Some(jump_least::<false>(planner.clone(), scratch, &mut rounds)), rounds),
-        "bare-safe" => (Some(jump_safe::<false>(planner.clone(), scratch, &mut rounds)), rounds),
+        "jump-least" => (Some(jump_least::<true>(planner.clone(), scratch, &mut steps)), steps),
+        "jump-safe" => (Some(jump_safe::<true>(planner.clone(), scratch, &mut steps)), steps),
+        "bare-least" => (Some(jump_least::<false>(planner.clone(), scratch, &mut steps)), steps),
+        "bare-safe" => (Some(jump_safe::<false>(planner.clone(), scratch, &mut steps)), steps),
+        "sixteens" => {
+            let (answer, used) = sixteens(planner);
+            (Some(answer), used)
+        }
         "scan-least" => scan::least(planner, scratch, most),
         "scan-safe" => scan::margin_safe(planner, scratch, most),
         other => panic!("no such part: {other}"),
@@ -99,7 +119,7 @@ fn told(answer: Answer, left: impl Iterator<Item = u64>) -> String {
     format!("{}/{}/{}/{sum:x}", answer.refusal, answer.first, answer.second)
 }
 
-/// A search on a plan: the answer, its rounds or the durations tried, and its microseconds.
+/// A search on a plan: the answer, its steps or the durations tried, and its microseconds.
 fn search(case: &plans::Case, part: &str) {
     let (planner, loaded) = ffi::load(&ffi::empty(), &case.bytes);
     assert_eq!(loaded.refusal, 0, "the plan is refused: {loaded:?}");

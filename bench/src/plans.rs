@@ -105,7 +105,7 @@ fn late_clocks(load: f64) -> Vec<u8> {
     plan
 }
 
-/// One flow whose frame takes a whole period: every round goes one period further.
+/// One flow whose frame takes a whole period: every step goes one period further.
 fn one_flow() -> Vec<u8> {
     let mut plan = Vec::new();
     header(&mut plan, 1, 100_000_000);

@@ -2,6 +2,7 @@
  * each number of the lent scratch, against its expected value. Prints what differs; exit status 1 where something does. */
 #include "k.h"
 #include "later.h"
+#include "steps.h"
 #include "strict.h"
 
 _Static_assert(sizeof(cp_planner) == 7892, "a planner has 7,892 bytes");
@@ -108,6 +109,7 @@ int main(void) {
   k = loaded("cp_load of 51 bytes of K", k, K, sizeof K - 1, answer(2, FLOW_2_AT, 0), planner_of_k());
   rows_of_k(k);
   searches(cp_empty(), k);
+  fixed_points(cp_empty(), k);
   neighbours(k);
   uncrossed_port(k);
   extra_bytes(k);

@@ -52,6 +52,11 @@ static void same_answer(const char *call, cp_answer got, cp_answer want) {
   same(call, "second", got.second, want.second);
 }
 
+static void same_steps(const char *call, cp_fixed_point_answer got, cp_answer want, uint64_t steps) {
+  same_answer(call, answer(got.refusal, got.first, got.second), want);
+  same(call, "steps", got.steps, steps);
+}
+
 static void same_slack(const char *call, cp_slack_answer got, uint32_t refusal, int64_t slack) {
   same(call, "refusal", got.refusal, refusal);
   same(call, "slack", (uint64_t)got.slack, (uint64_t)slack);

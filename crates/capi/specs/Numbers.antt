@@ -1,11 +1,13 @@
--- An outcome as numbers: document 01's refusal number, 0 for a result, and up to two numbers with it.
+-- An outcome as numbers: document 01's refusal number, 0 for a result, and up to three numbers with it.
 use Prim.Native.Nat.{ℕ}
 use mathlib.Core.List.{List, [], _∷_}
 use lib.IntN.{ℤ, pos}
 use Rattle.loading.specs.Outcome.{Answer, result, refusal, Fields}
 use Rattle.plan.specs.Field.{header, port, flow, extra, jitter, clock, FieldRead, field, refused, headerTag, portTag, flowTag, extraTag, jitterTag, clockTag}
+use Rattle.planner.specs.FixedPoint.{FixedPoint}
 use Rattle.capi.specs.declared.AnswerNumbers.{AnswerNumbers}
 use Rattle.capi.specs.declared.SlackAnswerNumbers.{SlackAnswerNumbers}
+use Rattle.capi.specs.declared.FixedPointAnswerNumbers.{FixedPointAnswerNumbers}
 use Rattle.capi.specs.declared.FieldReadNumbers.{FieldReadNumbers}
 
 abbrev pub answerNumbers : ℕ → ℕ → ℕ → AnswerNumbers
@@ -35,6 +37,20 @@ slackAnswerNumbers number slack = record { refusal = number; slack = slack }
 abbrev pub slackNumbers : Answer ℤ → SlackAnswerNumbers
 slackNumbers (result z) = slackAnswerNumbers 0 z
 slackNumbers (refusal number values) = slackAnswerNumbers number (pos 0)
+
+-- an answer that says last how many steps were used
+abbrev pub stepsAnswerNumbers : ℕ → ℕ → ℕ → ℕ → FixedPointAnswerNumbers
+stepsAnswerNumbers number first second steps = record { refusal = number; first = first; second = second; steps = steps }
+
+abbrev pub steppedWith : ℕ → List ℕ → FixedPointAnswerNumbers
+steppedWith number [] = stepsAnswerNumbers number 0 0 0
+steppedWith number (a ∷ []) = stepsAnswerNumbers number a 0 0
+steppedWith number (a ∷ n ∷ []) = stepsAnswerNumbers number a 0 n
+steppedWith number (a ∷ b ∷ n ∷ rest) = stepsAnswerNumbers number a b n
+
+abbrev pub stepsNumbers : Answer FixedPoint → FixedPointAnswerNumbers
+stepsNumbers (result r) = stepsAnswerNumbers 0 (r .duration) 0 (r .steps)
+stepsNumbers (refusal number values) = steppedWith number values
 
 -- a field's tag and its numbers, 0 behind them
 abbrev pub fieldNumbers : FieldRead → FieldReadNumbers

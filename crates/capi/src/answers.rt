@@ -1,16 +1,19 @@
 // Each answer of the planner as numbers: document 01's refusal, 0 for a result, and what it carries.
 use crate::AnswerNumbers;
 use crate::FieldReadNumbers;
+use crate::FixedPointAnswerNumbers;
 use crate::LoadOutcomeNumbers;
 use crate::SlackAnswerNumbers;
 use plan::Field;
 use plan::FieldRead;
 use planner::CheckAnswer;
+use planner::FixedPointAnswer;
 use planner::LoadAnswer;
 use planner::LoadOutcome;
 use planner::SearchAnswer;
 use planner::SlackAnswer;
 use planner::check_number;
+use planner::fixed_point_number;
 use planner::least_number;
 use planner::load_number;
 use planner::margin_safe_number;
@@ -21,8 +24,8 @@ ghost use Rattle.plan.specs.Answer.{fieldReadOf};
 ghost use Rattle.tables.specs.Tables.{planOf};
 ghost use Rattle.loading.specs.Outcome.{numberOf};
 ghost use Rattle.loading.specs.Answer.{loadOf};
-ghost use Rattle.planner.specs.Answer.{checkOf, slackOf, searchOf, leastOf, marginSafeOf};
-ghost use Rattle.capi.specs.Numbers.{loadNumbers, checkNumbers, slackNumbers, searchNumbers, fieldNumbers};
+ghost use Rattle.planner.specs.Answer.{checkOf, slackOf, searchOf, leastOf, marginSafeOf, fixedPointOf};
+ghost use Rattle.capi.specs.Numbers.{loadNumbers, checkNumbers, slackNumbers, searchNumbers, stepsNumbers, fieldNumbers};
 
 // The tags of the fields.
 const HEADER: u32 = plan::read::HEADER_TAG as u32;
@@ -116,6 +119,32 @@ pub(crate) fn margin_safe_numbers(answer: SearchAnswer) -> AnswerNumbers
     ensures { λ r. ⌜ r ≡ searchNumbers (marginSafeOf answer) ⌝ }
 {
     search_numbers(margin_safe_number(answer), answer)
+}
+
+fn stepped(refusal: u32, first: u64, second: u64, steps: u64) -> FixedPointAnswerNumbers
+    ensures { λ r. ⌜ r ≡ (record { refusal = refusal; first = first; second = second; steps = steps }) ⌝ }
+{
+    FixedPointAnswerNumbers {
+        refusal,
+        first,
+        second,
+        steps,
+    }
+}
+
+pub(crate) fn fixed_point_numbers(answer: FixedPointAnswer) -> FixedPointAnswerNumbers
+    ensures { λ r. ⌜ r ≡ stepsNumbers (fixedPointOf answer) ⌝ }
+{
+    let refusal = fixed_point_number(answer);
+    match answer {
+        FixedPointAnswer::Duration { duration, steps } => stepped(refusal, duration, 0, steps),
+        FixedPointAnswer::NoPlan => stepped(refusal, 0, 0, 0),
+        FixedPointAnswer::BadStart => stepped(refusal, 0, 0, 0),
+        FixedPointAnswer::Failing { port, count, steps } => {
+            stepped(refusal, port as u64, count as u64, steps)
+        }
+        FixedPointAnswer::Unfinished { duration, steps } => stepped(refusal, duration, 0, steps),
+    }
 }
 
 pub(crate) fn field_numbers(reading: FieldRead) -> FieldReadNumbers

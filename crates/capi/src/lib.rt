@@ -1,6 +1,7 @@
 // The planner for C and Rust: the calls with their answers as numbers (include/cycle_planner.h).
 use crate::answers::check_numbers;
 use crate::answers::field_numbers;
+use crate::answers::fixed_point_numbers;
 use crate::answers::least_numbers;
 use crate::answers::margin_safe_numbers;
 use crate::answers::outcome_numbers;
@@ -13,8 +14,9 @@ ghost use Rattle.plan_reading.specs.Reading.{loose, strict};
 ghost use Rattle.tables.specs.Tables.{planOf};
 ghost use Rattle.loading.specs.Outcome.{loadAnswer, loadLeaves};
 ghost use Rattle.planner.specs.Outcome.{checkAnswer, slackAnswer, leastAnswer, leastLeaves, marginSafeAnswer, marginSafeLeaves};
+ghost use Rattle.planner.specs.FixedPoint.{fixedPointAnswer};
 ghost use Rattle.capi.specs.Meaning.{CheckNumbersMean};
-ghost use Rattle.capi.specs.Numbers.{loadNumbers, checkNumbers, slackNumbers, searchNumbers, fieldNumbers};
+ghost use Rattle.capi.specs.Numbers.{loadNumbers, checkNumbers, slackNumbers, searchNumbers, stepsNumbers, fieldNumbers};
 
 mod answers; // answers.rt: each answer as numbers
 
@@ -35,6 +37,14 @@ pub struct LoadOutcomeNumbers {
 pub struct SlackAnswerNumbers {
     pub refusal: u32,
     pub slack: i64,
+}
+
+#[repr(C)]
+pub struct FixedPointAnswerNumbers {
+    pub refusal: u32,
+    pub first: u64,
+    pub second: u64,
+    pub steps: u64,
 }
 
 #[repr(C)]
@@ -108,4 +118,15 @@ pub extern "C" fn cp_margin_safe(planner: Planner, scratch: &mut [u64]) -> Answe
     ensures { λ r. ⌜ (r ≡ searchNumbers (marginSafeAnswer (planOf planner) (now (scratch .entry)))) × (now (scratch .exit) ≡ marginSafeLeaves (planOf planner) (now (scratch .entry))) ⌝ }
 {
     margin_safe_numbers(planner::margin_safe(planner, scratch))
+}
+
+#[no_mangle]
+pub extern "C" fn cp_fixed_point(
+    planner: Planner,
+    start: u64,
+    steps: u64,
+) -> FixedPointAnswerNumbers
+    ensures { λ r. ⌜ r ≡ stepsNumbers (fixedPointAnswer (planOf planner) start steps) ⌝ }
+{
+    fixed_point_numbers(planner::fixed_point(planner, start, steps))
 }

@@ -70,10 +70,18 @@ unfoldable pub mostSteps : Plan → ℕ
 unfolding later sumTo
 mostSteps p = 2 + sumTo flowSlots (λ f. later p f (p .top))
 
+-- u is the least admissible duration from t to top
+pub record LeastAdmissible (p : Plan) (t u : ℕ) : Type 0 where
+  pub from : t ≤ u
+  pub within : u ≤ p .top
+  pub good : admissible p u ≡ true
+  pub first : (v : ℕ) → t ≤ v → v < u → admissible p v ≡ false
+
 -- What the iteration from t is, for a valid plan and t from 1 to top.
 pub record Converges (p : Plan) (t : ℕ) : Type 0 where
   -- with all of its steps or more it ends, after just its length: with the least admissible duration from t on, or none up to top
   pub ends : (n : ℕ) → stepsFrom p t ≤ n → iterate p t n ≡ ended p (leastFrom p t) (stepsFrom p t)
+  pub finds : (n u : ℕ) → stepsFrom p t ≤ n → (iterate p t n ≡ found u (stepsFrom p t)) ↔ LeastAdmissible p t u
   pub none-up-to-top
       : (n : ℕ)
       → stepsFrom p t ≤ n

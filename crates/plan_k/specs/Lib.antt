@@ -6,3 +6,4 @@ pub mod Clock
 pub mod Lighter
 pub mod Order
 pub mod Strict
+pub mod FixedPoint

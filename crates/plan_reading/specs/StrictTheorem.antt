@@ -20,8 +20,8 @@ use Rattle.plan_reading.specs.laws.Order.{flagged-blank}
 use Rattle.plan_reading.specs.laws.PlanLength.{sized, read-sized}
 use Rattle.plan_reading.specs.laws.Late.{known-none}
 use Rattle.plan_reading.specs.laws.Strictly.{strict-reading}
-use Rattle.plan_reading.specs.laws.Rows.{Climbs, climbs-rising, rising-from}
-use Rattle.plan_reading.specs.laws.InOrder.{none-late, strict-climbs, climbs-same, permuted-holds}
+use Rattle.plan_reading.specs.laws.Rows.{Ascends, ascends-rising, rising-from}
+use Rattle.plan_reading.specs.laws.InOrder.{none-late, strict-ascends, ascends-same, permuted-holds}
 use Rattle.plan_reading.specs.laws.Written.{plan-bytes}
 use Rattle.plan_reading.specs.laws.Content.{same-content, same-itself}
 
@@ -46,10 +46,10 @@ read-loosely loose s p m k e = e
 read-loosely strict s p m k e = strictly-accepted s (firstLate s) (readAs loose s) p m k (sym (strict-reading s) ∙ e)
 
 -- the keys of its fields rise
-keys-climb : (s : List ℕ) (p : Plan) (ports flows : ℕ) → readAs strict s ≡ accepted p ports flows → Climbs 0 (fieldsIn s)
+keys-ascend : (s : List ℕ) (p : Plan) (ports flows : ℕ) → readAs strict s ≡ accepted p ports flows → Ascends 0 (fieldsIn s)
 unfolding fieldsIn
-keys-climb s p m k e =
-    strict-climbs (length s) s 0 0 blank 0 p m k flagged-blank (λ x fresh in-time. omega arith)
+keys-ascend s p m k e =
+    strict-ascends (length s) s 0 0 blank 0 p m k flagged-blank (λ x fresh in-time. omega arith)
     (sym (read-sized strict s (sized strict s p m k e)) ∙ e)
 
 -- a plan in order has no field that should have stood earlier
@@ -65,7 +65,7 @@ pub strict-accepts
 strict-accepts s p m k = (to, from)
   where
     to : readAs strict s ≡ accepted p m k → (readAs loose s ≡ accepted p m k) × InOrder s
-    to e = (strictly-accepted s (firstLate s) (readAs loose s) p m k (sym (strict-reading s) ∙ e), climbs-rising (keys-climb s p m k e))
+    to e = (strictly-accepted s (firstLate s) (readAs loose s) p m k (sym (strict-reading s) ∙ e), ascends-rising (keys-ascend s p m k e))
 
     from : (readAs loose s ≡ accepted p m k) × InOrder s → readAs strict s ≡ accepted p m k
     from h =
@@ -100,7 +100,7 @@ strict-bytes s t o u a b = (to, λ e. subst (SameContent s) e (Permᴰ·refl (fi
   where
     row : SameContent s t → fieldsIn s ≡ fieldsIn t
     row same =
-        climbs-same (keys-climb s (a .plan) (a .ports) (a .flows) (a .reads)) (keys-climb t (b .plan) (b .ports) (b .flows) (b .reads))
+        ascends-same (keys-ascend s (a .plan) (a .ports) (a .flows) (a .reads)) (keys-ascend t (b .plan) (b .ports) (b .flows) (b .reads))
         (permuted-holds same)
         (permuted-holds (Permᴰ·symm same))
 

@@ -3,9 +3,11 @@ use Prim.Native.Nat.{ℕ}
 use mathlib.Core.List.{[], _∷_}
 use lib.IntN.{ℤ}
 use Rattle.loading.specs.Outcome.{Answer, result, refusal}
+use Rattle.planner.specs.FixedPoint.{FixedPoint}
 use Rattle.planner.specs.declared.CheckAnswer.{CheckAnswer}
 use Rattle.planner.specs.declared.SlackAnswer.{SlackAnswer}
 use Rattle.planner.specs.declared.SearchAnswer.{SearchAnswer}
+use Rattle.planner.specs.declared.FixedPointAnswer.{FixedPointAnswer}
 
 abbrev pub checkOf : CheckAnswer → Answer (Unit {0})
 checkOf CheckAnswer.Admissible = result tt
@@ -32,3 +34,11 @@ leastOf = searchOf 22
 
 abbrev pub marginSafeOf : SearchAnswer → Answer ℕ
 marginSafeOf = searchOf 23
+
+-- the answer of the fixed-point iteration
+abbrev pub fixedPointOf : FixedPointAnswer → Answer FixedPoint
+fixedPointOf (FixedPointAnswer.Duration duration steps) = result (record { duration = duration; steps = steps })
+fixedPointOf FixedPointAnswer.NoPlan = refusal 20 (0 ∷ [])
+fixedPointOf FixedPointAnswer.BadStart = refusal 10 (0 ∷ [])
+fixedPointOf (FixedPointAnswer.Failing port count steps) = refusal 22 (port ∷ count ∷ steps ∷ [])
+fixedPointOf (FixedPointAnswer.Unfinished duration steps) = refusal 26 (duration ∷ steps ∷ [])

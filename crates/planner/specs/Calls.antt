@@ -12,6 +12,7 @@ pub data Question : Type 0 where
   slack : (port duration : ℕ) → Question
   least : (scratch : List ℕ) → Question
   marginSafe : (scratch : List ℕ) → Question
+  fixedPoint : (start steps : ℕ) → Question
 
 -- a load says in which reading
 pub data Call : Type 0 where

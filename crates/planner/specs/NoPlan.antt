@@ -18,9 +18,9 @@ use Rattle.loading.specs.Outcome.{Answer, result, numberOf}
 use Rattle.planner.specs.Outcome.{failingAt, checkAnswer}
 use Rattle.planner.specs.Calls as Calls
 use Rattle.planner.specs.Calls.{Call, Question, after, heldBytes}
-use Rattle.planner.specs.Reply.{Reply, ofCheck, ofSlack, ofSearch, reply, noPlanReply}
+use Rattle.planner.specs.Reply.{Reply, ofCheck, ofSlack, ofSearch, ofFixedPoint, reply, noPlanReply}
 use Rattle.planner.specs.laws.Answers
-use Rattle.planner.specs.laws.Answers.{check-none, slack-none, check-within}
+use Rattle.planner.specs.laws.Answers.{check-none, slack-none, fixed-point-none, check-within}
 use Rattle.planner.specs.laws.Calls.{after-none, after-loaded}
 use Rattle.planner.specs.laws.Searched.{ends-no-plan, least-ends, margin-safe-ends}
 
@@ -34,12 +34,14 @@ answers-none p e (Calls.least scratch) =
 answers-none p e (Calls.marginSafe scratch) =
     let h = margin-safe-ends p scratch (ends-no-plan 23 marginSafe p scratch e) in
     ap₂ ofSearch (sym (h .0)) (sym (h .1))
+answers-none p e (Calls.fixedPoint start steps) = ap ofFixedPoint (fixed-point-none p start steps e)
 
 -- a valid plan is not refused 20 at 1 ns
 verdictNumber : Reply → ℕ
 verdictNumber (ofCheck answer) = numberOf answer
 verdictNumber (ofSlack answer) = 0
 verdictNumber (ofSearch answer scratch) = 0
+verdictNumber (ofFixedPoint answer) = 0
 
 answers-some : (p : Plan) → validPlan p ≡ true → reply p (Calls.check 1) ≡ noPlanReply (Calls.check 1) → ⊥
 unfolding verdictNumber

@@ -13,3 +13,4 @@ pub mod PortTest
 pub mod Iteration
 pub mod Descent
 pub mod Searched
+pub mod Iterations

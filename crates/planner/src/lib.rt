@@ -4,6 +4,7 @@ mod demand;
 mod descend;
 mod failing;
 mod iterate;
+mod iteration;
 mod need;
 mod number;
 mod port_demand;
@@ -12,12 +13,14 @@ mod question;
 mod search;
 mod seek;
 
+pub use iteration::fixed_point;
 pub use loading::LoadAnswer;
 pub use loading::LoadOutcome;
 pub use loading::load;
 pub use loading::load_strict;
 pub use loading::read_plan;
 pub use number::check_number;
+pub use number::fixed_point_number;
 pub use number::least_number;
 pub use number::load_number;
 pub use number::margin_safe_number;
@@ -50,4 +53,12 @@ pub enum SearchAnswer {
     NoPlan,
     ShortScratch,
     Failing { port: u32, count: u32 },
+}
+
+pub enum FixedPointAnswer {
+    Duration { duration: u64, steps: u64 },
+    NoPlan,
+    BadStart,
+    Failing { port: u32, count: u32, steps: u64 },
+    Unfinished { duration: u64, steps: u64 },
 }

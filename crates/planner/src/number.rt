@@ -1,5 +1,6 @@
 // Document 01's number of each answer, 0 for a result.
 use super::CheckAnswer;
+use super::FixedPointAnswer;
 use super::SearchAnswer;
 use super::SlackAnswer;
 use loading::LoadAnswer;
@@ -7,7 +8,7 @@ use plan::fault_number;
 ghost use mathlib.Core.Path.{_≡_};
 ghost use Rattle.loading.specs.Outcome.{numberOf};
 ghost use Rattle.loading.specs.Answer.{loadOf};
-ghost use Rattle.planner.specs.Answer.{checkOf, slackOf, searchOf, leastOf, marginSafeOf};
+ghost use Rattle.planner.specs.Answer.{checkOf, slackOf, searchOf, leastOf, marginSafeOf, fixedPointOf};
 
 const BAD_DURATION: u32 = 10;
 
@@ -22,6 +23,8 @@ const NO_LEAST: u32 = 22;
 const NO_MARGIN_SAFE: u32 = 23;
 
 const NOT_CROSSED: u32 = 24;
+
+const UNFINISHED: u32 = 26;
 
 pub fn load_number(answer: LoadAnswer) -> u32
     ensures { λ r. ⌜ r ≡ numberOf (loadOf answer) ⌝ }
@@ -76,4 +79,26 @@ pub fn margin_safe_number(answer: SearchAnswer) -> u32
     ensures { λ r. ⌜ r ≡ numberOf (marginSafeOf answer) ⌝ }
 {
     search_number(NO_MARGIN_SAFE, answer)
+}
+
+pub fn fixed_point_number(answer: FixedPointAnswer) -> u32
+    ensures { λ r. ⌜ r ≡ numberOf (fixedPointOf answer) ⌝ }
+{
+    match answer {
+        FixedPointAnswer::Duration {
+            duration: _,
+            steps: _,
+        } => 0,
+        FixedPointAnswer::NoPlan => NO_PLAN,
+        FixedPointAnswer::BadStart => BAD_DURATION,
+        FixedPointAnswer::Failing {
+            port: _,
+            count: _,
+            steps: _,
+        } => NO_LEAST,
+        FixedPointAnswer::Unfinished {
+            duration: _,
+            steps: _,
+        } => UNFINISHED,
+    }
 }

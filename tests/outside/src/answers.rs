@@ -17,6 +17,15 @@ pub struct SlackAnswer {
 
 #[repr(C)]
 #[derive(Clone, Copy, PartialEq, Eq, Debug)]
+pub struct StepsAnswer {
+    pub refusal: u32,
+    pub first: u64,
+    pub second: u64,
+    pub steps: u64,
+}
+
+#[repr(C)]
+#[derive(Clone, Copy, PartialEq, Eq, Debug)]
 pub struct FieldRead {
     pub refusal: u32,
     pub tag: u32,
@@ -89,6 +98,17 @@ impl Answer {
 
     pub fn refused(refusal: u32) -> Answer {
         Answer::new(refusal, 0, 0)
+    }
+}
+
+impl StepsAnswer {
+    pub fn new(answer: Answer, steps: u64) -> StepsAnswer {
+        StepsAnswer { refusal: answer.refusal, first: answer.first, second: answer.second, steps }
+    }
+
+    /// The same without the steps.
+    pub fn answer(&self) -> Answer {
+        Answer::new(self.refusal, self.first, self.second)
     }
 }
 

@@ -1,6 +1,6 @@
 //! The C interface of the planner. A Rust slice is never null, an empty one neither.
 
-use crate::answers::{Answer, FieldRead, Planner, SlackAnswer};
+use crate::answers::{Answer, FieldRead, Planner, SlackAnswer, StepsAnswer};
 
 #[repr(C)]
 struct LoadOutcome {
@@ -16,6 +16,7 @@ extern "C" {
     fn cp_slack(planner: Planner, port: u64, duration: u64) -> SlackAnswer;
     fn cp_least(planner: Planner, scratch: *mut u64, length: usize) -> Answer;
     fn cp_margin_safe(planner: Planner, scratch: *mut u64, length: usize) -> Answer;
+    fn cp_fixed_point(planner: Planner, start: u64, steps: u64) -> StepsAnswer;
     fn cp_field(plan: *const u8, length: usize, offset: usize) -> FieldRead;
     fn cp_repeats(value: *const u8, length: usize) -> u8;
 }
@@ -48,6 +49,10 @@ pub fn least(planner: &Planner, scratch: &mut [u64]) -> Answer {
 
 pub fn margin_safe(planner: &Planner, scratch: &mut [u64]) -> Answer {
     unsafe { cp_margin_safe(planner.clone(), scratch.as_mut_ptr(), scratch.len()) }
+}
+
+pub fn fixed_point(planner: &Planner, start: u64, steps: u64) -> StepsAnswer {
+    unsafe { cp_fixed_point(planner.clone(), start, steps) }
 }
 
 pub fn field(plan: &[u8], offset: usize) -> FieldRead {

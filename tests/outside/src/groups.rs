@@ -16,12 +16,15 @@ pub mod questions;
 pub mod rows;
 pub mod runs;
 pub mod searches;
+pub mod steps;
+mod steps_k;
 pub mod strict;
 mod strict_k;
 mod worked;
 
 use crate::answers::Planner;
 use crate::ffi;
+use crate::model::fixed_point::fixed_point;
 use crate::model::spans::{first_past, search, spans, Search, Span};
 use crate::model::{self as judge, Flow, Plan};
 use crate::report::Tally;
@@ -90,6 +93,13 @@ pub fn ask_searches(tally: &mut Tally, planner: &Planner, held: Option<(&Plan, &
     tally.same(format_args!("scratch after cp_margin_safe({length})"), &scratch, &after);
 }
 
+/// The iteration from a start with so many steps.
+pub fn ask_fixed_point(tally: &mut Tally, planner: &Planner, plan: Option<&Plan>, start: u64, steps: u64) {
+    let want = fixed_point(plan, start, steps);
+    tally.saw("fixed_point", want.refusal);
+    tally.same(format_args!("cp_fixed_point({start}, {steps})"), ffi::fixed_point(planner, start, steps), want);
+}
+
 /// Every kind of question, some of each.
 pub fn ask_all(tally: &mut Tally, planner: &Planner, plan: Option<&Plan>, rng: &mut Rng) {
     let found = plan.map(spans);
@@ -104,6 +114,10 @@ pub fn ask_all(tally: &mut Tally, planner: &Planner, plan: Option<&Plan>, rng: &
         let (port, duration) = (rng.pick(&ports), rng.pick(&asked));
         ask_check(tally, planner, plan, duration);
         ask_slack(tally, planner, plan, port, duration);
+    }
+    for start in [1, rng.pick(&asked)] {
+        let steps = rng.pick(&[0, 1, 2, 16, u64::MAX]);
+        ask_fixed_point(tally, planner, plan, start, steps);
     }
     let length = rng.pick(&LENGTHS);
     for length in [length, 64] {

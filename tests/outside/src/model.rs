@@ -1,6 +1,7 @@
 //! Document 01 and the landed requests of document 02 once more: plans as maps, the condition, the plain question and the spare.
 
 pub mod field;
+pub mod fixed_point;
 pub mod lighter;
 pub mod read;
 pub mod spans;
@@ -62,11 +63,11 @@ impl Flow {
     /// Frames that this flow brings to each of its ports when they are counted over a length.
     pub fn frames_over(&self, length: u64) -> u64 {
         let reach = length + self.jitter;
-        let mut rounds = reach / self.period;
+        let mut begun = reach / self.period;
         if reach % self.period != 0 {
-            rounds += 1;
+            begun += 1;
         }
-        rounds * self.count
+        begun * self.count
     }
 }
 

@@ -1,5 +1,5 @@
 -- The fixed-point iteration from each start converges: the theorem of document 02 about it.
-use mathlib.Core.Path.{_≡_, sym, ap, _∙_}
+use mathlib.Core.Path.{_≡_, sym, ap, subst, _∙_}
 use mathlib.Core.Logic.{_↔_}
 use mathlib.Core.Bool.{true, false}
 use Prim.Native.Nat.{ℕ, _≤_}
@@ -7,11 +7,11 @@ use native.Mathlib.Nat.{le-refl}
 use native.Mathlib.Omega.{arith}
 use Rattle.cqf.specs.Plan.{Plan, validPlan}
 use Rattle.cqf.specs.Condition.{admissible, least, leastFrom}
-use Rattle.cqf.specs.FixedPoint.{visited, stepsFrom, none, iterate, ended, Converges}
-use Rattle.cqf.specs.laws.LeastFrom.{least-from-none, least-from-above, least-from-first}
+use Rattle.cqf.specs.FixedPoint.{visited, stepsFrom, found, none, iterate, ended, LeastAdmissible, Converges}
+use Rattle.cqf.specs.laws.LeastFrom.{least-from-none, least-from-above, least-from-admissible, least-from-only, least-from-first}
 use Rattle.cqf.specs.laws.Ranges.{top-positive}
 use Rattle.cqf.specs.laws.Search.{ascent-start}
-use Rattle.cqf.specs.laws.Ended.{ended-above, ended-none}
+use Rattle.cqf.specs.laws.Ended.{ended-within, ended-above, ended-found, ended-none}
 use Rattle.cqf.specs.laws.FixedPoint.{visited-most, stops-in, resumes-in, reached-in, ends-in}
 use Rattle.cqf.specs.laws.MostSteps.{most-steps}
 
@@ -19,6 +19,13 @@ module _ (p : Plan) (valid : validPlan p ≡ true) (t : ℕ) (first : 1 ≤ t) (
   ends : (n : ℕ) → stepsFrom p t ≤ n → iterate p t n ≡ ended p (leastFrom p t) (stepsFrom p t)
   unfolding stepsFrom visited
   ends = ends-in p valid (p .top) t (ascent-start p valid t first within) (omega arith)
+
+  finds : (n u : ℕ) → stepsFrom p t ≤ n → (iterate p t n ≡ found u (stepsFrom p t)) ↔ LeastAdmissible p t u
+  finds n u l = (
+    λ e. let h = ended-found p (leastFrom p t) (stepsFrom p t) (sym (ends n l) ∙ e) in
+        subst (LeastAdmissible p t) (h .0) (least-from-admissible p t first (h .2)),
+    λ h. ends n l ∙ ended-within p (stepsFrom p t) (least-from-only p t first h) (h .within),
+  )
 
   none-up-to-top
       : (n : ℕ)
@@ -34,6 +41,7 @@ module _ (p : Plan) (valid : validPlan p ≡ true) (t : ℕ) (first : 1 ≤ t) (
   converges =
       record {
         ends = ends;
+        finds = finds;
         none-up-to-top = none-up-to-top;
         stops = λ n. stops-in p (p .top) n t;
         reached = λ n u e. let s = reached-in p valid n t u (ascent-start p valid t first within) e in (s .first, s .within);

@@ -10,6 +10,7 @@ use lib.Dec.{leb}
 use borrow.Author.Tests.{le-leb, leb-true}
 use Rattle.cqf.specs.Plan.{Plan}
 use Rattle.cqf.specs.Condition.{admissible, smallest, least, leastFrom}
+use Rattle.cqf.specs.FixedPoint.{LeastAdmissible}
 use Rattle.cqf.specs.laws.Smallest.{smallest-positive, smallest-le, smallest-passes, smallest-below, smallest-is, smallest-none, least-of}
 
 module _ (p : Plan) (d : ℕ) where
@@ -44,13 +45,34 @@ module _ (p : Plan) (d : ℕ) where
   least-from-none none =
       least-from-of ∙ smallest-none from-test (p .top) (λ u _ l. from-fails u (λ k. none u k l))
 
-  -- where it is above top there is none
-  pub least-from-above : 1 ≤ d → p .top < leastFrom p d → (u : ℕ) → d ≤ u → u ≤ p .top → admissible p u ≡ false
+  -- below it there is none from d on
+  least-from-below : 1 ≤ d → (v : ℕ) → d ≤ v → v < leastFrom p d → admissible p v ≡ false
   unfolding from-test
-  least-from-above h above u from l =
+  least-from-below h v from less =
       eq-false-of-not-eq-true λ e. false≢true
-      (sym (smallest-below from-test (p .top) u (omega arith) (omega (arith, least-from-of)))
-      ∙ and-eq-true-iff _ _ .1 (le-leb d u from, e))
+      (sym (smallest-below from-test (p .top) v (omega arith) (omega (arith, least-from-of)))
+      ∙ and-eq-true-iff _ _ .1 (le-leb d v from, e))
+
+  -- so where it is above top there is none
+  pub least-from-above : 1 ≤ d → p .top < leastFrom p d → (u : ℕ) → d ≤ u → u ≤ p .top → admissible p u ≡ false
+  least-from-above h above u from l = least-from-below h u from (omega arith)
+
+  -- where it is up to top it is the least admissible duration from d on, and the only one
+  pub least-from-admissible : 1 ≤ d → leastFrom p d ≤ p .top → LeastAdmissible p d (leastFrom p d)
+  unfolding from-test
+  least-from-admissible h upto =
+      let e = least-from-of in
+      let passed : from-test (leastFrom p d) ≡ true = rw e (smallest-passes from-test (p .top) (omega (arith, e, upto))) in
+      let both = and-eq-true-iff (leb d (leastFrom p d)) (admissible p (leastFrom p d)) .0 passed in
+      record {
+        from = leb-true d (leastFrom p d) (both .0);
+        within = upto;
+        good = both .1;
+        first = λ v from less. least-from-below h v from less;
+      }
+
+  pub least-from-only : {u : ℕ} → 1 ≤ d → LeastAdmissible p d u → leastFrom p d ≡ u
+  least-from-only {u} h l = least-from-is u h (l .from) (l .within) (l .good) (l .first)
 
 -- from 1 on it is the least duration
 pub least-from-first : (p : Plan) → leastFrom p 1 ≡ least p

@@ -1,4 +1,4 @@
--- A bound of the iteration's length: in every step but the last two some flow begins one more period than in the step before.
+-- A bound of the iteration's length: in every step but the first and the last some flow begins one more period than in the step before.
 use mathlib.Core.Path.{_≡_, refl, ap}
 use mathlib.Core.Bool.{Bool, true, false}
 use mathlib.Core.List.{[], _∷_}

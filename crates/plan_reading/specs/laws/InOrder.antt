@@ -22,14 +22,14 @@ use Rattle.plan_reading.specs.laws.Stored.{Flagged, added-flagged}
 use Rattle.plan_reading.specs.laws.Steps.{step-more}
 use Rattle.plan_reading.specs.laws.Onward.{stop-one, more-one}
 use Rattle.plan_reading.specs.laws.Late.{Known, known-next, past-end, late-refused, late-past}
-use Rattle.plan_reading.specs.laws.Rows.{row-refused, row-field, Climbs, none, next}
+use Rattle.plan_reading.specs.laws.Rows.{row-refused, row-field, Ascends, none, next}
 
 -- none of them should have stood earlier
 pub none-late
     : (n : ℕ) (front : List Field) (s : List ℕ) (at last least : ℕ)
     → Known front last
     → last ≤ least
-    → Climbs least (fieldsFrom n s at)
+    → Ascends least (fieldsFrom n s at)
     → lateFrom n front s at ≡ length s
 unfolding lateFrom
 none-late zero front s at last least known low up = refl
@@ -40,10 +40,10 @@ none-late (suc n) front s at last least known low up =
     Rest =
         (x : Field) (after : ℕ)
         → Known (x ∷ front) (keyOf x)
-        → Climbs (suc (keyOf x)) (fieldsFrom n s after)
+        → Ascends (suc (keyOf x)) (fieldsFrom n s after)
         → lateFrom n (x ∷ front) s after ≡ length s
 
-    first : Rest → (x : Field) (after : ℕ) → fieldAt s at ≡ field x after → Climbs least (entryOf x (routeAt s at) ∷ fieldsFrom n s after)
+    first : Rest → (x : Field) (after : ℕ) → fieldAt s at ≡ field x after → Ascends least (entryOf x (routeAt s at) ∷ fieldsFrom n s after)
         → lateFrom (suc n) front s at ≡ length s
     first rest x after e (next k from up) =
         let in-time : ltb (keyOf x) last ≡ false = le-ltb (keyOf x) last (omega arith) in
@@ -62,16 +62,16 @@ floor-next d x r flagged k y fresh in-time =
     omega (arith, fresh-apart d x y r flagged k fresh, ltb-false (keyOf y) (keyOf x) in-time)
 
 -- the fields that the strict reading accepts
-pub strict-climbs
+pub strict-ascends
     : (n : ℕ) (s : List ℕ) (at last : ℕ) (d : Draft) (least : ℕ) (p : Plan) (ports flows : ℕ)
     → Flagged d
     → Floor d last least
     → readFrom strict n s at last d ≡ accepted p ports flows
-    → Climbs least (fieldsFrom n s at)
+    → Ascends least (fieldsFrom n s at)
 unfolding fieldsFrom
-strict-climbs zero s at last d least p m k flagged floor e = none
-strict-climbs (suc n) s at last d least p m k flagged floor e =
-    by-end (λ after key d′ least. strict-climbs n s after key d′ least p m k) (ltb at (length s)) refl
+strict-ascends zero s at last d least p m k flagged floor e = none
+strict-ascends (suc n) s at last d least p m k flagged floor e =
+    by-end (λ after key d′ least. strict-ascends n s after key d′ least p m k) (ltb at (length s)) refl
   where
     Rest : Type 0
     Rest =
@@ -79,9 +79,9 @@ strict-climbs (suc n) s at last d least p m k flagged floor e =
         → Flagged d′
         → Floor d′ key least
         → readFrom strict n s after key d′ ≡ accepted p m k
-        → Climbs least (fieldsFrom n s after)
+        → Ascends least (fieldsFrom n s after)
 
-    by-step : Rest → at < length s → (r : Step) → stepAt strict s at last d ≡ r → Climbs least (fieldsFrom (suc n) s at)
+    by-step : Rest → at < length s → (r : Step) → stepAt strict s at last d ≡ r → Ascends least (fieldsFrom (suc n) s at)
     by-step rest inside (stop number offset) q =
         let y : rejected number offset ≡ accepted p m k = sym (stop-one strict s at last d n number offset inside q) ∙ e in
         let z : _≡_ {A = ℕ} 0 1 = cc in
@@ -97,14 +97,14 @@ strict-climbs (suc n) s at last d least p m k flagged floor e =
         (next ok (floor x (t .fresh) (t .in-time))
         (rest after (keyOf x) (added d x (routeAt s at)) (suc (keyOf x)) flags floors (rw (t .keyed, t .adds) reads)))
 
-    by-end : Rest → (b : Bool) → ltb at (length s) ≡ b → Climbs least (fieldsFrom (suc n) s at)
+    by-end : Rest → (b : Bool) → ltb at (length s) ≡ b → Ascends least (fieldsFrom (suc n) s at)
     by-end rest true q = by-step rest (ltb-true at (length s) q) (stepAt strict s at last d) refl
     by-end rest false q = rw (row-refused (suc n) s at 2 at (past-end s at (ltb-false at (length s) q))) none
 
 -- a field of such a row has a key from the row's first on
-climbs-from : {least : ℕ} {es : List Entry} {f : Entry} → Climbs least es → List·Memᴰ f es → least ≤ keyOf (f .part)
-climbs-from none m = absurd (List·Memᴰ·not-nil m)
-climbs-from {least} {f = f} (next {e = e} {es = es} k low up) m = go (climbs-from up) (List·Memᴰ·cases-cons m)
+ascends-from : {least : ℕ} {es : List Entry} {f : Entry} → Ascends least es → List·Memᴰ f es → least ≤ keyOf (f .part)
+ascends-from none m = absurd (List·Memᴰ·not-nil m)
+ascends-from {least} {f = f} (next {e = e} {es = es} k low up) m = go (ascends-from up) (List·Memᴰ·cases-cons m)
   where
     go : (List·Memᴰ f es → suc (keyOf (e .part)) ≤ keyOf (f .part)) → (f ≡ e) ⊎ List·Memᴰ f es → least ≤ keyOf (f .part)
     go rest (inl same) = rw same low
@@ -114,30 +114,30 @@ climbs-from {least} {f = f} (next {e = e} {es = es} k low up) m = go (climbs-fro
 abbrev Holds : List Entry → List Entry → Type 0
 Holds es fs = (f : Entry) → List·Memᴰ f es → List·Memᴰ f fs
 
-pub climbs-same : {a b : ℕ} {es fs : List Entry} → Climbs a es → Climbs b fs → Holds es fs → Holds fs es → es ≡ fs
-climbs-same none none to from = refl
-climbs-same none (next {e = f} k low up) to from = absurd (List·Memᴰ·not-nil (from f (List·Memᴰ·head refl)))
-climbs-same (next {e = e} k low up) none to from = absurd (List·Memᴰ·not-nil (to e (List·Memᴰ·head refl)))
-climbs-same (next {e = e} {es = es} k low up) (next {e = f} {es = fs} m base rise) to from =
+pub ascends-same : {a b : ℕ} {es fs : List Entry} → Ascends a es → Ascends b fs → Holds es fs → Holds fs es → es ≡ fs
+ascends-same none none to from = refl
+ascends-same none (next {e = f} k low up) to from = absurd (List·Memᴰ·not-nil (from f (List·Memᴰ·head refl)))
+ascends-same (next {e = e} k low up) none to from = absurd (List·Memᴰ·not-nil (to e (List·Memᴰ·head refl)))
+ascends-same (next {e = e} {es = es} k low up) (next {e = f} {es = fs} m base rise) to from =
     let same = first (List·Memᴰ·cases-cons (to e (List·Memᴰ·head refl))) (List·Memᴰ·cases-cons (from f (List·Memᴰ·head refl))) in
-    ap₂ _∷_ same (climbs-same up rise (λ g i. tail-to same g i (List·Memᴰ·cases-cons (to g (List·Memᴰ·tail i)))) (λ g i. tail-from same g i (List·Memᴰ·cases-cons (from g (List·Memᴰ·tail i)))))
+    ap₂ _∷_ same (ascends-same up rise (λ g i. tail-to same g i (List·Memᴰ·cases-cons (to g (List·Memᴰ·tail i)))) (λ g i. tail-from same g i (List·Memᴰ·cases-cons (from g (List·Memᴰ·tail i)))))
   where
     first : (e ≡ f) ⊎ List·Memᴰ e fs → (f ≡ e) ⊎ List·Memᴰ f es → e ≡ f
     first (inl p) q = p
     first (inr i) (inl q) = sym q
-    first (inr i) (inr j) = absurd (omega (arith, climbs-from rise i, climbs-from up j))
+    first (inr i) (inr j) = absurd (omega (arith, ascends-from rise i, ascends-from up j))
 
     tail-to : e ≡ f → (g : Entry) → List·Memᴰ g es → (g ≡ f) ⊎ List·Memᴰ g fs → List·Memᴰ g fs
     tail-to same g i (inr j) = j
     tail-to same g i (inl q) =
         let z : keyOf (g .part) ≡ keyOf (e .part) = ap (λ (h : Entry). keyOf (h .part)) (q ∙ sym same) in
-        absurd (omega (arith, climbs-from up i))
+        absurd (omega (arith, ascends-from up i))
 
     tail-from : e ≡ f → (g : Entry) → List·Memᴰ g fs → (g ≡ e) ⊎ List·Memᴰ g es → List·Memᴰ g es
     tail-from same g i (inr j) = j
     tail-from same g i (inl q) =
         let z : keyOf (g .part) ≡ keyOf (f .part) = ap (λ (h : Entry). keyOf (h .part)) (q ∙ same) in
-        absurd (omega (arith, climbs-from rise i))
+        absurd (omega (arith, ascends-from rise i))
 
 -- a permutation holds the same
 pub permuted-holds : {es fs : List Entry} → List·Permᴰ es fs → Holds es fs

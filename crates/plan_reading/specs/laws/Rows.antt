@@ -28,26 +28,26 @@ unfolding fieldsFrom
 row-field n s at x next e = rw (e, fieldsFrom)
 
 -- fields in range whose keys rise from this one on
-pub data Climbs : ℕ → List Entry → Type 0 where
-  none : {least : ℕ} → Climbs least []
+pub data Ascends : ℕ → List Entry → Type 0 where
+  none : {least : ℕ} → Ascends least []
   next
       : {least : ℕ} {e : Entry} {es : List Entry}
       → NumbersOk (e .part)
       → least ≤ keyOf (e .part)
-      → Climbs (suc (keyOf (e .part))) es
-      → Climbs least (e ∷ es)
+      → Ascends (suc (keyOf (e .part))) es
+      → Ascends least (e ∷ es)
 
 -- each of them stands before all that follow it
-climbs-ahead : (x : Field) {least : ℕ} {es : List Entry} → NumbersOk x → keyOf x < least → Climbs least es → ahead x es ≡ true
+ascends-ahead : (x : Field) {least : ℕ} {es : List Entry} → NumbersOk x → keyOf x < least → Ascends least es → ahead x es ≡ true
 unfolding ahead
-climbs-ahead x k below none = refl
-climbs-ahead x k below (next {e = e} m low rest) =
-    rw (before-key x (e .part) k m, lt-ltb (keyOf x) (keyOf (e .part)) (omega arith)) (climbs-ahead x k (omega arith) rest)
+ascends-ahead x k below none = refl
+ascends-ahead x k below (next {e = e} m low rest) =
+    rw (before-key x (e .part) k m, lt-ltb (keyOf x) (keyOf (e .part)) (omega arith)) (ascends-ahead x k (omega arith) rest)
 
-pub climbs-rising : {least : ℕ} {es : List Entry} → Climbs least es → rising es ≡ true
+pub ascends-rising : {least : ℕ} {es : List Entry} → Ascends least es → rising es ≡ true
 unfolding rising
-climbs-rising none = refl
-climbs-rising (next {e = e} m low rest) = rw (climbs-ahead (e .part) m (omega arith) rest) (climbs-rising rest)
+ascends-rising none = refl
+ascends-rising (next {e = e} m low rest) = rw (ascends-ahead (e .part) m (omega arith) rest) (ascends-rising rest)
 
 -- and where each does, their keys rise
 data Ranged : List Entry → Type 0 where
@@ -67,12 +67,12 @@ abbrev From : ℕ → List Entry → Type 0
 From least [] = Unit {0}
 From least (e ∷ es) = least ≤ keyOf (e .part)
 
-rising-climbs : (least : ℕ) {es : List Entry} → Ranged es → From least es → rising es ≡ true → Climbs least es
+rising-ascends : (least : ℕ) {es : List Entry} → Ranged es → From least es → rising es ≡ true → Ascends least es
 unfolding rising ahead
-rising-climbs least none from up = none
-rising-climbs least (next {e = e} {es = es} k rest) from up =
+rising-ascends least none from up = none
+rising-ascends least (next {e = e} {es = es} k rest) from up =
     let t = and-eq-true-iff (ahead (e .part) es) (rising es) .0 up in
-    next k from (rising-climbs (suc (keyOf (e .part))) rest (after es rest (t .0)) (t .1))
+    next k from (rising-ascends (suc (keyOf (e .part))) rest (after es rest (t .0)) (t .1))
   where
     after : (es : List Entry) → Ranged es → ahead (e .part) es ≡ true → From (suc (keyOf (e .part))) es
     after [] r a = tt
@@ -80,8 +80,8 @@ rising-climbs least (next {e = e} {es = es} k rest) from up =
         let b = and-eq-true-iff (before (e .part) (f .part)) (ahead (e .part) fs) .0 a .0 in
         ltb-true (keyOf (e .part)) (keyOf (f .part)) (sym (before-key (e .part) (f .part) k m) ∙ b)
 
-pub rising-from : (n : ℕ) (s : List ℕ) (at : ℕ) → rising (fieldsFrom n s at) ≡ true → Climbs 0 (fieldsFrom n s at)
-rising-from n s at = rising-climbs 0 (ranged n s at) (any (fieldsFrom n s at))
+pub rising-from : (n : ℕ) (s : List ℕ) (at : ℕ) → rising (fieldsFrom n s at) ≡ true → Ascends 0 (fieldsFrom n s at)
+rising-from n s at = rising-ascends 0 (ranged n s at) (any (fieldsFrom n s at))
   where
     any : (es : List Entry) → From 0 es
     any [] = tt

@@ -1,4 +1,4 @@
--- The answers of the two questions, case by case.
+-- The answers of the questions, case by case.
 use mathlib.Core.Path.{_≡_, refl, sym, ap, _∙_}
 use mathlib.Core.Bool.{Bool, true, false, cond, _&&_, and-false}
 use mathlib.Core.List.{[], _∷_}
@@ -10,8 +10,10 @@ use Rattle.cqf.specs.Bounded.{within}
 use Rattle.cqf.specs.Limits.{portOk}
 use Rattle.cqf.specs.Plan.{Plan, validPlan}
 use Rattle.cqf.specs.Condition.{slack, crossed, admissible, failing, lowestFailing}
+use Rattle.cqf.specs.FixedPoint.{iterate}
 use Rattle.loading.specs.Outcome.{Answer, result, refusal, numberOf}
 use Rattle.planner.specs.Outcome.{asked, failingAt, checkAnswer, slackAnswer}
+use Rattle.planner.specs.FixedPoint.{outcomeAnswer, fixedPointAnswer}
 
 -- 20, then 10, then what the question says
 module _ {A : Type 0} (p : Plan) (T : ℕ) (answer : Answer A) where
@@ -82,6 +84,24 @@ module _ (p : Plan) (T : ℕ) where
         → port ≡ lowestFailing p T
         → checkAnswer p T ≡ refusal 21 (port ∷ count ∷ [])
     check-bad ne port = check-within valid ranged ∙ rw (some-refused ne, port, many)
+
+-- the fixed-point iteration
+module _ (p : Plan) (start steps : ℕ) where
+  fixed-point-is : fixedPointAnswer p start steps ≡ asked p start (outcomeAnswer p steps (iterate p start steps))
+  unfolding fixedPointAnswer
+  fixed-point-is = refl
+
+  pub fixed-point-none : validPlan p ≡ false → fixedPointAnswer p start steps ≡ refusal 20 (0 ∷ [])
+  fixed-point-none e = fixed-point-is ∙ asked-none p start _ e
+
+  pub fixed-point-out : validPlan p ≡ true → within 1 (p .top) start ≡ false → fixedPointAnswer p start steps ≡ refusal 10 (0 ∷ [])
+  fixed-point-out e out = fixed-point-is ∙ asked-out p start _ e out
+
+  pub fixed-point-within
+      : validPlan p ≡ true
+      → within 1 (p .top) start ≡ true
+      → fixedPointAnswer p start steps ≡ outcomeAnswer p steps (iterate p start steps)
+  fixed-point-within e ranged = fixed-point-is ∙ asked-within p start _ e ranged
 
 -- the slack of port n
 module _ (p : Plan) (n T : ℕ) where

@@ -11,7 +11,7 @@ use Rattle.cqf.specs.Limits.{portSlots}
 use Rattle.cqf.specs.Plan.{Plan, validPlan}
 use Rattle.cqf.specs.Condition.{least, marginSafe}
 use Rattle.loading.specs.Outcome.{Answer, result, refusal}
-use Rattle.planner.specs.Outcome.{failingAt, searched, leastAnswer, leastLeaves, marginSafeAnswer, marginSafeLeaves}
+use Rattle.planner.specs.Outcome.{failingAt, foundAnswer, searched, leastAnswer, leastLeaves, marginSafeAnswer, marginSafeLeaves}
 use Rattle.planner.specs.Failing.{FailingAt}
 use Rattle.planner.specs.Search.{Found, Answers, Ends}
 
@@ -64,8 +64,19 @@ module _ (number : ℕ) (p : Plan) (found : ℕ) (scratch : List ℕ) where
       go true false z l e = let z : _≡_ {A = ℕ} 0 1 = cc in absurd (omega arith)
       go false y z l e = let z : _≡_ {A = ℕ} 0 1 = cc in absurd (omega arith)
 
+  searched-ends : validPlan p ≡ true → portSlots ≤ length scratch → searched number p found scratch ≡ foundAnswer number p found
+  searched-ends valid long = rw (valid, le-leb _ _ long)
+
   pub searched-gives : validPlan p ≡ true → portSlots ≤ length scratch → found ≤ p .top → searched number p found scratch ≡ result found
   searched-gives valid long most = rw (valid, le-leb _ _ long, le-leb _ _ most)
+
+pub least-searched
+    : (p : Plan) (scratch : List ℕ)
+    → validPlan p ≡ true
+    → portSlots ≤ length scratch
+    → leastAnswer p scratch ≡ foundAnswer 22 p (least p)
+unfolding leastAnswer
+least-searched p scratch valid long = searched-ends 22 p (least p) scratch valid long
 
 pub least-gives
     : (p : Plan) (scratch : List ℕ) {T : ℕ}

@@ -8,8 +8,8 @@ fn bits_at(pieces: &[Piece], port: u16, duration: u64) -> u64 {
     let counted_over = widened(pieces, duration);
     let of_flow = |piece: &Piece| match piece {
         Piece::Flow { number, period, count, length, route } if route.contains(&port) => {
-            let rounds = (counted_over + jitter_of(pieces, *number) + u64::from(*period) - 1) / u64::from(*period);
-            rounds * u64::from(*count) * wire_bits(pieces, port, *length)
+            let begun = (counted_over + jitter_of(pieces, *number) + u64::from(*period) - 1) / u64::from(*period);
+            begun * u64::from(*count) * wire_bits(pieces, port, *length)
         }
         _ => 0,
     };

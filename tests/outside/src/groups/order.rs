@@ -35,6 +35,9 @@ pub fn run(tally: &mut Tally) {
                 let (got, want) = (ffi::slack(&other, port, *duration), ffi::slack(&one, port, *duration));
                 tally.same(format_args!("cp_slack({port}, {duration}) in another order"), got, want);
             }
+            let start = rng.pick(&asked);
+            let (got, want) = (ffi::fixed_point(&other, start, turn * 8), ffi::fixed_point(&one, start, turn * 8));
+            tally.same(format_args!("cp_fixed_point({start}, {}) in another order", turn * 8), got, want);
             let mut scratches = [[turn; 70], [turn; 70]];
             let (got, want) = (ffi::least(&other, &mut scratches[0]), ffi::least(&one, &mut scratches[1]));
             tally.same(format_args!("cp_least in another order"), got, want);

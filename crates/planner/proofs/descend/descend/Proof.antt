@@ -31,20 +31,20 @@ plan s =
     let a = s .args in
     planBy (a .guard) (a .top) (clockOf (a .clock)) (a .rates .now) (a .blockings .now) (a .extras .now) (a .periods .now) (a .counts .now) (a .lengths .now) (a .jitters .now) (a .hops .now) (a .routes .now)
 
--- where the function starts, a round of the search, and the demands in it
+-- where the function starts, a turn of the loop, and the demands in it
 abbrev start : tie.At-loop Inv-loop μ-loop → tie.Start Inv-loop μ-loop
 start c = c .before .before
 
-abbrev round : tie.After-demands Inv-loop μ-loop → tie.At-loop Inv-loop μ-loop
-round c = c .before .before
+abbrev turn : tie.After-demands Inv-loop μ-loop → tie.At-loop Inv-loop μ-loop
+turn c = c .before .before
 
 abbrev filling : tie.After-largest-need-arg Inv-loop μ-loop → tie.After-demands Inv-loop μ-loop
 filling c = c .before .before .before
 
-full : (c : tie.After-demands Inv-loop μ-loop) → Filled (plan (start (round c))) (c .demands .last .1 .1 .1 .1 .1 .1 .1 .1 .1 .0) (round c .loop .below)
+full : (c : tie.After-demands Inv-loop μ-loop) → Filled (plan (start (turn c))) (c .demands .last .1 .1 .1 .1 .1 .1 .1 .1 .1 .0) (turn c .loop .below)
 full c =
-    let s = start (round c) in
-    filled-by (plan s) (s .pre .0) (omega (arith, round c .loop .inv .1 .within)) (c .demands .ensures)
+    let s = start (turn c) in
+    filled-by (plan s) (s .pre .0) (omega (arith, turn c .loop .inv .1 .within)) (c .demands .ensures)
 
 -- the most that a port needs, or 1; and the end of the search where it is above below
 module _ (c : tie.After-larger Inv-loop μ-loop) where
@@ -52,15 +52,15 @@ module _ (c : tie.After-larger Inv-loop μ-loop) where
   demanded = filling (c .before .before)
 
   abbrev begin : tie.Start Inv-loop μ-loop
-  begin = start (round demanded)
+  begin = start (turn demanded)
 
-  most : c .larger .result ≡ max 1 (largestNeed (plan begin) (round demanded .loop .below))
+  most : c .larger .result ≡ max 1 (largestNeed (plan begin) (turn demanded .loop .below))
   most = c .larger .ensures ∙ ap (max 1) (filled-largest (full demanded) (c .before .largest-need .ensures))
 
-ends : (c : tie.Then1 Inv-loop μ-loop) → round (demanded (c .before)) .loop .below + 1 ≡ marginSafe (plan (begin (c .before)))
+ends : (c : tie.Then1 Inv-loop μ-loop) → turn (demanded (c .before)) .loop .below + 1 ≡ marginSafe (plan (begin (c .before)))
 ends c =
     let d = demanded (c .before) in
-    add-one _ ∙ sym (descent-ends (full d) (round d .loop .inv .1) (most (c .before)) (c .if1 .taken))
+    add-one _ ∙ sym (descent-ends (full d) (turn d .loop .inv .1) (most (c .before)) (c .if1 .taken))
 
 loop-holds : tie.Need-loop-holds Inv-loop μ-loop
 loop-holds c = (c .before .pre .1, descent-start (plan (c .before)) (c .before .pre .0))
@@ -91,7 +91,7 @@ loop-less c = omega (arith, most (c .before), c .if1 .left)
 loop-again : tie.Need-loop-again Inv-loop μ-loop
 loop-again c =
     let d = demanded (c .before) in
-    (filled-length (full d), descent-down (full d) (round d .loop .inv .1) (most (c .before)) (c .if1 .left))
+    (filled-length (full d), descent-down (full d) (turn d .loop .inv .1) (most (c .before)) (c .if1 .left))
 
 same-length : tie.Need-same-length Inv-loop μ-loop
 same-length c =

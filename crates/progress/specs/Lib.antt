@@ -1,0 +1,3 @@
+-- The least duration in portions of steps.
+pub mod Portion
+pub mod laws

@@ -1,0 +1,3 @@
+-- Laws of the portions.
+pub mod Held
+pub mod Portions
