@@ -2,7 +2,7 @@
 use Prim.Native.Nat.{ℕ}
 use mathlib.Core.Path.{_≡_}
 use Rattle.cqf.specs.Plan.{Plan}
-use Rattle.planner.specs.Meaning.{MeansHeld}
+use Rattle.questions.specs.Meaning.{MeansHeld}
 use Rattle.capi.specs.declared.AnswerNumbers.{AnswerNumbers}
 
 -- 21 refuses the duration, 0 accepts it (document 01, demand 3)

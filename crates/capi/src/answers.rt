@@ -24,7 +24,7 @@ ghost use Rattle.plan.specs.Answer.{fieldReadOf};
 ghost use Rattle.tables.specs.Tables.{planOf};
 ghost use Rattle.loading.specs.Outcome.{numberOf};
 ghost use Rattle.loading.specs.Answer.{loadOf};
-ghost use Rattle.planner.specs.Answer.{checkOf, slackOf, searchOf, leastOf, marginSafeOf, fixedPointOf};
+ghost use Rattle.questions.specs.Answer.{checkOf, slackOf, searchOf, leastOf, marginSafeOf, fixedPointOf};
 ghost use Rattle.capi.specs.Numbers.{loadNumbers, checkNumbers, slackNumbers, searchNumbers, stepsNumbers, fieldNumbers};
 
 // The tags of the fields.

@@ -13,8 +13,8 @@ ghost use Rattle.plan.specs.Field.{fieldAt, repeats};
 ghost use Rattle.plan_reading.specs.Reading.{loose, strict};
 ghost use Rattle.tables.specs.Tables.{planOf};
 ghost use Rattle.loading.specs.Outcome.{loadAnswer, loadLeaves};
-ghost use Rattle.planner.specs.Outcome.{checkAnswer, slackAnswer, leastAnswer, leastLeaves, marginSafeAnswer, marginSafeLeaves};
-ghost use Rattle.planner.specs.FixedPoint.{fixedPointAnswer};
+ghost use Rattle.questions.specs.Outcome.{checkAnswer, slackAnswer, leastAnswer, leastLeaves, marginSafeAnswer, marginSafeLeaves};
+ghost use Rattle.questions.specs.FixedPoint.{fixedPointAnswer};
 ghost use Rattle.capi.specs.Meaning.{CheckNumbersMean};
 ghost use Rattle.capi.specs.Numbers.{loadNumbers, checkNumbers, slackNumbers, searchNumbers, stepsNumbers, fieldNumbers};
 

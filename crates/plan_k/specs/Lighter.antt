@@ -19,12 +19,12 @@ use Rattle.plan_reading.specs.Store.{store}
 use Rattle.plan_reading.specs.Draft.{blank, added}
 use Rattle.plan_reading.specs.Reading.{stepAt, namesAbsent, jitterAbsent, extraAbsent, firstFrom, firstAbsent, closing, readFrom, readAs, loose, strict, accepted}
 use Rattle.loading.specs.Outcome.{result}
-use Rattle.planner.specs.Outcome.{leastAnswer, marginSafeAnswer}
-use Rattle.planner.specs.Calls.{load, after, heldFrom, heldBytes}
-use Rattle.planner.specs.NoWorse.{AnswersNoWorse}
-use Rattle.planner.specs.LighterTheorem.{lighter-answers}
-use Rattle.planner.specs.laws.Calls.{after-held}
-use Rattle.planner.specs.laws.Searched.{least-gives, margin-safe-gives}
+use Rattle.questions.specs.Outcome.{leastAnswer, marginSafeAnswer}
+use Rattle.questions.specs.Calls.{load, after, heldFrom, heldBytes}
+use Rattle.questions.specs.NoWorse.{AnswersNoWorse}
+use Rattle.questions.specs.LighterTheorem.{lighter-answers}
+use Rattle.questions.specs.laws.Calls.{after-held}
+use Rattle.questions.specs.laws.Searched.{least-gives, margin-safe-gives}
 
 -- K with rate 200, a blocking frame of 100 bytes, two frames a period for flow 1, 32 extra bytes at port 1, jitter 30,000 for flow 1
 -- and clock numbers 100, 2 and 1,000

@@ -14,8 +14,8 @@ use Rattle.plan_reading.specs.Store.{store}
 use Rattle.plan_reading.specs.Draft.{blank, added}
 use Rattle.plan_reading.specs.Reading.{stepAt, namesAbsent, jitterAbsent, extraAbsent, firstFrom, firstAbsent, closing, readFrom, readAs, readPlan, loose, accepted}
 use Rattle.loading.specs.Outcome.{Answer, result, refusal, loadAnswer, loadLeaves}
-use Rattle.planner.specs.Outcome.{checkAnswer, slackAnswer}
-use Rattle.planner.specs.Calls.{load, afterFrom, after, heldFrom, heldBytes}
+use Rattle.questions.specs.Outcome.{checkAnswer, slackAnswer}
+use Rattle.questions.specs.Calls.{load, afterFrom, after, heldFrom, heldBytes}
 
 unfoldable pub bytesK : List ℕ
 bytesK =

@@ -1,14 +1,14 @@
 // Document 01's number of each answer, 0 for a result.
-use super::CheckAnswer;
-use super::FixedPointAnswer;
-use super::SearchAnswer;
-use super::SlackAnswer;
 use loading::LoadAnswer;
 use plan::fault_number;
+use questions::CheckAnswer;
+use questions::FixedPointAnswer;
+use questions::SearchAnswer;
+use questions::SlackAnswer;
 ghost use mathlib.Core.Path.{_≡_};
 ghost use Rattle.loading.specs.Outcome.{numberOf};
 ghost use Rattle.loading.specs.Answer.{loadOf};
-ghost use Rattle.planner.specs.Answer.{checkOf, slackOf, searchOf, leastOf, marginSafeOf, fixedPointOf};
+ghost use Rattle.questions.specs.Answer.{checkOf, slackOf, searchOf, leastOf, marginSafeOf, fixedPointOf};
 
 const BAD_DURATION: u32 = 10;
 

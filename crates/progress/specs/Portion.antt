@@ -5,7 +5,7 @@ use mathlib.Core.Bool.{true}
 use Prim.Native.Nat.{ℕ}
 use Rattle.cqf.specs.Plan.{Plan, validPlan}
 use Rattle.loading.specs.Outcome.{refusal}
-use Rattle.planner.specs.FixedPoint.{fixedPointAnswer}
+use Rattle.questions.specs.FixedPoint.{fixedPointAnswer}
 
 -- the steps of a portion
 abbrev pub portionSteps : ℕ

@@ -11,8 +11,8 @@ ghost use mathlib.Core.Bool.{true};
 ghost use Prim.Native.Nat.{_+_};
 ghost use Rattle.cqf.specs.Plan.{validPlan};
 ghost use Rattle.tables.specs.Tables.{planOf};
-ghost use Rattle.planner.specs.Answer.{fixedPointOf};
-ghost use Rattle.planner.specs.FixedPoint.{fixedPointAnswer};
+ghost use Rattle.questions.specs.Answer.{fixedPointOf};
+ghost use Rattle.questions.specs.FixedPoint.{fixedPointAnswer};
 ghost use Rattle.progress.specs.Portion.{portionSteps, Reached};
 
 // The steps of a portion.

@@ -6,9 +6,9 @@ use Prim.Native.Nat.{ℕ}
 use native.Mathlib.Omega.{arith}
 use Rattle.cqf.specs.Plan.{Plan}
 use Rattle.loading.specs.Outcome.{Answer, result, refusal, numberOf}
-use Rattle.planner.specs.Answer.{checkOf}
-use Rattle.planner.specs.Meaning.{Refuses, Means, CheckMeans}
-use Rattle.planner.specs.declared.CheckAnswer.{CheckAnswer}
+use Rattle.questions.specs.Answer.{checkOf}
+use Rattle.questions.specs.Meaning.{Refuses, Means, CheckMeans}
+use Rattle.questions.specs.declared.CheckAnswer.{CheckAnswer}
 use Rattle.capi.specs.declared.AnswerNumbers.{AnswerNumbers}
 use Rattle.capi.specs.Numbers.{refusedWith, checkNumbers}
 use Rattle.capi.specs.Meaning.{CheckNumbersMean}

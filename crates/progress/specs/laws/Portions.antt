@@ -13,9 +13,9 @@ use Rattle.cqf.specs.laws.Ranges.{top-positive}
 use Rattle.cqf.specs.laws.Ended.{ended-found, ended-none, ended-finished}
 use Rattle.cqf.specs.laws.Converges.{converges, steps-top}
 use Rattle.loading.specs.Outcome.{Answer, result, refusal, numberOf}
-use Rattle.planner.specs.FixedPoint.{FixedPoint, outcomeAnswer, fixedPointAnswer}
-use Rattle.planner.specs.Iterations.{plusSteps}
-use Rattle.planner.specs.laws.Iterations.{answers, of-result, of-none, of-unfinished, iterations}
+use Rattle.questions.specs.FixedPoint.{FixedPoint, outcomeAnswer, fixedPointAnswer}
+use Rattle.questions.specs.Iterations.{plusSteps}
+use Rattle.questions.specs.laws.Iterations.{answers, of-result, of-none, of-unfinished, iterations}
 use Rattle.progress.specs.Portion.{portionSteps, Reached}
 
 pub reached-start : (p : Plan) → validPlan p ≡ true → Reached p 1 0

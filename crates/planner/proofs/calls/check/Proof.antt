@@ -1,0 +1,23 @@
+-- `planner::calls::check` meets its contract: the columns are lent on, and the answer means what demand 3 says of it.
+use mathlib.Core.Path.{_≡_, sym, subst}
+use Prim.Native.Nat.{ℕ}
+use Rattle.cqf.specs.Plan.{Plan}
+use Rattle.loading.specs.Outcome.{Answer}
+use Rattle.questions.specs.Outcome.{checkAnswer}
+use Rattle.questions.specs.Meaning.{CheckMeans}
+use Rattle.questions.specs.Theorem.{check-means}
+use Rattle.planner.proofs.calls.check.Statement.{statement}
+use Rattle.planner.proofs.calls.check.Tie as tie
+
+-- the answer of the definition, and with it what demand 3 says of it
+told : (p : Plan) (T : ℕ) (a : Answer (Unit {0})) → a ≡ checkAnswer p T → (a ≡ checkAnswer p T) × CheckMeans p T a
+told p T a e = (e, subst (λ (x : Answer (Unit {0})). CheckMeans p T x) (sym e) (check-means p T))
+
+check-tables-requires : tie.Need-check-tables-requires
+check-tables-requires c κs = tt
+
+returns : tie.Need-returns
+returns c = told _ _ _ (c .check-tables .ensures)
+
+pub check-spec : {M : Type 1} → statement M
+check-spec = tie.close (tie.spec check-tables-requires returns)

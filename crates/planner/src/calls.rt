@@ -1,0 +1,127 @@
+// The calls: the planner by value, its tables lent column by column.
+use questions::CheckAnswer;
+use questions::FixedPointAnswer;
+use questions::Goal;
+use questions::SearchAnswer;
+use questions::SlackAnswer;
+use questions::check_tables;
+use questions::fixed_point_tables;
+use questions::search_tables;
+use questions::slack_tables;
+use tables::Planner;
+ghost use mathlib.Core.Path.{_≡_};
+ghost use Rattle.tables.specs.Tables.{planOf};
+ghost use Rattle.questions.specs.Answer.{checkOf, slackOf, leastOf, marginSafeOf, fixedPointOf};
+ghost use Rattle.questions.specs.Meaning.{CheckMeans};
+ghost use Rattle.questions.specs.Outcome.{checkAnswer, slackAnswer, leastAnswer, leastLeaves, marginSafeAnswer, marginSafeLeaves};
+ghost use Rattle.questions.specs.FixedPoint.{fixedPointAnswer};
+
+// Is this duration admissible? What the answer means is demand 3: after every sequence of calls that leads to this planner.
+pub fn check(planner: Planner, duration: u64) -> CheckAnswer
+    ensures answers { λ r. ⌜ checkOf r ≡ checkAnswer (planOf planner) duration ⌝ }
+    ensures means { λ r. ⌜ CheckMeans (planOf planner) duration (checkOf r) ⌝ }
+{
+    check_tables(
+        planner.guard,
+        planner.top,
+        planner.clock,
+        &planner.rates,
+        &planner.blockings,
+        &planner.extras,
+        &planner.periods,
+        &planner.counts,
+        &planner.lengths,
+        &planner.jitters,
+        &planner.hops,
+        &planner.routes,
+        duration,
+    )
+}
+
+// What is the slack of this port?
+pub fn slack(planner: Planner, port: u64, duration: u64) -> SlackAnswer
+    ensures { λ r. ⌜ slackOf r ≡ slackAnswer (planOf planner) port duration ⌝ }
+{
+    slack_tables(
+        planner.guard,
+        planner.top,
+        planner.clock,
+        &planner.rates,
+        &planner.blockings,
+        &planner.extras,
+        &planner.periods,
+        &planner.counts,
+        &planner.lengths,
+        &planner.jitters,
+        &planner.hops,
+        &planner.routes,
+        port,
+        duration,
+    )
+}
+
+// The least admissible duration; 22 where there is none.
+pub fn least(planner: Planner, scratch: &mut [u64]) -> SearchAnswer
+    ensures { λ r. ⌜ (leastOf r ≡ leastAnswer (planOf planner) (now (scratch .entry))) × (now (scratch .exit) ≡ leastLeaves (planOf planner) (now (scratch .entry))) ⌝ }
+{
+    search_tables(
+        Goal::Least,
+        planner.guard,
+        planner.top,
+        planner.clock,
+        &planner.rates,
+        &planner.blockings,
+        &planner.extras,
+        &planner.periods,
+        &planner.counts,
+        &planner.lengths,
+        &planner.jitters,
+        &planner.hops,
+        &planner.routes,
+        scratch,
+    )
+}
+
+// The margin-safe duration; 23 where there is none.
+pub fn margin_safe(planner: Planner, scratch: &mut [u64]) -> SearchAnswer
+    ensures { λ r. ⌜ (marginSafeOf r ≡ marginSafeAnswer (planOf planner) (now (scratch .entry))) × (now (scratch .exit) ≡ marginSafeLeaves (planOf planner) (now (scratch .entry))) ⌝ }
+{
+    search_tables(
+        Goal::MarginSafe,
+        planner.guard,
+        planner.top,
+        planner.clock,
+        &planner.rates,
+        &planner.blockings,
+        &planner.extras,
+        &planner.periods,
+        &planner.counts,
+        &planner.lengths,
+        &planner.jitters,
+        &planner.hops,
+        &planner.routes,
+        scratch,
+    )
+}
+
+// The least admissible duration from a start on, by at most so many steps; 26 where they end before.
+pub fn fixed_point(planner: Planner, start: u64, steps: u64) -> FixedPointAnswer
+    ensures { λ r. ⌜ fixedPointOf r ≡ fixedPointAnswer (planOf planner) start steps ⌝ }
+{
+    fixed_point_tables(
+        planner.guard,
+        planner.top,
+        planner.clock,
+        &planner.rates,
+        &planner.blockings,
+        &planner.extras,
+        &planner.periods,
+        &planner.counts,
+        &planner.lengths,
+        &planner.jitters,
+        &planner.hops,
+        &planner.routes,
+        start,
+        steps,
+    )
+}

@@ -1,0 +1,35 @@
+-- What comes back of a question: its answer, and the lent memory as it is left.
+use mathlib.Core.Path.{_≡_}
+use mathlib.Core.List.{List, [], _∷_}
+use Prim.Native.Nat.{ℕ}
+use lib.IntN.{ℤ}
+use Rattle.cqf.specs.Plan.{Plan}
+use Rattle.loading.specs.Outcome.{Answer, refusal}
+use Rattle.questions.specs.Outcome.{checkAnswer, slackAnswer, leastAnswer, leastLeaves, marginSafeAnswer, marginSafeLeaves}
+use Rattle.questions.specs.FixedPoint.{FixedPoint, fixedPointAnswer}
+use Rattle.questions.specs.Calls.{Question, check, slack, least, marginSafe, fixedPoint}
+
+pub data Reply : Type 0 where
+  ofCheck : Answer (Unit {0}) → Reply
+  ofSlack : Answer ℤ → Reply
+  ofSearch : Answer ℕ → (scratch : List ℕ) → Reply
+  ofFixedPoint : Answer FixedPoint → Reply
+
+abbrev pub reply : Plan → Question → Reply
+reply p (check T) = ofCheck (checkAnswer p T)
+reply p (slack n T) = ofSlack (slackAnswer p n T)
+reply p (least scratch) = ofSearch (leastAnswer p scratch) (leastLeaves p scratch)
+reply p (marginSafe scratch) = ofSearch (marginSafeAnswer p scratch) (marginSafeLeaves p scratch)
+reply p (fixedPoint start steps) = ofFixedPoint (fixedPointAnswer p start steps)
+
+-- 20 with 0, and lent memory as it was
+abbrev pub noPlanReply : Question → Reply
+noPlanReply (check T) = ofCheck (refusal 20 (0 ∷ []))
+noPlanReply (slack n T) = ofSlack (refusal 20 (0 ∷ []))
+noPlanReply (least scratch) = ofSearch (refusal 20 (0 ∷ [])) scratch
+noPlanReply (marginSafe scratch) = ofSearch (refusal 20 (0 ∷ [])) scratch
+noPlanReply (fixedPoint start steps) = ofFixedPoint (refusal 20 (0 ∷ []))
+
+-- two planners that answer every question alike
+abbrev pub SameAnswers : Plan → Plan → Type 0
+SameAnswers p q = (x : Question) → reply p x ≡ reply q x

@@ -1,0 +1,94 @@
+-- The steps of the fixed-point iteration: what the loop keeps, and what it gives where it ends.
+use mathlib.Core.Path.{_≡_, refl, sym, ap, _∙_}
+use mathlib.Core.Bool.{true, false}
+use mathlib.Core.List.{List}
+use Prim.Native.Nat.{ℕ, _+_, _≤_, _<_}
+use native.Mathlib.Nat.{le-trans}
+use native.Mathlib.Omega.{arith}
+use borrow.Author.Tests.{lt-leb, lt-ltb, le-ltb}
+use Rattle.cqf.specs.Bounded.{tabulate}
+use Rattle.cqf.specs.Limits.{portSlots}
+use Rattle.cqf.specs.Plan.{Plan, validPlan}
+use Rattle.cqf.specs.Condition.{demand, largestNeed, admissible, least}
+use Rattle.cqf.specs.FixedPoint.{settles, stepsFrom, found, none, unfinished, iterate, ended}
+use Rattle.cqf.specs.laws.Smallest.{smallest-le, least-of}
+use Rattle.cqf.specs.laws.Ended.{ended-found, ended-none, ended-finished}
+use Rattle.cqf.specs.laws.Converges.{steps-top, converges-least}
+use Rattle.cqf.specs.laws.FixedPoint.{then-settled, then-over, then-rises}
+use Rattle.questions.specs.Search.{Found}
+use Rattle.questions.specs.Iterate.{Iterates}
+
+-- what is left of the steps, by their outcome
+module _ (p : Plan) (start steps : ℕ) {out : List ℕ} where
+  pub iterates-found
+      : {t n : ℕ}
+      → found t n ≡ iterate p start steps
+      → out ≡ tabulate portSlots (λ q. demand p q t)
+      → Iterates p start steps (found t n) out
+  iterates-found {t} is demands =
+      record { is = is; demands = λ u m e. let same : t ≡ u = cc in rw same at demands }
+
+  pub iterates-none : {n : ℕ} → none n ≡ iterate p start steps → Iterates p start steps (none n) out
+  iterates-none is = record { is = is; demands = λ u m e. let z : _≡_ {A = ℕ} 0 1 = cc in absurd (omega arith) }
+
+  pub iterates-unfinished : {t : ℕ} → unfinished t ≡ iterate p start steps → Iterates p start steps (unfinished t) out
+  iterates-unfinished is = record { is = is; demands = λ u m e. let z : _≡_ {A = ℕ} 0 1 = cc in absurd (omega arith) }
+
+-- so many of the steps were made, and t is reached
+pub record Stepped (p : Plan) (start steps used t : ℕ) : Type 0 where
+  pub first : 1 ≤ t
+  pub within : t ≤ p .top
+  pub some : used ≤ steps
+  pub stopped : iterate p start used ≡ unfinished t
+
+pub stepped-start : (p : Plan) (start steps : ℕ) → 1 ≤ start → start ≤ p .top → Stepped p start steps 0 start
+unfolding iterate
+stepped-start p start steps first within = record { first = first; within = within; some = omega arith; stopped = refl }
+
+module _ {p : Plan} {start steps used t : ℕ} (s : Stepped p start steps used t) where
+  -- there are no more
+  pub steps-end : steps ≤ used → unfinished t ≡ iterate p start steps
+  steps-end l = let all : used ≡ steps = omega (arith, s .some) in sym (s .stopped) ∙ ap (iterate p start) all
+
+  module _ (less : used < steps) where
+    -- t is found
+    pub step-settles : settles p t ≡ true → found t (used + 1) ≡ iterate p start steps
+    step-settles e = sym (then-settled p start used (s .stopped) less e)
+
+    module _ (more : t < largestNeed p t) where
+      -- the need is above top
+      pub step-exceeds : p .top < largestNeed p t → none (used + 1) ≡ iterate p start steps
+      step-exceeds above = sym (then-over p start used (s .stopped) less (lt-leb _ _ more) (lt-ltb _ _ above))
+
+      -- it is the next duration
+      pub step-rises : largestNeed p t ≤ p .top → Stepped p start steps (used + 1) (largestNeed p t)
+      step-rises upto =
+          record {
+            first = omega arith;
+            within = upto;
+            some = omega arith;
+            stopped = then-rises p start used (s .stopped) (lt-leb _ _ more) (le-ltb _ _ upto);
+          }
+
+-- from 1 ns on and with steps enough, a duration found is the least, and where none is found that is above top
+module _ (p : Plan) (valid : validPlan p ≡ true) (steps : ℕ) (enough : p .top ≤ steps) where
+  ends : iterate p 1 steps ≡ ended p (least p) (stepsFrom p 1)
+  ends = converges-least p valid steps (le-trans (steps-top p 1) enough)
+
+  pub ascended-found : {t n : ℕ} {out : List ℕ} → Iterates p 1 steps (found t n) out → Found least p t out
+  ascended-found {t} {n} s =
+      record {
+        is = sym (ended-found p (least p) (stepsFrom p 1) (sym (s .is ∙ ends)) .0);
+        demands = λ _. s .demands t n refl;
+      }
+
+  pub ascended-none : {n : ℕ} {out : List ℕ} → Iterates p 1 steps (none n) out → Found least p (p .top + 1) out
+  ascended-none s =
+      let above = ended-none p (least p) (stepsFrom p 1) (sym (s .is ∙ ends)) .1 in
+      record {
+        is = omega (arith, above, least-of p, smallest-le (admissible p) (p .top));
+        demands = λ l. absurd (omega arith);
+      }
+
+  pub ascended-finished : {t : ℕ} {out : List ℕ} → Iterates p 1 steps (unfinished t) out → ⊥
+  ascended-finished s = ended-finished p (least p) (stepsFrom p 1) (sym (s .is ∙ ends))

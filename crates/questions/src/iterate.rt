@@ -1,0 +1,89 @@
+// The fixed-point iteration for the least duration from a start on, by the most that a port needs.
+use super::demand::demands;
+use super::failing::port_fails;
+use super::need::largest_need;
+use numbers::clock::Clock;
+use numbers::port::window;
+use tables::PORTS;
+ghost use mathlib.Core.Path.{_≡_};
+ghost use mathlib.Core.Bool.{true};
+ghost use Prim.Native.Nat.{_≤_};
+ghost use lib.ListN.{length};
+ghost use Rattle.cqf.specs.Limits.{portSlots};
+ghost use Rattle.cqf.specs.Plan.{validPlan};
+ghost use Rattle.numbers.specs.Clock.{clockOf};
+ghost use Rattle.tables.specs.Columns.{planBy};
+ghost use Rattle.questions.specs.Iterate.{iteratedOf, Iterates};
+
+// What a number of steps gives: the duration found, or that there is none up to top, with the steps used; or the duration reached.
+pub(crate) enum Iterated {
+    Found { duration: u64, steps: u64 },
+    None { steps: u64 },
+    Unfinished { duration: u64 },
+}
+
+// At most so many steps. Where no port fails at t, it is found; otherwise the next step is at the most that a port needs at t.
+// Where a duration is found, out is left with the demands at it.
+pub(crate) fn iterate<'a>(
+    guard: u32,
+    top: u32,
+    clock: Clock,
+    rates: &'a [u32; 64],
+    blockings: &'a [u16; 64],
+    extras: &'a [u8; 64],
+    periods: &'a [u32; 256],
+    counts: &'a [u16; 256],
+    lengths: &'a [u16; 256],
+    jitters: &'a [u32; 256],
+    hops: &'a [u8; 256],
+    routes: &'a [u8; 4096],
+    start: u64,
+    steps: u64,
+    out: &mut [u64],
+) -> Iterated
+    requires { ⌜ (validPlan (planBy guard top (clockOf clock) (now rates) (now blockings) (now extras) (now periods) (now counts) (now lengths) (now jitters) (now hops) (now routes)) ≡ true) × (length (now out) ≡ portSlots) ⌝ }
+    requires { ⌜ (1 ≤ start) × (start ≤ top) ⌝ }
+    ensures { λ r. ⌜ Iterates (planBy guard top (clockOf clock) (now (rates .entry)) (now (blockings .entry)) (now (extras .entry)) (now (periods .entry)) (now (counts .entry)) (now (lengths .entry)) (now (jitters .entry)) (now (hops .entry)) (now (routes .entry))) start steps (iteratedOf r) (now (out .exit)) ⌝ }
+{
+    let limit = top as u64;
+    let mut t = start;
+    let mut used: u64 = 0;
+    let found = loop {
+        if steps <= used {
+            break Iterated::Unfinished { duration: t };
+        }
+        used += 1;
+        demands(
+            clock,
+            extras,
+            periods,
+            counts,
+            lengths,
+            jitters,
+            hops,
+            routes,
+            t,
+            out,
+        );
+        let available = window(guard, t);
+        let mut q: usize = 0;
+        'ports: while q < PORTS {
+            if port_fails(rates[q], blockings[q], extras[q], available, out[q]) {
+                break 'ports;
+            }
+            q += 1;
+        }
+        if PORTS <= q {
+            break Iterated::Found {
+                duration: t,
+                steps: used,
+            };
+        }
+        let next = largest_need(guard, rates, blockings, extras, &out[..]);
+        if limit < next {
+            break Iterated::None { steps: used };
+        }
+        t = next;
+    };
+    found
+}

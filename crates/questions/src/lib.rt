@@ -1,0 +1,48 @@
+// The questions, over the tables lent column by column.
+mod ascend;
+mod demand;
+mod descend;
+mod failing;
+mod iterate;
+mod iteration;
+mod need;
+mod port_demand;
+mod port_slack;
+mod question;
+mod search;
+mod seek;
+
+pub use iteration::fixed_point_tables;
+pub use port_slack::slack_tables;
+pub use question::check_tables;
+pub use search::search_tables;
+pub use seek::Goal;
+
+pub enum CheckAnswer {
+    Admissible,
+    NoPlan,
+    BadDuration,
+    Failing { port: u32, count: u32 },
+}
+
+pub enum SlackAnswer {
+    Slack(i64),
+    NoPlan,
+    BadDuration,
+    NotCrossed,
+}
+
+pub enum SearchAnswer {
+    Duration(u64),
+    NoPlan,
+    ShortScratch,
+    Failing { port: u32, count: u32 },
+}
+
+pub enum FixedPointAnswer {
+    Duration { duration: u64, steps: u64 },
+    NoPlan,
+    BadStart,
+    Failing { port: u32, count: u32, steps: u64 },
+    Unfinished { duration: u64, steps: u64 },
+}

@@ -1,0 +1,135 @@
+// A search, whatever its goal.
+use super::SearchAnswer;
+use super::failing::failing_at;
+use super::seek::Goal;
+use super::seek::seek;
+use numbers::clock::Clock;
+use tables::PORTS;
+use tables::valid_tables;
+ghost use mathlib.Core.Path.{_≡_};
+ghost use mathlib.Core.Bool.{true};
+ghost use lib.ListN.{length};
+ghost use Rattle.cqf.specs.Limits.{portSlots};
+ghost use Rattle.cqf.specs.Plan.{validPlan};
+ghost use Rattle.numbers.specs.Clock.{clockOf};
+ghost use Rattle.tables.specs.Columns.{planBy};
+ghost use Rattle.questions.specs.Answer.{searchOf};
+ghost use Rattle.questions.specs.Search.{Answers, Ends, wanted, noneNumber};
+
+// The answer over 64 numbers, which are left with the demands at the duration found, or at top where there is none.
+fn answer<'a>(
+    goal: Goal,
+    guard: u32,
+    top: u32,
+    clock: Clock,
+    rates: &'a [u32; 64],
+    blockings: &'a [u16; 64],
+    extras: &'a [u8; 64],
+    periods: &'a [u32; 256],
+    counts: &'a [u16; 256],
+    lengths: &'a [u16; 256],
+    jitters: &'a [u32; 256],
+    hops: &'a [u8; 256],
+    routes: &'a [u8; 4096],
+    out: &mut [u64],
+) -> SearchAnswer
+    requires { ⌜ (validPlan (planBy guard top (clockOf clock) (now rates) (now blockings) (now extras) (now periods) (now counts) (now lengths) (now jitters) (now hops) (now routes)) ≡ true) × (length (now out) ≡ portSlots) ⌝ }
+    ensures { λ r. ⌜ Answers (noneNumber goal) (wanted goal) (planBy guard top (clockOf clock) (now (rates .entry)) (now (blockings .entry)) (now (extras .entry)) (now (periods .entry)) (now (counts .entry)) (now (lengths .entry)) (now (jitters .entry)) (now (hops .entry)) (now (routes .entry))) (searchOf (noneNumber goal) r) (now (out .exit)) ⌝ }
+{
+    let found = seek(
+        goal,
+        guard,
+        top,
+        clock,
+        rates,
+        blockings,
+        extras,
+        periods,
+        counts,
+        lengths,
+        jitters,
+        hops,
+        routes,
+        out,
+    );
+    let limit = top as u64;
+    if found <= limit {
+        return SearchAnswer::Duration(found);
+    }
+    let ports = failing_at(
+        guard,
+        clock,
+        rates,
+        blockings,
+        extras,
+        periods,
+        counts,
+        lengths,
+        jitters,
+        hops,
+        routes,
+        limit,
+        out,
+    );
+    SearchAnswer::Failing {
+        port: ports.port,
+        count: ports.count,
+    }
+}
+
+// A search over the first 64 numbers of a scratch.
+pub fn search_tables<'a>(
+    goal: Goal,
+    guard: u32,
+    top: u32,
+    clock: Clock,
+    rates: &'a [u32; 64],
+    blockings: &'a [u16; 64],
+    extras: &'a [u8; 64],
+    periods: &'a [u32; 256],
+    counts: &'a [u16; 256],
+    lengths: &'a [u16; 256],
+    jitters: &'a [u32; 256],
+    hops: &'a [u8; 256],
+    routes: &'a [u8; 4096],
+    scratch: &mut [u64],
+) -> SearchAnswer
+    ensures { λ r. ⌜ Ends (noneNumber goal) (wanted goal) (planBy guard top (clockOf clock) (now (rates .entry)) (now (blockings .entry)) (now (extras .entry)) (now (periods .entry)) (now (counts .entry)) (now (lengths .entry)) (now (jitters .entry)) (now (hops .entry)) (now (routes .entry))) (now (scratch .entry)) (searchOf (noneNumber goal) r) (now (scratch .exit)) ⌝ }
+{
+    if !valid_tables(
+        guard,
+        top,
+        clock,
+        rates,
+        blockings,
+        extras,
+        periods,
+        counts,
+        lengths,
+        jitters,
+        hops,
+        routes,
+    ) {
+        return SearchAnswer::NoPlan;
+    }
+    let size = scratch.len();
+    if size < PORTS {
+        return SearchAnswer::ShortScratch;
+    }
+    answer(
+        goal,
+        guard,
+        top,
+        clock,
+        rates,
+        blockings,
+        extras,
+        periods,
+        counts,
+        lengths,
+        jitters,
+        hops,
+        routes,
+        &mut scratch[..PORTS],
+    )
+}
