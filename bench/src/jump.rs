@@ -1,4 +1,4 @@
-//! The planner's two searches in Rust, on the planner's own tables, step by step as in iterate.rt and descend.rt of crates/planner.
+//! The planner's two searches in Rust, on the planner's own tables, step by step as in iterate.rt and descend.rt of crates/questions.
 //! CHECKED says whether the sum over the hops tests its indices, as safe Rust does; the form test makes it needless.
 
 use crate::answers::{Answer, Planner};
