@@ -6,6 +6,7 @@ use Rattle.plan_reading.specs.Reading.{loose}
 use Rattle.loading.specs.Answer.{Loads}
 use Rattle.loading.specs.declared.LoadOutcome.{LoadOutcome}
 use Rattle.console.specs.declared.Input.{Input}
+pub mod laws
 
 -- as many bytes as the buffer has room for, or fewer
 abbrev pub Within : ℕ → Input → Type 0

@@ -2,6 +2,7 @@
 ghost use Prim.Native.Nat.{_≤_};
 ghost use lib.ListN.{length};
 ghost use Rattle.console.specs.{Within, Loaded};
+use libc::STDERR_FILENO;
 use libc::STDIN_FILENO;
 use libc::STDOUT_FILENO;
 use planner::LoadOutcome;
@@ -29,20 +30,33 @@ pub fn say(text: &[u8]) {
 }
 
 pub fn say_refused(refusal: u32) {
-    say(b"refused ");
-    say_number(refusal as u64);
+    put_refused(STDOUT_FILENO, refusal);
 }
 
 // Of a plan that is not held.
 pub fn say_refused_plan(readable: bool, refusal: u32, offset: usize) {
+    put_refused_plan(STDOUT_FILENO, readable, refusal, offset);
+}
+
+// The same on standard error, for a program whose output is no text.
+pub fn report_refused_plan(readable: bool, refusal: u32, offset: usize) {
+    put_refused_plan(STDERR_FILENO, readable, refusal, offset);
+}
+
+fn put_refused(to: i32, refusal: u32) {
+    io::write_all(to, b"refused ");
+    io::print_decimal(to, refusal as u64);
+}
+
+fn put_refused_plan(to: i32, readable: bool, refusal: u32, offset: usize) {
     if !readable {
-        say(b"cannot read the plan\n");
+        io::write_all(to, b"cannot read the plan\n");
         return;
     }
-    say_refused(refusal);
-    say(b" place ");
-    say_number(offset as u64);
-    say(b"\n");
+    put_refused(to, refusal);
+    io::write_all(to, b" place ");
+    io::print_decimal(to, offset as u64);
+    io::write_all(to, b"\n");
 }
 
 // One read, into the part of the buffer that is still free.

@@ -9,6 +9,7 @@ pub mod Reading
 pub mod FieldOrder
 pub mod Strict
 pub mod FieldBytes
+pub mod Sized
 pub mod Ranges
 pub mod laws
 pub mod StrictTheorem

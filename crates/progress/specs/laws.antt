@@ -1,3 +1,2 @@
 -- Laws of the portions.
-pub mod Held
 pub mod Portions

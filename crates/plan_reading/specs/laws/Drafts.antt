@@ -21,7 +21,8 @@ use Rattle.plan_reading.specs.Ranges.{HeaderOk, PortOk, FlowOk, RouteOk}
 use Rattle.plan_reading.specs.laws.Within.{within-low, within-high, slot-below}
 use Rattle.plan_reading.specs.laws.Slots.{validRate, validExtra, validIn, validJitter, valid-hops, rate-kept, flow-kept, rate-filled, flow-filled}
 use Rattle.plan_reading.specs.laws.Tables
-use Rattle.plan_reading.specs.laws.Tables.{Sized, sized-none, sized-store}
+use Rattle.plan_reading.specs.Sized.{Sized}
+use Rattle.plan_reading.specs.laws.Tables.{sized-none, sized-store}
 
 -- the draft's tables are valid, but for the ports that its routes and extra bytes name and the flows that its jitters name:
 -- those are in the plan of these rates and periods

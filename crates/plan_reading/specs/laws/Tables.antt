@@ -11,20 +11,9 @@ use Rattle.cqf.specs.Limits.{portSlots, flowSlots, maxHops, routeStride}
 use Rattle.cqf.specs.Plan.{Plan, noPlan, periodOf, countOf, lengthOf, hopsOf, routeOf}
 use Rattle.plan.specs.Field.{Field, flow}
 use Rattle.plan_reading.specs.Store.{putsRate, putsBlocking, putsExtra, putsPeriod, putsCount, putsLength, putsJitter, putsHops, putsRoute, store}
+use Rattle.plan_reading.specs.Sized.{Sized}
 use Rattle.plan_reading.specs.laws.Puts.{put-length}
 use Rattle.plan_reading.specs.laws.Stores.{Outside, sets-outside, sublist-sets, sublist-same}
-
--- the tables are of the sizes of document 01
-pub record Sized (p : Plan) : Type 0 where
-  pub rates : length (p .rates) ≡ portSlots
-  pub blockings : length (p .blockings) ≡ portSlots
-  pub extras : length (p .extras) ≡ portSlots
-  pub periods : length (p .periods) ≡ flowSlots
-  pub counts : length (p .counts) ≡ flowSlots
-  pub lengths : length (p .lengths) ≡ flowSlots
-  pub jitters : length (p .jitters) ≡ flowSlots
-  pub hops : length (p .hops) ≡ flowSlots
-  pub routes : length (p .routes) ≡ flowSlots * routeStride
 
 pub sized-none : Sized noPlan
 unfolding noPlan

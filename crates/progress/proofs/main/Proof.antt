@@ -2,7 +2,7 @@
 use mathlib.Core.Path.{ap}
 use borrow.Author.Needs.{needs}
 use Rattle.loading.specs.Answer.{loadOf}
-use Rattle.progress.specs.laws.Held.{held-valid}
+use Rattle.console.specs.laws.Held.{held-valid}
 use Rattle.progress.proofs.main.Statement.{statement}
 use Rattle.progress.proofs.main.Tie as tie
 

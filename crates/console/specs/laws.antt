@@ -1,0 +1,2 @@
+-- Laws of what is loaded of the input.
+pub mod Held
