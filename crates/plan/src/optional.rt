@@ -15,11 +15,11 @@ ghost use mathlib.Core.Path.{_≡_};
 ghost use Rattle.plan.specs.Field.{extraIn, jitterIn, clockIn};
 ghost use Rattle.plan.specs.Answer.{fieldReadOf};
 
-const EXTRA_SIZE: usize = 4;
+pub const EXTRA_SIZE: usize = 4;
 
-const JITTER_SIZE: usize = 6;
+pub const JITTER_SIZE: usize = 6;
 
-const CLOCK_SIZE: usize = 12;
+pub const CLOCK_SIZE: usize = 12;
 
 pub(crate) fn extra_of(value: &[u8], at: usize, next: usize) -> FieldRead
     ensures { λ r. ⌜ fieldReadOf r ≡ extraIn (now (value .entry)) at next ⌝ }

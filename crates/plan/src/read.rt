@@ -37,9 +37,9 @@ pub const JITTER_TAG: u8 = 5;
 
 pub const CLOCK_TAG: u8 = 6;
 
-const HEADER_SIZE: usize = 8;
+pub const HEADER_SIZE: usize = 8;
 
-const PORT_SIZE: usize = 8;
+pub const PORT_SIZE: usize = 8;
 
 fn header_of(value: &[u8], at: usize, next: usize) -> FieldRead
     ensures { λ r. ⌜ fieldReadOf r ≡ headerIn (now (value .entry)) at next ⌝ }

@@ -12,7 +12,7 @@ ghost use Rattle.cqf.specs.Limits.{portOk, hopsOk};
 ghost use Rattle.plan.specs.Field.{flowSize, hopsIn, routeBytes, routeLength, routePorts, routePort, repeats};
 
 // A flow's value before its route.
-const FLOW_SIZE: usize = 10;
+pub const FLOW_SIZE: usize = 10;
 
 // How many ports a flow field names, by the length of its value: one case for each length that it may have, and 0 for any other.
 pub(crate) fn hops_by_length(size: usize) -> u8

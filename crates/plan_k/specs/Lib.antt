@@ -6,4 +6,5 @@ pub mod Clock
 pub mod Lighter
 pub mod Order
 pub mod Strict
+pub mod Saved
 pub mod FixedPoint

@@ -9,7 +9,9 @@ pub mod Reading
 pub mod FieldOrder
 pub mod Strict
 pub mod FieldBytes
+pub mod Saved
 pub mod Sized
+pub mod Tidy
 pub mod Ranges
 pub mod laws
 pub mod StrictTheorem

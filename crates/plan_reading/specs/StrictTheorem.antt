@@ -46,7 +46,7 @@ read-loosely loose s p m k e = e
 read-loosely strict s p m k e = strictly-accepted s (firstLate s) (readAs loose s) p m k (sym (strict-reading s) ∙ e)
 
 -- the keys of its fields rise
-keys-ascend : (s : List ℕ) (p : Plan) (ports flows : ℕ) → readAs strict s ≡ accepted p ports flows → Ascends 0 (fieldsIn s)
+pub keys-ascend : (s : List ℕ) (p : Plan) (ports flows : ℕ) → readAs strict s ≡ accepted p ports flows → Ascends 0 (fieldsIn s)
 unfolding fieldsIn
 keys-ascend s p m k e =
     strict-ascends (length s) s 0 0 blank 0 p m k flagged-blank (λ x fresh in-time. omega arith)
