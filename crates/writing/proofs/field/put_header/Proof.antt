@@ -1,0 +1,87 @@
+-- `put_header` meets its contract: the head, and each number behind what is there.
+use mathlib.Core.Path.{refl, sym, _∙_}
+use mathlib.Core.List.{_++_}
+use native.Mathlib.Omega.{arith}
+use borrow.Author.Needs.{needs}
+use denote.Ref.{now}
+use Rattle.plan.specs.Field.{header, headerTag, headerSize}
+use Rattle.plan_reading.specs.FieldBytes.{bytes4, valueOf, bytesOf}
+use Rattle.writing.specs.Fields.{headBytes, fieldBytes}
+use Rattle.writing.specs.laws.Laid.{laid-over, laid-short, lay-next}
+use Rattle.writing.proofs.field.put_header.Statement.{statement}
+use Rattle.writing.proofs.field.put_header.Tie as tie
+
+add-if1 : tie.Need-add-if1
+add-if1 c = search needs
+
+returns : tie.Need-returns
+unfolding bytesOf valueOf
+returns c =
+    let a = c .before .before .args in
+    sym (laid-short (fieldBytes (header (a .guard) (a .top))) (now (a .out)) (omega arith))
+
+cast-put-head : tie.Need-cast-put-head
+cast-put-head c = search needs
+
+put-head-requires : tie.Need-put-head-requires
+put-head-requires c κs = search needs
+
+sub-put4 : tie.Need-sub-put4
+sub-put4 c = search needs
+
+part-put4-start : tie.Need-part-put4-start
+part-put4-start c = search needs
+
+part-put4-end : tie.Need-part-put4-end
+part-put4-end c = search needs
+
+put4-requires : tie.Need-put4-requires
+put4-requires c κs = search needs
+
+sub-put4-2 : tie.Need-sub-put4-2
+sub-put4-2 c = search needs
+
+part-put4-start-2 : tie.Need-part-put4-start-2
+part-put4-start-2 c = search needs
+
+part-put4-end-2 : tie.Need-part-put4-end-2
+part-put4-end-2 c = search needs
+
+put4-requires-2 : tie.Need-put4-requires-2
+put4-requires-2 c κs = search needs
+
+same-length : tie.Need-same-length
+same-length c = search needs
+
+returns-2 : tie.Need-returns-2
+unfolding bytesOf valueOf
+returns-2 c =
+    let second = c .before .before in
+    let first = second .before .before .before .before in
+    let head = first .before .before .before .before in
+    let a = head .before .before .before .before .args in
+    let entry = now (a .out) in
+    let h = headBytes headerTag headerSize in
+    let there = head .put-head .ensures ∙ laid-over h entry (omega arith) in
+    let after-first = lay-next h (bytes4 (a .guard)) entry 3 refl there (omega arith) (first .put4 .ensures) in
+    lay-next (h ++ bytes4 (a .guard)) (bytes4 (a .top)) entry 7 refl after-first (omega arith) (second .put42 .ensures)
+    ∙ sym (laid-over (fieldBytes (header (a .guard) (a .top))) entry (omega arith))
+
+pub put-header-spec : {M : Type 1} → statement M
+put-header-spec =
+    tie.close
+    (tie.spec
+    add-if1
+    returns
+    cast-put-head
+    put-head-requires
+    sub-put4
+    part-put4-start
+    part-put4-end
+    put4-requires
+    sub-put4-2
+    part-put4-start-2
+    part-put4-end-2
+    put4-requires-2
+    same-length
+    returns-2)

@@ -1,0 +1,69 @@
+-- `put2` meets its contract: the high byte, and the low byte behind it.
+use mathlib.Core.Path.{sym, _∙_}
+use Prim.Native.Nat.{_/_, _%_}
+use native.Mathlib.Omega.{arith}
+use borrow.Author.Needs.{needs}
+use denote.Ref.{now}
+use Rattle.plan_reading.specs.FieldBytes.{bytes2}
+use Rattle.writing.specs.Laid.{bytes1}
+use Rattle.writing.specs.laws.Laid.{laid-over, laid-short, lay-next}
+use Rattle.writing.proofs.number.put2.Statement.{statement}
+use Rattle.writing.proofs.number.put2.Tie as tie
+
+-- where the function starts, from past the test of the room
+abbrev start : tie.Else1 → tie.Start
+start c = c .before .before
+
+returns : tie.Need-returns
+returns c =
+    let a = c .before .before .args in
+    sym (laid-short (bytes2 (a .n)) (now (a .out)) (omega arith))
+
+cast-put1 : tie.Need-cast-put1
+cast-put1 c = search needs
+
+put1-requires : tie.Need-put1-requires
+put1-requires c κs = search needs
+
+sub-put1 : tie.Need-sub-put1
+sub-put1 c = search needs
+
+part-put1-start : tie.Need-part-put1-start
+part-put1-start c = search needs
+
+part-put1-end : tie.Need-part-put1-end
+part-put1-end c = search needs
+
+cast-put1-2 : tie.Need-cast-put1-2
+cast-put1-2 c = search needs
+
+put1-requires-2 : tie.Need-put1-requires-2
+put1-requires-2 c κs = search needs
+
+same-length : tie.Need-same-length
+same-length c = search needs
+
+returns-2 : tie.Need-returns-2
+returns-2 c =
+    let second = c .before .before in
+    let first = second .before .before .before .before in
+    let s = start (first .before .before) in
+    let entry = now (s .args .out) in
+    let n = s .args .n in
+    lay-next (bytes1 (n / 256)) (bytes1 (n % 256)) entry 1 (search needs) (first .put1 .ensures ∙ laid-over (bytes1 (n / 256)) entry (omega arith)) (omega arith) (second .put12 .ensures)
+    ∙ sym (laid-over (bytes2 n) entry (omega arith))
+
+pub put2-spec : {M : Type 1} → statement M
+put2-spec =
+    tie.close
+    (tie.spec
+    returns
+    cast-put1
+    put1-requires
+    sub-put1
+    part-put1-start
+    part-put1-end
+    cast-put1-2
+    put1-requires-2
+    same-length
+    returns-2)

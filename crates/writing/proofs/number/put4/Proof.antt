@@ -1,0 +1,68 @@
+-- `put4` meets its contract: the high half, and the low half behind it.
+use mathlib.Core.Path.{sym, _∙_}
+use Prim.Native.Nat.{_/_, _%_}
+use native.Mathlib.Omega.{arith}
+use borrow.Author.Needs.{needs}
+use denote.Ref.{now}
+use Rattle.plan_reading.specs.FieldBytes.{bytes2, bytes4}
+use Rattle.writing.specs.laws.Laid.{laid-over, laid-short, lay-next}
+use Rattle.writing.proofs.number.put4.Statement.{statement}
+use Rattle.writing.proofs.number.put4.Tie as tie
+
+-- where the function starts, from past the test of the room
+abbrev start : tie.Else1 → tie.Start
+start c = c .before .before
+
+returns : tie.Need-returns
+returns c =
+    let a = c .before .before .args in
+    sym (laid-short (bytes4 (a .n)) (now (a .out)) (omega arith))
+
+cast-put2 : tie.Need-cast-put2
+cast-put2 c = search needs
+
+put2-requires : tie.Need-put2-requires
+put2-requires c κs = search needs
+
+sub-put2 : tie.Need-sub-put2
+sub-put2 c = search needs
+
+part-put2-start : tie.Need-part-put2-start
+part-put2-start c = search needs
+
+part-put2-end : tie.Need-part-put2-end
+part-put2-end c = search needs
+
+cast-put2-2 : tie.Need-cast-put2-2
+cast-put2-2 c = search needs
+
+put2-requires-2 : tie.Need-put2-requires-2
+put2-requires-2 c κs = search needs
+
+same-length : tie.Need-same-length
+same-length c = search needs
+
+returns-2 : tie.Need-returns-2
+returns-2 c =
+    let second = c .before .before in
+    let first = second .before .before .before .before in
+    let s = start (first .before .before) in
+    let entry = now (s .args .out) in
+    let n = s .args .n in
+    lay-next (bytes2 (n / 65536)) (bytes2 (n % 65536)) entry 2 (search needs) (first .put2 .ensures ∙ laid-over (bytes2 (n / 65536)) entry (omega arith)) (omega arith) (second .put22 .ensures)
+    ∙ sym (laid-over (bytes4 n) entry (omega arith))
+
+pub put4-spec : {M : Type 1} → statement M
+put4-spec =
+    tie.close
+    (tie.spec
+    returns
+    cast-put2
+    put2-requires
+    sub-put2
+    part-put2-start
+    part-put2-end
+    cast-put2-2
+    put2-requires-2
+    same-length
+    returns-2)
