@@ -8,6 +8,8 @@ use questions::check_tables;
 use questions::fixed_point_tables;
 use questions::search_tables;
 use questions::slack_tables;
+use saving::SaveAnswer;
+use saving::save_tables;
 use tables::Planner;
 ghost use mathlib.Core.Path.{_≡_};
 ghost use Rattle.tables.specs.Tables.{planOf};
@@ -15,6 +17,8 @@ ghost use Rattle.questions.specs.Answer.{checkOf, slackOf, leastOf, marginSafeO
 ghost use Rattle.questions.specs.Meaning.{CheckMeans};
 ghost use Rattle.questions.specs.Outcome.{checkAnswer, slackAnswer, leastAnswer, leastLeaves, marginSafeAnswer, marginSafeLeaves};
 ghost use Rattle.questions.specs.FixedPoint.{fixedPointAnswer};
+ghost use Rattle.questions.specs.Save.{saveAnswer, saveLeaves};
+ghost use Rattle.saving.specs.Answer.{saveOf};
 
 // Is this duration admissible? What the answer means is demand 3: after every sequence of calls that leads to this planner.
 pub fn check(planner: Planner, duration: u64) -> CheckAnswer
@@ -123,5 +127,26 @@ pub fn fixed_point(planner: Planner, start: u64, steps: u64) -> FixedPointAnswer
         &planner.routes,
         start,
         steps,
+    )
+}
+
+// The held plan in strict order, written into the buffer; 20 where none is held, 13 where the buffer is too short for it.
+pub fn save(planner: Planner, buffer: &mut [u8]) -> SaveAnswer
+    ensures { λ r. ⌜ (saveOf r ≡ saveAnswer (planOf planner) (now (buffer .entry))) × (now (buffer .exit) ≡ saveLeaves (planOf planner) (now (buffer .entry))) ⌝ }
+{
+    save_tables(
+        planner.guard,
+        planner.top,
+        planner.clock,
+        &planner.rates,
+        &planner.blockings,
+        &planner.extras,
+        &planner.periods,
+        &planner.counts,
+        &planner.lengths,
+        &planner.jitters,
+        &planner.hops,
+        &planner.routes,
+        buffer,
     )
 }

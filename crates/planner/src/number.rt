@@ -1,18 +1,22 @@
-// Document 01's number of each answer, 0 for a result.
+// The papers' number of each answer, 0 for a result.
 use loading::LoadAnswer;
 use plan::fault_number;
 use questions::CheckAnswer;
 use questions::FixedPointAnswer;
 use questions::SearchAnswer;
 use questions::SlackAnswer;
+use saving::SaveAnswer;
 ghost use mathlib.Core.Path.{_≡_};
 ghost use Rattle.loading.specs.Outcome.{numberOf};
 ghost use Rattle.loading.specs.Answer.{loadOf};
 ghost use Rattle.questions.specs.Answer.{checkOf, slackOf, searchOf, leastOf, marginSafeOf, fixedPointOf};
+ghost use Rattle.saving.specs.Answer.{saveOf};
 
 const BAD_DURATION: u32 = 10;
 
 const SHORT_SCRATCH: u32 = 11;
+
+const SHORT_BUFFER: u32 = 13;
 
 const NO_PLAN: u32 = 20;
 
@@ -100,5 +104,15 @@ pub fn fixed_point_number(answer: FixedPointAnswer) -> u32
             duration: _,
             steps: _,
         } => UNFINISHED,
+    }
+}
+
+pub fn save_number(answer: SaveAnswer) -> u32
+    ensures { λ r. ⌜ r ≡ numberOf (saveOf answer) ⌝ }
+{
+    match answer {
+        SaveAnswer::Written(_) => 0,
+        SaveAnswer::NoPlan => NO_PLAN,
+        SaveAnswer::ShortBuffer(_) => SHORT_BUFFER,
     }
 }

@@ -6,13 +6,14 @@ use Rattle.cqf.specs.Plan.{Plan, noPlan}
 use Rattle.plan_reading.specs.Reading.{PlanRead, accepted, rejected, Mode, readAs}
 use Rattle.loading.specs.Outcome.{loadLeaves}
 
--- a question, with what it is given; the two searches are lent a scratch
+-- a question, with what it is given; the two searches are lent a scratch, and saving a buffer
 pub data Question : Type 0 where
   check : (duration : ℕ) → Question
   slack : (port duration : ℕ) → Question
   least : (scratch : List ℕ) → Question
   marginSafe : (scratch : List ℕ) → Question
   fixedPoint : (start steps : ℕ) → Question
+  save : (buffer : List ℕ) → Question
 
 -- a load says in which reading
 pub data Call : Type 0 where

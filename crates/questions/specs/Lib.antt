@@ -1,10 +1,12 @@
 -- The calls of the planner: what each answers, what it leaves, and sequences of calls.
 pub mod Outcome
 pub mod FixedPoint
+pub mod Save
 pub mod Calls
 pub mod Answer
 pub mod Meaning
 pub mod Reply
+pub mod Restored
 pub mod NoWorse
 pub mod Iterations
 pub mod laws
@@ -12,6 +14,7 @@ pub mod NoPlan
 pub mod Theorem
 pub mod LighterTheorem
 pub mod IterationsTheorem
+pub mod SaveTheorem
 pub mod Failing
 pub mod Search
 pub mod Iterate

@@ -18,10 +18,11 @@ use Rattle.loading.specs.Outcome.{Answer, result, numberOf}
 use Rattle.questions.specs.Outcome.{failingAt, checkAnswer}
 use Rattle.questions.specs.Calls as Calls
 use Rattle.questions.specs.Calls.{Call, Question, after, heldBytes}
-use Rattle.questions.specs.Reply.{Reply, ofCheck, ofSlack, ofSearch, ofFixedPoint, reply, noPlanReply}
+use Rattle.questions.specs.Reply.{Reply, ofCheck, ofSlack, ofSearch, ofFixedPoint, ofWriting, reply, noPlanReply}
 use Rattle.questions.specs.laws.Answers
 use Rattle.questions.specs.laws.Answers.{check-none, slack-none, fixed-point-none, check-within}
 use Rattle.questions.specs.laws.Calls.{after-none, after-loaded}
+use Rattle.questions.specs.laws.Saved.{save-none, save-keeps}
 use Rattle.questions.specs.laws.Searched.{ends-no-plan, least-ends, margin-safe-ends}
 
 -- tables that are not valid
@@ -35,6 +36,7 @@ answers-none p e (Calls.marginSafe scratch) =
     let h = margin-safe-ends p scratch (ends-no-plan 23 marginSafe p scratch e) in
     ap₂ ofSearch (sym (h .0)) (sym (h .1))
 answers-none p e (Calls.fixedPoint start steps) = ap ofFixedPoint (fixed-point-none p start steps e)
+answers-none p e (Calls.save buffer) = ap₂ ofWriting (save-none p buffer e) (save-keeps p buffer e)
 
 -- a valid plan is not refused 20 at 1 ns
 verdictNumber : Reply → ℕ
@@ -42,6 +44,7 @@ verdictNumber (ofCheck answer) = numberOf answer
 verdictNumber (ofSlack answer) = 0
 verdictNumber (ofSearch answer scratch) = 0
 verdictNumber (ofFixedPoint answer) = 0
+verdictNumber (ofWriting answer buffer) = 0
 
 answers-some : (p : Plan) → validPlan p ≡ true → reply p (Calls.check 1) ≡ noPlanReply (Calls.check 1) → ⊥
 unfolding verdictNumber

@@ -7,13 +7,15 @@ use Rattle.cqf.specs.Plan.{Plan}
 use Rattle.loading.specs.Outcome.{Answer, refusal}
 use Rattle.questions.specs.Outcome.{checkAnswer, slackAnswer, leastAnswer, leastLeaves, marginSafeAnswer, marginSafeLeaves}
 use Rattle.questions.specs.FixedPoint.{FixedPoint, fixedPointAnswer}
-use Rattle.questions.specs.Calls.{Question, check, slack, least, marginSafe, fixedPoint}
+use Rattle.questions.specs.Save.{saveAnswer, saveLeaves}
+use Rattle.questions.specs.Calls.{Question, check, slack, least, marginSafe, fixedPoint, save}
 
 pub data Reply : Type 0 where
   ofCheck : Answer (Unit {0}) → Reply
   ofSlack : Answer ℤ → Reply
   ofSearch : Answer ℕ → (scratch : List ℕ) → Reply
   ofFixedPoint : Answer FixedPoint → Reply
+  ofWriting : Answer ℕ → (buffer : List ℕ) → Reply
 
 abbrev pub reply : Plan → Question → Reply
 reply p (check T) = ofCheck (checkAnswer p T)
@@ -21,6 +23,7 @@ reply p (slack n T) = ofSlack (slackAnswer p n T)
 reply p (least scratch) = ofSearch (leastAnswer p scratch) (leastLeaves p scratch)
 reply p (marginSafe scratch) = ofSearch (marginSafeAnswer p scratch) (marginSafeLeaves p scratch)
 reply p (fixedPoint start steps) = ofFixedPoint (fixedPointAnswer p start steps)
+reply p (save buffer) = ofWriting (saveAnswer p buffer) (saveLeaves p buffer)
 
 -- 20 with 0, and lent memory as it was
 abbrev pub noPlanReply : Question → Reply
@@ -29,6 +32,7 @@ noPlanReply (slack n T) = ofSlack (refusal 20 (0 ∷ []))
 noPlanReply (least scratch) = ofSearch (refusal 20 (0 ∷ [])) scratch
 noPlanReply (marginSafe scratch) = ofSearch (refusal 20 (0 ∷ [])) scratch
 noPlanReply (fixedPoint start steps) = ofFixedPoint (refusal 20 (0 ∷ []))
+noPlanReply (save buffer) = ofWriting (refusal 20 (0 ∷ [])) buffer
 
 -- two planners that answer every question alike
 abbrev pub SameAnswers : Plan → Plan → Type 0

@@ -7,6 +7,7 @@ pub mod Fails
 pub mod Topped
 pub mod Signed
 pub mod Answers
+pub mod Saved
 pub mod PortNeed
 pub mod Scratch
 pub mod PortTest

@@ -1,0 +1,25 @@
+-- What saving answers and leaves in the lent buffer, for any held plan and any buffer. Tables that are not valid count as no plan
+-- held (refusal 20).
+use Prim.Native.Nat.{ℕ}
+use mathlib.Core.List.{List, [], _∷_}
+use mathlib.Core.Bool.{cond}
+use lib.Dec.{leb}
+use lib.ListN.{length}
+use Rattle.cqf.specs.Plan.{Plan, validPlan}
+use Rattle.plan_reading.specs.Saved.{savedBytes}
+use Rattle.writing.specs.Laid.{laid}
+use Rattle.loading.specs.Outcome.{Answer, result, refusal}
+
+-- of bytes that go into a buffer: the length written, or 13 with the length needed exactly where the buffer is shorter
+abbrev pub writtenAnswer : List ℕ → (buffer : List ℕ) → Answer ℕ
+writtenAnswer bs buffer = cond (leb (length bs) (length buffer)) (result (length bs)) (refusal 13 (length bs ∷ []))
+
+-- 20, then 13
+unfoldable pub saveAnswer : Plan → (buffer : List ℕ) → Answer ℕ
+unfolding validPlan savedBytes
+saveAnswer p buffer = cond (validPlan p) (writtenAnswer (savedBytes p) buffer) (refusal 20 (0 ∷ []))
+
+-- the saved plan over the buffer's first bytes; the buffer as it was where saving is refused
+unfoldable pub saveLeaves : Plan → (buffer : List ℕ) → List ℕ
+unfolding validPlan savedBytes laid
+saveLeaves p buffer = cond (validPlan p) (laid (savedBytes p) buffer) buffer

@@ -1,0 +1,118 @@
+-- `put_flow_slot` meets its contract, by whether the slot has the field.
+use mathlib.Core.Path.{ap, _∙_}
+use mathlib.Core.List.{List, []}
+use Prim.Native.Nat.{ℕ, _*_}
+use native.Mathlib.Omega.{arith}
+use borrow.Author.Needs.{needs}
+use denote.Ref.{now}
+use Rattle.cqf.specs.Limits.{routeStride}
+use Rattle.cqf.specs.Plan.{Plan, equalClocks, periodOf, countOf, lengthOf, hopsOf}
+use Rattle.plan_reading.specs.Strict.{Entry}
+use Rattle.plan_reading.specs.Saved.{flowField}
+use Rattle.tables.specs.Columns.{columns}
+use Rattle.writing.specs.Laid.{laid}
+use Rattle.saving.specs.laws.Slots.{slot-none, slot-one, flow-part}
+use Rattle.saving.proofs.slot.put_flow_slot.Statement.{statement}
+use Rattle.saving.proofs.slot.put_flow_slot.Tie as tie
+
+-- the plan of the columns, and the field of the slot
+abbrev plan : tie.Start → Plan
+plan s =
+    columns equalClocks [] [] [] (s .args .periods .now) (s .args .counts .now) (s .args .lengths .now) [] (s .args .hops .now) (s .args .routes .now)
+
+abbrev field : tie.Start → Entry
+field s =
+    let p = plan s in
+    let f = s .args .slot in
+    flowField p f
+
+mul-period : tie.Need-mul-period
+mul-period c = search needs
+
+element-copy-out-period : tie.Need-element-copy-out-period
+element-copy-out-period c = search needs
+
+returns : tie.Need-returns
+returns c =
+    let s = c .before .before .before in
+    slot-none (field s) (now (s .args .out)) (periodOf (plan s) (s .args .slot)) (omega arith)
+
+mul-base : tie.Need-mul-base
+mul-base c = search needs
+
+element-copy-out-route-end : tie.Need-element-copy-out-route-end
+element-copy-out-route-end c = search needs
+
+route-end-requires : tie.Need-route-end-requires
+route-end-requires c κs = search needs
+
+add-put-flow : tie.Need-add-put-flow
+add-put-flow c = search needs
+
+cast-put-flow : tie.Need-cast-put-flow
+cast-put-flow c = search needs
+
+mul-put-flow : tie.Need-mul-put-flow
+mul-put-flow c = search needs
+
+element-copy-out-put-flow : tie.Need-element-copy-out-put-flow
+element-copy-out-put-flow c = search needs
+
+mul-put-flow-2 : tie.Need-mul-put-flow-2
+mul-put-flow-2 c = search needs
+
+element-copy-out-put-flow-2 : tie.Need-element-copy-out-put-flow-2
+element-copy-out-put-flow-2 c = search needs
+
+sub-put-flow : tie.Need-sub-put-flow
+sub-put-flow c = search needs
+
+part-put-flow-start : tie.Need-part-put-flow-start
+part-put-flow-start c = search needs
+
+part-put-flow-end : tie.Need-part-put-flow-end
+part-put-flow-end c = search needs
+
+put-flow-requires : tie.Need-put-flow-requires
+put-flow-requires c κs = search needs
+
+same-length : tie.Need-same-length
+same-length c = search needs
+
+returns-2 : tie.Need-returns-2
+returns-2 c =
+    let written = c .before .before in
+    let ended = written .before .before .before .before .before in
+    let left = ended .before .before .before in
+    let s = left .before .before .before in
+    let p = plan s in
+    let f = s .args .slot in
+    let e = now (s .args .out) in
+    let end = ended .route-end in
+    slot-one (field s) e (periodOf p f) (left .if1 .left)
+    (written .put-flow .ensures
+    ∙ ap (λ (bs : List ℕ). laid bs e)
+    (flow-part f (periodOf p f) (countOf p f) (lengthOf p f) (p .routes) (f * routeStride) (hopsOf p f) (end .result) (end .ensures) (omega (arith, end .ensures)) (s .pre .1)))
+
+pub put-flow-slot-spec : {M : Type 1} → statement M
+put-flow-slot-spec =
+    tie.close
+    (tie.spec
+    mul-period
+    element-copy-out-period
+    returns
+    mul-base
+    element-copy-out-route-end
+    route-end-requires
+    add-put-flow
+    cast-put-flow
+    mul-put-flow
+    element-copy-out-put-flow
+    mul-put-flow-2
+    element-copy-out-put-flow-2
+    sub-put-flow
+    part-put-flow-start
+    part-put-flow-end
+    put-flow-requires
+    same-length
+    returns-2)

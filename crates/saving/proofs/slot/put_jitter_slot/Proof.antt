@@ -1,0 +1,74 @@
+-- `put_jitter_slot` meets its contract, by whether the slot has the field.
+use mathlib.Core.Path.{ap, _∙_}
+use mathlib.Core.List.{[]}
+use Prim.Native.Nat.{ℕ}
+use native.Mathlib.Numerals.{add-one}
+use native.Mathlib.Omega.{arith}
+use borrow.Author.Needs.{needs}
+use denote.Ref.{now}
+use Rattle.cqf.specs.Plan.{Plan, equalClocks, jitterOf}
+use Rattle.plan.specs.Field.{jitter}
+use Rattle.plan_reading.specs.Strict.{Entry}
+use Rattle.plan_reading.specs.Saved.{jitterField}
+use Rattle.tables.specs.Columns.{columns}
+use Rattle.writing.specs.Laid.{laid}
+use Rattle.writing.specs.Fields.{fieldBytes}
+use Rattle.saving.specs.laws.Slots.{slot-none, slot-one}
+use Rattle.saving.proofs.slot.put_jitter_slot.Statement.{statement}
+use Rattle.saving.proofs.slot.put_jitter_slot.Tie as tie
+
+-- the plan of the columns, and the field of the slot
+abbrev plan : tie.Start → Plan
+plan s = columns equalClocks [] [] [] [] [] [] (s .args .jitters .now) [] []
+
+abbrev field : tie.Start → Entry
+field s =
+    let p = plan s in
+    let q = s .args .slot in
+    jitterField p q
+
+mul-ns : tie.Need-mul-ns
+mul-ns c = search needs
+
+element-copy-out-ns : tie.Need-element-copy-out-ns
+element-copy-out-ns c = search needs
+
+returns : tie.Need-returns
+returns c =
+    let s = c .before .before .before in
+    slot-none (field s) (now (s .args .out)) (jitterOf (plan s) (s .args .slot)) (omega arith)
+
+add-put-jitter : tie.Need-add-put-jitter
+add-put-jitter c = search needs
+
+cast-put-jitter : tie.Need-cast-put-jitter
+cast-put-jitter c = search needs
+
+put-jitter-requires : tie.Need-put-jitter-requires
+put-jitter-requires c κs = search needs
+
+same-length : tie.Need-same-length
+same-length c = search needs
+
+returns-2 : tie.Need-returns-2
+returns-2 c =
+    let written = c .before .before in
+    let s = written .before .before .before .before .before in
+    let p = plan s in
+    let q = s .args .slot in
+    let e = now (s .args .out) in
+    slot-one (field s) e (jitterOf p q) (written .before .before .if1 .left)
+    (written .put-jitter .ensures ∙ ap (λ (n : ℕ). laid (fieldBytes (jitter n (jitterOf p q))) e) (add-one q))
+
+pub put-jitter-slot-spec : {M : Type 1} → statement M
+put-jitter-slot-spec =
+    tie.close
+    (tie.spec
+    mul-ns
+    element-copy-out-ns
+    returns
+    add-put-jitter
+    cast-put-jitter
+    put-jitter-requires
+    same-length
+    returns-2)

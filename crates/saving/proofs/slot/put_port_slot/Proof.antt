@@ -1,0 +1,82 @@
+-- `put_port_slot` meets its contract, by whether the slot has the field.
+use mathlib.Core.Path.{ap, _∙_}
+use mathlib.Core.List.{[]}
+use Prim.Native.Nat.{ℕ}
+use native.Mathlib.Numerals.{add-one}
+use native.Mathlib.Omega.{arith}
+use borrow.Author.Needs.{needs}
+use denote.Ref.{now}
+use Rattle.cqf.specs.Plan.{Plan, equalClocks, rateOf, blockingOf}
+use Rattle.plan.specs.Field.{port}
+use Rattle.plan_reading.specs.Strict.{Entry}
+use Rattle.plan_reading.specs.Saved.{portField}
+use Rattle.tables.specs.Columns.{columns}
+use Rattle.writing.specs.Laid.{laid}
+use Rattle.writing.specs.Fields.{fieldBytes}
+use Rattle.saving.specs.laws.Slots.{slot-none, slot-one}
+use Rattle.saving.proofs.slot.put_port_slot.Statement.{statement}
+use Rattle.saving.proofs.slot.put_port_slot.Tie as tie
+
+-- the plan of the columns, and the field of the slot
+abbrev plan : tie.Start → Plan
+plan s = columns equalClocks (s .args .rates .now) (s .args .blockings .now) [] [] [] [] [] [] []
+
+abbrev field : tie.Start → Entry
+field s =
+    let p = plan s in
+    let q = s .args .slot in
+    portField p q
+
+mul-rate : tie.Need-mul-rate
+mul-rate c = search needs
+
+element-copy-out-rate : tie.Need-element-copy-out-rate
+element-copy-out-rate c = search needs
+
+returns : tie.Need-returns
+returns c =
+    let s = c .before .before .before in
+    slot-none (field s) (now (s .args .out)) (rateOf (plan s) (s .args .slot)) (omega arith)
+
+add-put-port : tie.Need-add-put-port
+add-put-port c = search needs
+
+cast-put-port : tie.Need-cast-put-port
+cast-put-port c = search needs
+
+mul-put-port : tie.Need-mul-put-port
+mul-put-port c = search needs
+
+element-copy-out-put-port : tie.Need-element-copy-out-put-port
+element-copy-out-put-port c = search needs
+
+put-port-requires : tie.Need-put-port-requires
+put-port-requires c κs = search needs
+
+same-length : tie.Need-same-length
+same-length c = search needs
+
+returns-2 : tie.Need-returns-2
+returns-2 c =
+    let written = c .before .before in
+    let s = written .before .before .before .before .before .before in
+    let p = plan s in
+    let q = s .args .slot in
+    let e = now (s .args .out) in
+    slot-one (field s) e (rateOf p q) (written .before .before .before .if1 .left)
+    (written .put-port .ensures ∙ ap (λ (n : ℕ). laid (fieldBytes (port n (rateOf p q) (blockingOf p q))) e) (add-one q))
+
+pub put-port-slot-spec : {M : Type 1} → statement M
+put-port-slot-spec =
+    tie.close
+    (tie.spec
+    mul-rate
+    element-copy-out-rate
+    returns
+    add-put-port
+    cast-put-port
+    mul-put-port
+    element-copy-out-put-port
+    put-port-requires
+    same-length
+    returns-2)

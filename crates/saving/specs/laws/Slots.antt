@@ -1,0 +1,66 @@
+-- Laws of the fields that are saved of a slot.
+use Prim.Native.Nat.{ℕ, zero, suc, _+_, _-_, _≤_}
+use mathlib.Core.Path.{_≡_, refl, sym, ap, _∙_}
+use mathlib.Core.Bool.{Bool, true, false}
+use mathlib.Core.List.{List, _∷_, append-nil}
+use native.Mathlib.Numerals.{add-one}
+use native.Mathlib.Omega.{arith}
+use borrow.Author.Tests.{lt-ltb, le-ltb}
+use lib.Dec.{ltb}
+use lib.ListN.{length, getD, take, drop}
+use lib.Seq.{drop-cons}
+use Rattle.cqf.specs.Bounded.{sublist}
+use Rattle.cqf.specs.Limits.{maxHops}
+use Rattle.cqf.specs.laws.Lists.{sublist-length}
+use Rattle.plan.specs.Field.{flow}
+use Rattle.plan_reading.specs.Strict.{Entry}
+use Rattle.plan_reading.specs.FieldBytes.{bytesOf, rowBytes}
+use Rattle.plan_reading.specs.Saved.{when}
+use Rattle.writing.specs.Laid.{laid}
+use Rattle.writing.specs.Fields.{flowBytes}
+use Rattle.writing.specs.laws.Laid.{laid-none}
+use Rattle.writing.specs.laws.Fields.{flow-named}
+
+-- a field that stands where a test holds, and the buffer with it
+module _ (e : Entry) (buffer : List ℕ) where
+  pub test-none : (b : Bool) → b ≡ false → buffer ≡ laid (rowBytes (when b e)) buffer
+  unfolding rowBytes
+  test-none b fails = rw fails (sym (laid-none buffer))
+
+  pub test-one : (b : Bool) {exit : List ℕ} → b ≡ true → exit ≡ laid (bytesOf e) buffer → exit ≡ laid (rowBytes (when b e)) buffer
+  unfolding rowBytes
+  test-one b holds written = rw (holds, append-nil (bytesOf e)) written
+
+  -- where a number is not 0
+  pub slot-none : (n : ℕ) → n ≡ 0 → buffer ≡ laid (rowBytes (when (ltb 0 n) e)) buffer
+  slot-none n z = test-none (ltb 0 n) (le-ltb 0 n (omega arith))
+
+  pub slot-one
+      : (n : ℕ) {exit : List ℕ}
+      → (n ≡ 0 → ⊥)
+      → exit ≡ laid (bytesOf e) buffer
+      → exit ≡ laid (rowBytes (when (ltb 0 n) e)) buffer
+  slot-one n some written = test-one (ltb 0 n) (lt-ltb 0 n (omega arith)) written
+
+-- the ports of a route, as the part of the table that they are
+sublist-part : (l : List ℕ) (base h : ℕ) → base + h ≤ length l → take h (drop base l) ≡ sublist l base h
+unfolding sublist
+sublist-part l base zero fits = refl
+sublist-part l base (suc h) fits =
+    ap (take (suc h)) (drop-cons l base 0 (omega arith))
+    ∙ ap (λ (r : List ℕ). getD l base 0 ∷ r) (sublist-part l (suc base) h (omega arith))
+
+-- a flow over that part is the field of its slot
+pub flow-part
+    : (n period count bytes : ℕ) (l : List ℕ) (base h end : ℕ)
+    → end ≡ base + h
+    → end ≤ length l
+    → h ≤ maxHops
+    → flowBytes (n + 1) period count bytes (take (end - base) (drop base l))
+    ≡ bytesOf (record { part = flow (suc n) period count bytes h; route = sublist l base h })
+flow-part n period count bytes l base h end is fits few =
+    let r = sublist l base h in
+    let many : end - base ≡ h = omega arith in
+    let there = ap (λ (m : ℕ). take m (drop base l)) many ∙ sublist-part l base h (omega arith) in
+    let size : length r ≡ h = sublist-length l base h in
+    rw (there, flow-named (n + 1) period count bytes r (omega arith), size, add-one n)

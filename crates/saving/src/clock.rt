@@ -1,0 +1,46 @@
+// The clocks' field, which is left out where the clocks are equal.
+use numbers::clock::Clock;
+use plan::optional::CLOCK_SIZE;
+use plan::split::HEAD_SIZE;
+use writing::field::put_clock;
+ghost use mathlib.Core.Path.{_≡_};
+ghost use mathlib.Core.List.{[]};
+ghost use Rattle.cqf.specs.Plan.{synchronized};
+ghost use Rattle.numbers.specs.Clock.{clockOf};
+ghost use Rattle.plan_reading.specs.FieldBytes.{rowBytes};
+ghost use Rattle.plan_reading.specs.Saved.{clockFields};
+ghost use Rattle.tables.specs.Columns.{columns};
+ghost use Rattle.writing.specs.Laid.{laid};
+ghost use Rattle.saving.specs.Slots.{clocksSize};
+
+// Whether all three numbers are 0.
+fn clocks_equal(clock: Clock) -> bool
+    ensures { λ r. ⌜ r ≡ synchronized (columns (clockOf clock) [] [] [] [] [] [] [] [] []) ⌝ }
+{
+    if clock.drift != 0 {
+        return false;
+    }
+    if clock.timing_jitter != 0 {
+        return false;
+    }
+    clock.sync_error == 0
+}
+
+// How many bytes it is; 0 where it is left out.
+pub(crate) fn clocks_size(clock: Clock) -> usize
+    ensures { λ r. ⌜ r ≡ clocksSize (columns (clockOf clock) [] [] [] [] [] [] [] [] []) ⌝ }
+{
+    if clocks_equal(clock) {
+        return 0;
+    }
+    HEAD_SIZE + CLOCK_SIZE
+}
+
+pub(crate) fn put_clocks(clock: Clock, out: &mut [u8])
+    ensures { λ r. ⌜ now (out .exit) ≡ laid (rowBytes (clockFields (columns (clockOf clock) [] [] [] [] [] [] [] [] []))) (now (out .entry)) ⌝ }
+{
+    if clocks_equal(clock) {
+        return;
+    }
+    put_clock(out, clock);
+}

@@ -1,0 +1,75 @@
+// The plan in the tables, saved into a lent buffer.
+use crate::SaveAnswer;
+use crate::whole::put_fields;
+use crate::whole::saved_size;
+use numbers::clock::Clock;
+use tables::valid_tables;
+ghost use mathlib.Core.Path.{_≡_};
+ghost use lib.Dec.{leb};
+ghost use Rattle.numbers.specs.Clock.{clockOf};
+ghost use Rattle.tables.specs.Columns.{planBy};
+ghost use Rattle.saving.specs.Outcome.{Saves};
+ghost use Rattle.saving.specs.Answer.{saveOf};
+
+// Whether a buffer of this length has room for so many bytes.
+fn has_room(size: usize, needed: usize) -> bool
+    ensures { λ r. ⌜ r ≡ leb needed size ⌝ }
+{
+    needed <= size
+}
+
+// The plan in these tables in strict order; 20 where they hold none, 13 where the buffer is too short for it.
+pub fn save_tables<'a>(
+    guard: u32,
+    top: u32,
+    clock: Clock,
+    rates: &'a [u32; 64],
+    blockings: &'a [u16; 64],
+    extras: &'a [u8; 64],
+    periods: &'a [u32; 256],
+    counts: &'a [u16; 256],
+    lengths: &'a [u16; 256],
+    jitters: &'a [u32; 256],
+    hops: &'a [u8; 256],
+    routes: &'a [u8; 4096],
+    buffer: &mut [u8],
+) -> SaveAnswer
+    ensures { λ r. ⌜ Saves (planBy guard top (clockOf clock) (now (rates .entry)) (now (blockings .entry)) (now (extras .entry)) (now (periods .entry)) (now (counts .entry)) (now (lengths .entry)) (now (jitters .entry)) (now (hops .entry)) (now (routes .entry))) (now (buffer .entry)) (saveOf r) (now (buffer .exit)) ⌝ }
+{
+    if !valid_tables(
+        guard,
+        top,
+        clock,
+        rates,
+        blockings,
+        extras,
+        periods,
+        counts,
+        lengths,
+        jitters,
+        hops,
+        routes,
+    ) {
+        return SaveAnswer::NoPlan;
+    }
+    let needed = saved_size(clock, rates, extras, periods, jitters, hops);
+    if !has_room(buffer.len(), needed) {
+        return SaveAnswer::ShortBuffer(needed);
+    }
+    put_fields(
+        guard,
+        top,
+        clock,
+        rates,
+        blockings,
+        extras,
+        periods,
+        counts,
+        lengths,
+        jitters,
+        hops,
+        routes,
+        buffer,
+    );
+    SaveAnswer::Written(needed)
+}
