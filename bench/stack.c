@@ -19,6 +19,7 @@ static cp_slack_answer slacked;
 static cp_fixed_point_answer stepped;
 static cp_field_read field;
 static uint64_t scratch[PORTS];
+static uint8_t buffer[MAX_BYTES];
 static uint8_t repeats;
 
 /* The stack pointer in the caller at the call, as a function of the same type sees it. */
@@ -30,6 +31,7 @@ static cp_answer see_check(cp_planner p, uint64_t d) { SEEN; (void)p, (void)d; r
 static cp_slack_answer see_slack(cp_planner p, uint64_t n, uint64_t d) { SEEN; (void)p, (void)n, (void)d; return slacked; }
 static cp_answer see_search(cp_planner p, uint64_t *s, size_t n) { SEEN; (void)p, (void)s, (void)n; return answer; }
 static cp_fixed_point_answer see_steps(cp_planner p, uint64_t d, uint64_t n) { SEEN; (void)p, (void)d, (void)n; return stepped; }
+static cp_answer see_save(cp_planner p, uint8_t *b, size_t n) { SEEN; (void)p, (void)b, (void)n; return answer; }
 static cp_field_read see_field(const uint8_t *b, size_t n, size_t o) { SEEN; (void)b, (void)n, (void)o; return field; }
 static uint8_t see_repeats(const uint8_t *b, size_t n) { SEEN; (void)b, (void)n; return 0; }
 
@@ -113,6 +115,17 @@ MEASURED(on_fixed_point) {
   return unused;
 }
 
+MEASURED(on_save) {
+  MEASURE(cp_answer (*volatile call)(cp_planner, uint8_t *, size_t), see_save, cp_save,
+          answer = call(held, buffer, MAX_BYTES));
+  return unused;
+}
+
+MEASURED(on_refused_save) {
+  MEASURE(cp_answer (*volatile call)(cp_planner, uint8_t *, size_t), see_save, cp_save, answer = call(held, buffer, 1));
+  return unused;
+}
+
 MEASURED(on_field) {
   MEASURE(cp_field_read (*volatile call)(const uint8_t *, size_t, size_t), see_field, cp_field,
           field = call(accepted.bytes, accepted.length, 0));
@@ -171,6 +184,10 @@ int main(int count, char **paths) {
   if (loaded.answer.refusal == 0) return 1;
   questions("cp_check", "cp_slack", "cp_least", "cp_margin_safe", "cp_fixed_point");
   if (answer.refusal != 0) return 1;
+  row("cp_save", on_save, sizeof held, sizeof answer);
+  if (answer.refusal != 0) return 1;
+  row("cp_save, refused", on_refused_save, sizeof held, sizeof answer);
+  if (answer.refusal != 13) return 1;
   held = overloaded;
   questions("cp_check, refused", "cp_slack, negative", "cp_least, refused", "cp_margin_safe, refused", "cp_fixed_point, refused");
   if (answer.refusal == 0 || stepped.refusal != 22) return 1;

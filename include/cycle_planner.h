@@ -64,6 +64,12 @@ cp_answer cp_margin_safe(cp_planner planner, uint64_t *scratch, size_t length);
  * duration reached, second = 0, steps = those given; another call with that duration for its start goes on from there. */
 cp_fixed_point_answer cp_fixed_point(cp_planner planner, uint64_t start, uint64_t steps);
 
+/* The held plan written into the buffer: its fields in strict order, without those that say what their absence says (extra bytes
+ * or a jitter of 0, clocks that are all 0). Result: first = the length written, at most 15,002 bytes, second = 0; the bytes behind
+ * it remain. Refusal 20: 0, 0. 13, the buffer is shorter than the plan: first = the length needed, second = 0. Neither writes a
+ * byte. Either load accepts what was written and holds the same plan. */
+cp_answer cp_save(cp_planner planner, uint8_t *buffer, size_t length);
+
 /* The field at an offset of a plan, by tests 2 to 5. Result: tag 1 to 6; offset = the one after the field; numbers:
  * 1, header: guard, top; 2, port: number, rate, blocker; 3, flow: number, period, count, length, hops; 4, extra bytes per
  * frame at a port: port number, extra bytes; 5, release jitter of a flow: flow number, jitter; 6, clocks: drift,

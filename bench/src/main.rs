@@ -16,6 +16,7 @@ mod plans;
 mod reader;
 mod scan;
 mod valid;
+mod writer;
 
 use answers::{Answer, Planner};
 use std::io::Write;
@@ -93,6 +94,25 @@ fn measured_load(part: &str, planner: &Planner, plan: &[u8]) -> (Planner, Answer
     }
 }
 
+/// Bytes of a buffer that every plan fits.
+const BUFFER: usize = 16_384;
+
+#[inline(never)]
+extern "C" fn write(planner: Planner, buffer: &mut [u8; BUFFER]) -> Answer {
+    writer::save(&planner, buffer)
+}
+
+/// Saving, counted likewise.
+#[no_mangle]
+#[inline(never)]
+fn measured_save(part: &str, planner: &Planner, buffer: &mut [u8; BUFFER]) -> Answer {
+    match part {
+        "save" => ffi::save(planner, buffer),
+        "write" => write(planner.clone(), buffer),
+        other => panic!("no such part: {other}"),
+    }
+}
+
 /// Durations a whole scan would try.
 fn whole(part: &str, planner: &Planner) -> u64 {
     let (mut scratch, top) = ([0; 64], planner.top as u64);
@@ -142,6 +162,15 @@ fn load(plan: &[u8], part: &str) {
     println!("{}", told(answer, planner.to_bytes().into_iter().map(u64::from)));
 }
 
+/// A plan saved: the answer.
+fn save(plan: &[u8], part: &str) {
+    let (planner, loaded) = ffi::load(&ffi::empty(), plan);
+    assert_eq!(loaded.refusal, 0, "the plan is refused: {loaded:?}");
+    let mut buffer = [7; BUFFER];
+    let answer = measured_save(part, &planner, &mut buffer);
+    println!("{}", told(answer, buffer.into_iter().map(u64::from)));
+}
+
 fn main() {
     let arguments: Vec<String> = std::env::args().skip(1).collect();
     let arguments: Vec<&str> = arguments.iter().map(String::as_str).collect();
@@ -161,6 +190,7 @@ fn main() {
             std::io::stdout().write_all(bytes).expect("cannot write");
         }
         [part @ ("load" | "read" | "read-by-port"), name] => load(loaded(name).expect("no such plan"), part),
+        [part @ ("save" | "write"), name] => save(loaded(name).expect("no such plan"), part),
         [part, name] => search(searched(name), part),
         _ => panic!("searches, loads, paper, bytes PLAN, or PART PLAN"),
     }

@@ -1,9 +1,10 @@
 /* Every function of the header on plan K (document 01, "Plan K and its neighbours"): each field of each struct that comes back, and
- * each number of the lent scratch, against its expected value. Prints what differs; exit status 1 where something does. */
+ * each number of a lent scratch or buffer, against its expected value. Prints what differs; exit status 1 where something does. */
 #include "k.h"
 #include "later.h"
 #include "steps.h"
 #include "strict.h"
+#include "save.h"
 
 _Static_assert(sizeof(cp_planner) == 7892, "a planner has 7,892 bytes");
 _Static_assert(offsetof(cp_planner, clock) == 8, "clocks come after top");
@@ -116,6 +117,7 @@ int main(void) {
   jitter(k);
   clocks(k);
   strict(k);
+  saving(k);
   fields();
   printf("header: %u passed, %u failed\n", passed, failed);
   return failed != 0;

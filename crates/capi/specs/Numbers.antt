@@ -31,6 +31,11 @@ abbrev pub searchNumbers : Answer ℕ → AnswerNumbers
 searchNumbers (result duration) = answerNumbers 0 duration 0
 searchNumbers (refusal number values) = refusedWith number values
 
+-- the length written; 13 has the length needed
+abbrev pub writtenNumbers : Answer ℕ → AnswerNumbers
+writtenNumbers (result length) = answerNumbers 0 length 0
+writtenNumbers (refusal number values) = refusedWith number values
+
 abbrev pub slackAnswerNumbers : ℕ → ℤ → SlackAnswerNumbers
 slackAnswerNumbers number slack = record { refusal = number; slack = slack }
 

@@ -40,7 +40,7 @@ const JITTER: u32 = plan::read::JITTER_TAG as u32;
 
 const CLOCK: u32 = plan::read::CLOCK_TAG as u32;
 
-fn numbered(refusal: u32, first: u64, second: u64) -> AnswerNumbers
+pub(crate) fn numbered(refusal: u32, first: u64, second: u64) -> AnswerNumbers
     ensures { λ r. ⌜ r ≡ (record { refusal = refusal; first = first; second = second }) ⌝ }
 {
     AnswerNumbers {

@@ -6,6 +6,7 @@ use crate::answers::least_numbers;
 use crate::answers::margin_safe_numbers;
 use crate::answers::outcome_numbers;
 use crate::answers::slack_numbers;
+use crate::written::save_numbers;
 use planner::Planner;
 ghost use mathlib.Core.Path.{_≡_};
 ghost use Rattle.cqf.specs.Plan.{noPlan};
@@ -15,10 +16,12 @@ ghost use Rattle.tables.specs.Tables.{planOf};
 ghost use Rattle.loading.specs.Outcome.{loadAnswer, loadLeaves};
 ghost use Rattle.questions.specs.Outcome.{checkAnswer, slackAnswer, leastAnswer, leastLeaves, marginSafeAnswer, marginSafeLeaves};
 ghost use Rattle.questions.specs.FixedPoint.{fixedPointAnswer};
+ghost use Rattle.questions.specs.Save.{saveAnswer, saveLeaves};
 ghost use Rattle.capi.specs.Meaning.{CheckNumbersMean};
-ghost use Rattle.capi.specs.Numbers.{loadNumbers, checkNumbers, slackNumbers, searchNumbers, stepsNumbers, fieldNumbers};
+ghost use Rattle.capi.specs.Numbers.{loadNumbers, checkNumbers, slackNumbers, searchNumbers, stepsNumbers, writtenNumbers, fieldNumbers};
 
 mod answers; // answers.rt: each answer as numbers
+mod written; // written.rt: those of the calls that write bytes
 
 #[repr(C)]
 pub struct AnswerNumbers {
@@ -129,4 +132,11 @@ pub extern "C" fn cp_fixed_point(
     ensures { λ r. ⌜ r ≡ stepsNumbers (fixedPointAnswer (planOf planner) start steps) ⌝ }
 {
     fixed_point_numbers(planner::fixed_point(planner, start, steps))
+}
+
+#[no_mangle]
+pub extern "C" fn cp_save(planner: Planner, buffer: &mut [u8]) -> AnswerNumbers
+    ensures { λ r. ⌜ (r ≡ writtenNumbers (saveAnswer (planOf planner) (now (buffer .entry)))) × (now (buffer .exit) ≡ saveLeaves (planOf planner) (now (buffer .entry))) ⌝ }
+{
+    save_numbers(planner::save(planner, buffer))
 }

@@ -17,6 +17,7 @@ extern "C" {
     fn cp_least(planner: Planner, scratch: *mut u64, length: usize) -> Answer;
     fn cp_margin_safe(planner: Planner, scratch: *mut u64, length: usize) -> Answer;
     fn cp_fixed_point(planner: Planner, start: u64, steps: u64) -> StepsAnswer;
+    fn cp_save(planner: Planner, buffer: *mut u8, length: usize) -> Answer;
     fn cp_field(plan: *const u8, length: usize, offset: usize) -> FieldRead;
     fn cp_repeats(value: *const u8, length: usize) -> u8;
 }
@@ -53,6 +54,10 @@ pub fn margin_safe(planner: &Planner, scratch: &mut [u64]) -> Answer {
 
 pub fn fixed_point(planner: &Planner, start: u64, steps: u64) -> StepsAnswer {
     unsafe { cp_fixed_point(planner.clone(), start, steps) }
+}
+
+pub fn save(planner: &Planner, buffer: &mut [u8]) -> Answer {
+    unsafe { cp_save(planner.clone(), buffer.as_mut_ptr(), buffer.len()) }
 }
 
 pub fn field(plan: &[u8], offset: usize) -> FieldRead {

@@ -1,5 +1,6 @@
 //! The named groups of comparisons, and what they share.
 
+mod alike;
 pub mod clocks;
 pub mod extra;
 pub mod fields;
@@ -7,6 +8,7 @@ pub mod foreign;
 pub mod jitter;
 pub mod known;
 mod later_fields;
+mod lent;
 pub mod lighter;
 mod lighter_k;
 pub mod loads;
@@ -15,6 +17,8 @@ pub mod order;
 pub mod questions;
 pub mod rows;
 pub mod runs;
+pub mod save;
+mod save_k;
 pub mod searches;
 pub mod steps;
 mod steps_k;
@@ -25,10 +29,12 @@ mod worked;
 use crate::answers::Planner;
 use crate::ffi;
 use crate::model::fixed_point::fixed_point;
+use crate::model::save::written;
 use crate::model::spans::{first_past, search, spans, Search, Span};
 use crate::model::{self as judge, Flow, Plan};
 use crate::report::Tally;
 use crate::rng::Rng;
+use save::ask_save;
 
 pub const LENGTHS: [usize; 5] = [0, 63, 64, 65, 100];
 
@@ -118,6 +124,10 @@ pub fn ask_all(tally: &mut Tally, planner: &Planner, plan: Option<&Plan>, rng: &
     for start in [1, rng.pick(&asked)] {
         let steps = rng.pick(&[0, 1, 2, 16, u64::MAX]);
         ask_fixed_point(tally, planner, plan, start, steps);
+    }
+    let needed = plan.map_or(11, |plan| written(plan).len());
+    for length in [needed, rng.pick(&[0, needed - 1, needed + 1, 16_384])] {
+        ask_save(tally, planner, plan, length, rng);
     }
     let length = rng.pick(&LENGTHS);
     for length in [length, 64] {

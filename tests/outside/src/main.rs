@@ -19,12 +19,13 @@ const SEED: u64 = 20_261_115;
 const CASES: u64 = 1_500;
 
 /// A group's name, its share of the cases in hundredths, and its body.
-const GROUPS: [(&str, u64, fn(&mut Tally)); 13] = [
+const GROUPS: [(&str, u64, fn(&mut Tally)); 14] = [
     ("known", 100, groups::known::run),
     ("model", 20, groups::model::run),
     ("fields", 100, groups::fields::run),
     ("loads", 400, groups::loads::run),
     ("strict", 200, groups::strict::run),
+    ("save", 60, groups::save::run),
     ("rows", 60, groups::rows::run),
     ("questions", 60, groups::questions::run),
     ("searches", 100, groups::searches::run),

@@ -4,6 +4,7 @@ pub mod field;
 pub mod fixed_point;
 pub mod lighter;
 pub mod read;
+pub mod save;
 pub mod spans;
 pub mod tables;
 

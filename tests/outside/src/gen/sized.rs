@@ -1,4 +1,4 @@
-//! Plans made to have a given size.
+//! Plans made to have a given size, and the longest one without a needless field.
 
 use super::{encode, Piece};
 use crate::rng::Rng;
@@ -25,4 +25,20 @@ pub fn topped_up(good: &[Piece], tag: u8, size: usize) -> Vec<u8> {
     bytes.extend([tag, (length / 256) as u8, (length % 256) as u8]);
     bytes.resize(bytes.len() + length, 0);
     bytes
+}
+
+/// Every field that a plan can have, in strict order, none of which says what its absence says.
+pub fn longest() -> Vec<Piece> {
+    let mut pieces = vec![Piece::Header { guard: 1_000_000, top: 100_000_000 }];
+    let rate = |number: u16| 1 + u32::from(number) * 1_562;
+    pieces.extend((1..=64).map(|number| Piece::Port { number, rate: rate(number), blocker: 2_000 - number }));
+    for number in 1..=256 {
+        let route = (0..16).map(|hop| (number * 5 + hop * 11) % 64 + 1).collect();
+        let (count, length) = (number % 64 + 1, 2_000 - number);
+        pieces.push(Piece::Flow { number, period: 100_000_000 - u32::from(number), count, length, route });
+    }
+    pieces.extend((1..=64).map(|number| Piece::Extra { number, extra: 65 - number }));
+    pieces.extend((1..=256).map(|number| Piece::Jitter { number, jitter: 39_062 * u32::from(number) }));
+    pieces.push(Piece::Clocks { drift: 1_000, timing_jitter: 1_000, sync_error: 1_000_000 });
+    pieces
 }

@@ -21,6 +21,21 @@ pub fn sorted(pieces: &[Piece]) -> Vec<Piece> {
     pieces
 }
 
+/// Whether a field says what its absence says.
+fn needless(piece: &Piece) -> bool {
+    match piece {
+        Piece::Extra { extra, .. } => *extra == 0,
+        Piece::Jitter { jitter, .. } => *jitter == 0,
+        Piece::Clocks { drift, timing_jitter, sync_error } => (*drift, *timing_jitter, *sync_error) == (0, 0, 0),
+        _ => false,
+    }
+}
+
+/// The same fields but those that say what their absence says.
+pub fn without_needless(pieces: &[Piece]) -> Vec<Piece> {
+    pieces.iter().filter(|piece| !needless(piece)).cloned().collect()
+}
+
 /// Two neighbours of a plan in strict order exchanged, and the place of the one that is late now.
 pub fn exchanged(rng: &mut Rng, pieces: &[Piece]) -> (Vec<Piece>, usize) {
     let mut pieces = pieces.to_vec();

@@ -75,7 +75,7 @@ fn empty_flow(rng: &mut Rng, tables: &mut Planner) {
 }
 
 /// Bytes that no question may look at.
-fn stir_unused(rng: &mut Rng, tables: &mut Planner) {
+pub fn stir_unused(rng: &mut Rng, tables: &mut Planner) {
     for slot in 0..256 {
         for hop in usize::from(tables.hops[slot]).min(16)..16 {
             tables.routes[slot * 16 + hop] = rng.next() as u8;

@@ -6,7 +6,7 @@ use super::jitter::with_jitter;
 use super::known::K;
 use crate::answers::{Answer, Planner};
 use crate::ffi;
-use crate::gen::{self, damage, encode, few, sized, Piece};
+use crate::gen::{self, damage, encode, few, sized, strict, Piece};
 use crate::model::read::{load_answer, read_as, Reading};
 use crate::model::tables::tables_of;
 use crate::report::Tally;
@@ -105,13 +105,7 @@ fn orders(tally: &mut Tally, planner: &Planner) {
 
 /// Fields that say 0 extra bytes, a jitter of 0 or clocks of 0 leave the planner as it is without them.
 fn without_zeros(tally: &mut Tally, planner: &Planner, good: &[Piece]) {
-    let says_zero = |piece: &Piece| match piece {
-        Piece::Extra { extra, .. } => *extra == 0,
-        Piece::Jitter { jitter, .. } => *jitter == 0,
-        Piece::Clocks { drift, timing_jitter, sync_error } => (*drift, *timing_jitter, *sync_error) == (0, 0, 0),
-        _ => false,
-    };
-    let fewer: Vec<Piece> = good.iter().filter(|piece| !says_zero(piece)).cloned().collect();
+    let fewer = strict::without_needless(good);
     tally.saw("fields of 0, 1 for some", u32::from(fewer.len() < good.len()));
     let (one, other) = (ffi::load(planner, &encode(good)).0, ffi::load(planner, &encode(&fewer)).0);
     tally.same(format_args!("fields of 0 left out: first table and slot that differ"), one.differs(&other), None);

@@ -10,7 +10,7 @@ use crate::ffi;
 use crate::gen::lighter::retold;
 use crate::gen::strict::{disturbed, exchanged, one_moved, sorted};
 use crate::gen::{self, damage, encode, few, Piece};
-use crate::model::field::field_at;
+use crate::model::field::fields_of;
 use crate::model::read::{read, Reading};
 use crate::model::tables::plan_of;
 use crate::report::Tally;
@@ -50,13 +50,8 @@ fn spellings(tally: &mut Tally, planner: &Planner) {
 }
 
 /// The fields of a plan that is read, as bytes, in an order that does not hang on theirs.
-fn fields_of(plan: &[u8]) -> Vec<&[u8]> {
-    let (mut fields, mut offset) = (Vec::new(), 0);
-    while offset < plan.len() {
-        let after = field_at(plan, offset).expect("a field").1;
-        fields.push(&plan[offset..after]);
-        offset = after;
-    }
+fn unordered(plan: &[u8]) -> Vec<&[u8]> {
+    let mut fields = fields_of(plan);
     fields.sort_unstable();
     fields
 }
@@ -68,11 +63,11 @@ fn told_apart(tally: &mut Tally, one: &[u8], other: &[u8]) {
         return;
     }
     tally.saw("two strict plans, 1 where they have the same fields", u32::from(one == other));
-    tally.same(format_args!("equal fields as {}", crate::report::hex(other)), fields_of(one) == fields_of(other), one == other);
+    tally.same(format_args!("equal fields as {}", crate::report::hex(other)), unordered(one) == unordered(other), one == other);
 }
 
 /// Another plan in strict order, with the same fields or almost the same.
-fn another(rng: &mut Rng, good: &[Piece]) -> Vec<u8> {
+pub fn another(rng: &mut Rng, good: &[Piece]) -> Vec<u8> {
     let mut pieces = good.to_vec();
     rng.shuffle(&mut pieces);
     match rng.below(4) {
@@ -127,7 +122,8 @@ fn faulty(rng: &mut Rng, good: &[Piece]) -> Vec<u8> {
     }
 }
 
-fn random_planner(rng: &mut Rng) -> Planner {
+/// A planner of bytes by chance: it holds no plan.
+pub fn random_planner(rng: &mut Rng) -> Planner {
     let mut bytes = [0; PLANNER_BYTES];
     bytes.iter_mut().for_each(|byte| *byte = rng.next() as u8);
     Planner::from_bytes(bytes)

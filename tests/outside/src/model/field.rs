@@ -116,6 +116,17 @@ pub fn field_at(plan: &[u8], offset: usize) -> Result<(Field, usize), u32> {
     Ok((field, offset + 3 + length))
 }
 
+/// The fields of a plan that is read, as bytes, one after the other.
+pub fn fields_of(plan: &[u8]) -> Vec<&[u8]> {
+    let (mut fields, mut offset) = (Vec::new(), 0);
+    while offset < plan.len() {
+        let after = field_at(plan, offset).expect("a field").1;
+        fields.push(&plan[offset..after]);
+        offset = after;
+    }
+    fields
+}
+
 /// What cp_field must answer.
 pub fn field_read(plan: &[u8], offset: usize) -> FieldRead {
     let (field, after) = match field_at(plan, offset) {

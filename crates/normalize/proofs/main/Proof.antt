@@ -1,0 +1,44 @@
+-- `normalize::main` meets its contract: a plan that is held is valid.
+use mathlib.Core.Path.{ap}
+use borrow.Author.Needs.{needs}
+use Rattle.loading.specs.Answer.{loadOf}
+use Rattle.console.specs.laws.Held.{held-valid}
+use Rattle.normalize.proofs.main.Statement.{statement}
+use Rattle.normalize.proofs.main.Tie as tie
+
+given-plan-requires : tie.Need-given-plan-requires
+given-plan-requires c κs = search needs
+
+enum-known-answer : tie.Need-enum-known-answer
+enum-known-answer c = search needs
+
+load-number-requires : tie.Need-load-number-requires
+load-number-requires c κs = search needs
+
+report-refused-plan-requires : tie.Need-report-refused-plan-requires
+report-refused-plan-requires c κs = search needs
+
+enum-told : tie.Need-enum-told
+enum-told c = search needs
+
+write-saved-requires : tie.Need-write-saved-requires
+write-saved-requires c κs = held-valid _ (c .before .before .before .before .given-plan .ensures) (ap loadOf (c .enum-told .given .1))
+
+returns : tie.Need-returns
+returns c = search needs
+
+returns-2 : tie.Need-returns-2
+returns-2 c = search needs
+
+pub main-spec : {M : Type 1} → statement M
+main-spec =
+    tie.close
+    (tie.spec
+    given-plan-requires
+    enum-known-answer
+    load-number-requires
+    report-refused-plan-requires
+    enum-told
+    write-saved-requires
+    returns
+    returns-2)

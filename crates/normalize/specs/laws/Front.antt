@@ -1,0 +1,44 @@
+-- A valid plan that is saved into a buffer of the longest plan's length.
+use mathlib.Core.Path.{_≡_, sym, ap, _∙_}
+use mathlib.Core.Bool.{true}
+use mathlib.Core.List.{List}
+use Prim.Native.Nat.{ℕ, _≤_}
+use native.Mathlib.Omega.{arith}
+use lib.ListN.{length}
+use Rattle.cqf.specs.Plan.{Plan, validPlan}
+use Rattle.plan_reading.specs.Reading.{maxBytes}
+use Rattle.plan_reading.specs.Saved.{savedBytes}
+use Rattle.plan_reading.specs.laws.SavedLength.{saved-length}
+use Rattle.writing.specs.laws.Laid.{over-length}
+use Rattle.loading.specs.Outcome.{Answer, result, refusal}
+use Rattle.questions.specs.Save.{saveAnswer, saveLeaves}
+use Rattle.questions.specs.laws.Saved.{save-written, save-lays, save-front, save-size}
+use Rattle.normalize.specs.{Front}
+
+module _
+    (p : Plan) (buffer : List ℕ) {exit : List ℕ}
+    (valid : validPlan p ≡ true)
+    (long : maxBytes ≤ length buffer)
+    {answer : Answer ℕ}
+    (answers : answer ≡ saveAnswer p buffer)
+    (leaves : exit ≡ saveLeaves p buffer)
+  where
+    room : length (savedBytes p) ≤ length buffer
+    room = omega (arith, saved-length p valid)
+
+    -- its bytes are in front
+    pub in-front : (n : ℕ) → answer ≡ result n → Front (savedBytes p) exit n
+    in-front n is =
+        let said : saveAnswer p buffer ≡ result n = sym answers ∙ is in
+        let size : length exit ≡ length buffer = ap length (leaves ∙ save-lays p buffer valid room) ∙ over-length (savedBytes p) buffer room in
+        record {
+          within = omega (arith, save-size p buffer valid n said, room);
+          is = rw leaves (save-front p buffer valid n said);
+        }
+
+    -- and it is not refused
+    pub not-refused : (number : ℕ) (values : List ℕ) → answer ≡ refusal number values → ⊥
+    not-refused number values is =
+        let written = sym (save-written p buffer valid room) ∙ sym answers ∙ is in
+        let z : _≡_ {A = ℕ} 0 1 = cc in
+        absurd (omega arith)

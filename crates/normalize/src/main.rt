@@ -1,0 +1,48 @@
+// Reads a plan of any spelling from standard input and writes its strict bytes, those as which it is saved, to standard output.
+use console::say;
+use planner::LoadAnswer;
+use planner::Planner;
+use planner::SaveAnswer;
+ghost use mathlib.Core.Path.{_≡_};
+ghost use mathlib.Core.Bool.{true};
+ghost use Prim.Native.Nat.{_≤_};
+ghost use lib.ListN.{length};
+ghost use Rattle.cqf.specs.Plan.{validPlan};
+ghost use Rattle.plan_reading.specs.Reading.{maxBytes};
+ghost use Rattle.plan_reading.specs.Saved.{savedBytes};
+ghost use Rattle.tables.specs.Tables.{planOf};
+ghost use Rattle.normalize.specs.{Front};
+
+// The saved plan in front of the buffer, and its length: a buffer of the longest plan's length has room for every plan.
+fn saved(planner: Planner, buffer: &mut [u8]) -> usize
+    requires { ⌜ (validPlan (planOf planner) ≡ true) × (maxBytes ≤ length (now buffer)) ⌝ }
+    ensures { λ r. ⌜ Front (savedBytes (planOf planner)) (now (buffer .exit)) r ⌝ }
+{
+    match planner::save(planner, buffer) {
+        SaveAnswer::Written(size) => size,
+        SaveAnswer::NoPlan => 0,
+        SaveAnswer::ShortBuffer(_) => 0,
+    }
+}
+
+fn write_saved(planner: Planner)
+    requires { ⌜ validPlan (planOf planner) ≡ true ⌝ }
+{
+    let mut buffer = [0u8; loading::MAX_BYTES];
+    let size = saved(planner, &mut buffer);
+    say(&buffer[..size]);
+}
+
+fn main() {
+    let given = console::given_plan();
+    let readable = given.readable;
+    let outcome = given.outcome;
+    let held = outcome.planner;
+    let answer = outcome.answer;
+    match answer {
+        LoadAnswer::Refused { fault: _, offset } => {
+            console::report_refused_plan(readable, planner::load_number(answer), offset)
+        }
+        LoadAnswer::Held { ports: _, flows: _ } => write_saved(held),
+    }
+}

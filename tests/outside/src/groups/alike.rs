@@ -1,0 +1,35 @@
+//! Two planners that must give the same answers to every question.
+
+use super::{durations, some_ports};
+use crate::answers::Planner;
+use crate::ffi;
+use crate::model::Plan;
+use crate::report::Tally;
+use crate::rng::Rng;
+
+/// Every question, to both; how names the other planner.
+pub fn alike(tally: &mut Tally, how: &str, other: &Planner, one: &Planner, plan: &Plan, rng: &mut Rng) {
+    let asked = durations(plan, rng);
+    let ports = some_ports(plan, rng);
+    for duration in &asked {
+        let (got, want) = (ffi::check(other, *duration), ffi::check(one, *duration));
+        tally.same(format_args!("cp_check({duration}) {how}"), got, want);
+        let port = rng.pick(&ports);
+        let (got, want) = (ffi::slack(other, port, *duration), ffi::slack(one, port, *duration));
+        tally.same(format_args!("cp_slack({port}, {duration}) {how}"), got, want);
+    }
+    let (start, steps) = (rng.pick(&asked), rng.pick(&[0, 8, 16]));
+    let (got, want) = (ffi::fixed_point(other, start, steps), ffi::fixed_point(one, start, steps));
+    tally.same(format_args!("cp_fixed_point({start}, {steps}) {how}"), got, want);
+    let mut scratches = [[steps; 70], [steps; 70]];
+    let (got, want) = (ffi::least(other, &mut scratches[0]), ffi::least(one, &mut scratches[1]));
+    tally.same(format_args!("cp_least {how}"), got, want);
+    tally.same(format_args!("scratch after cp_least {how}"), scratches[0], scratches[1]);
+    let (got, want) = (ffi::margin_safe(other, &mut scratches[0]), ffi::margin_safe(one, &mut scratches[1]));
+    tally.same(format_args!("cp_margin_safe {how}"), got, want);
+    tally.same(format_args!("scratch after cp_margin_safe {how}"), scratches[0], scratches[1]);
+    let mut buffers = [[7; 16_384], [7; 16_384]];
+    let (got, want) = (ffi::save(other, &mut buffers[0]), ffi::save(one, &mut buffers[1]));
+    tally.same(format_args!("cp_save {how}"), got, want);
+    tally.same(format_args!("buffers after cp_save {how} are equal"), buffers[0] == buffers[1], true);
+}
