@@ -1,4 +1,5 @@
--- The reading of a whole plan (document 01): what a field of each kind gives, stores and repeats, and the walk over the fields.
+-- The reading of a whole plan (document 01): what a field of each kind gives, stores and repeats, and the walk over the fields; and
+-- as which fields and bytes a plan is saved (document 02).
 pub mod Kind
 pub mod Key
 pub mod Rank

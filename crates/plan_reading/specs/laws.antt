@@ -1,4 +1,4 @@
--- Laws of the walk over the fields, what an accepted plan is, and the strict reading.
+-- Laws of the walk over the fields, what an accepted plan is, the strict reading, and what is saved.
 pub mod Within
 pub mod Stores
 pub mod Passes

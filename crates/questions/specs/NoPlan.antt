@@ -6,7 +6,6 @@ use mathlib.Core.Bool.{Bool, true, false, cond}
 use mathlib.Core.List.{List}
 use mathlib.Core.Option.{Option, none, some}
 use Prim.Native.Nat.{ℕ}
-use native.Mathlib.Nat.{le-refl}
 use native.Mathlib.Omega.{arith}
 use borrow.Author.Tests.{le-leb}
 use Rattle.cqf.specs.Bounded.{within}
@@ -14,8 +13,8 @@ use Rattle.cqf.specs.Plan.{Plan, validPlan}
 use Rattle.cqf.specs.Condition.{admissible, least, marginSafe}
 use Rattle.cqf.specs.laws.Ranges.{top-positive}
 use Rattle.plan_reading.specs.laws.Valid.{accepted-valid}
-use Rattle.loading.specs.Outcome.{Answer, result, numberOf}
-use Rattle.questions.specs.Outcome.{failingAt, checkAnswer}
+use Rattle.loading.specs.Outcome.{result, numberOf}
+use Rattle.questions.specs.Outcome.{failingAt}
 use Rattle.questions.specs.Calls as Calls
 use Rattle.questions.specs.Calls.{Call, Question, after, heldBytes}
 use Rattle.questions.specs.Reply.{Reply, ofCheck, ofSlack, ofSearch, ofFixedPoint, ofWriting, reply, noPlanReply}

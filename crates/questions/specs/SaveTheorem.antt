@@ -3,21 +3,22 @@ use mathlib.Core.Path.{_≡_, ap, _∙_}
 use mathlib.Core.List.{List}
 use mathlib.Core.Bool.{true}
 use mathlib.Core.Option.{some}
-use Prim.Native.Nat.{ℕ, _≤_}
+use Prim.Native.Nat.{ℕ, _≤_, _<_}
 use native.Mathlib.Omega.{arith}
 use lib.Dec.{ltb}
 use lib.ListN.{length, take}
 use Rattle.cqf.specs.Bounded.{countTo}
 use Rattle.cqf.specs.Limits.{portSlots, flowSlots}
-use Rattle.cqf.specs.Plan.{Plan, rateOf, periodOf, validPlan}
+use Rattle.cqf.specs.Plan.{Plan, rateOf, periodOf, routeOf, validPlan}
 use Rattle.plan.specs.Bytes.{Octets}
 use Rattle.plan_reading.specs.Reading.{accepted, Mode, loose, strict, readAs, readPlan, maxBytes}
 use Rattle.plan_reading.specs.Sized.{Sized}
 use Rattle.plan_reading.specs.Saved.{savedBytes, NoneSaysNothing}
 use Rattle.plan_reading.specs.Tidy.{tidied}
 use Rattle.plan_reading.specs.laws.SavedBack.{saved-back}
-use Rattle.plan_reading.specs.laws.SavedLength.{saved-length}
+use Rattle.plan_reading.specs.laws.SavedLength.{valid-hops, saved-length}
 use Rattle.plan_reading.specs.laws.SavedRead.{saved-read, saved-again}
+use Rattle.plan_reading.specs.laws.Tidy.{tidied-route}
 use Rattle.plan_reading.specs.laws.Valid.{accepted-valid}
 use Rattle.loading.specs.Outcome.{result, loadAnswer, loadLeaves, readingAnswer, readingLeaves}
 use Rattle.questions.specs.Save.{saveAnswer, saveLeaves}
@@ -88,9 +89,15 @@ held-saved-back calls bytes p ports flows held octets reads tells buffer n answe
     ∙ ap savedBytes (after-held calls strict bytes held p ports flows reads)
     ∙ saved-back bytes p ports flows octets reads tells
 
--- Tables that no call made, where they are valid and so are not answered 20: what saving wrote holds the same numbers and routes,
--- and 0 in each place of the table of routes past a flow's hops.
-pub unmade-saved : (p : Plan) → validPlan p ≡ true → Sized p → SavedAs p (tidied p)
-unmade-saved p valid sized =
-    saved-as p (tidied p) (countTo portSlots (λ q. ltb 0 (rateOf p q))) (countTo flowSlots (λ f. ltb 0 (periodOf p f))) valid
-    (λ mode. saved-read p valid sized mode)
+-- Tables that no call made, where they are valid and so are not answered 20: what saving wrote holds the same numbers, each flow has
+-- the same route, and each place of the table of routes past a flow's hops has 0.
+pub unmade-saved
+    : (p : Plan)
+    → validPlan p ≡ true
+    → Sized p
+    → SavedAs p (tidied p) × ((f : ℕ) → f < flowSlots → routeOf (tidied p) f ≡ routeOf p f)
+unmade-saved p valid sized = (
+  saved-as p (tidied p) (countTo portSlots (λ q. ltb 0 (rateOf p q))) (countTo flowSlots (λ f. ltb 0 (periodOf p f))) valid
+      (λ mode. saved-read p valid sized mode),
+  λ f l. tidied-route p f l (valid-hops p valid f l),
+)

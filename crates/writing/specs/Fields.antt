@@ -1,4 +1,4 @@
--- The bytes that the writers of fields write.
+-- The bytes of fields that are written into a buffer.
 use Prim.Native.Nat.{ℕ}
 use mathlib.Core.List.{List, [], _∷_}
 use mathlib.Core.Bool.{cond}

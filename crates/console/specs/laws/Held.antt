@@ -3,7 +3,7 @@ use mathlib.Core.Path.{_≡_, refl, sym, _∙_}
 use mathlib.Core.Bool.{true}
 use Prim.Native.Nat.{ℕ}
 use native.Mathlib.Omega.{arith}
-use Rattle.cqf.specs.Plan.{Plan, noPlan, validPlan}
+use Rattle.cqf.specs.Plan.{noPlan, validPlan}
 use Rattle.plan_reading.specs.Reading.{PlanRead, accepted, rejected, loose, readAs}
 use Rattle.plan_reading.specs.StrictTheorem.{read-loosely}
 use Rattle.plan_reading.specs.laws.Valid.{accepted-valid}

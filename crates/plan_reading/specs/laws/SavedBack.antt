@@ -4,7 +4,6 @@ use Prim.Native.Nat.{ℕ, _-_, _≤_}
 use mathlib.Core.Path.{_≡_, refl, sym, ap, _∙_, subst}
 use mathlib.Core.Logic.{_⊎_, inl, inr}
 use mathlib.Core.List.{List, List·Memᴰ, Memᴰ·cast}
-use mathlib.Core.Bool.{true}
 use mathlib.Core.Option.{some}
 use native.Mathlib.Omega.{arith}
 use Rattle.cqf.specs.Limits.{portSlots, flowSlots}
@@ -17,7 +16,7 @@ use Rattle.plan_reading.specs.Store.{putsTop, putsClock, store}
 use Rattle.plan_reading.specs.Draft.{blank}
 use Rattle.plan_reading.specs.FieldOrder.{SaysNothing}
 use Rattle.plan_reading.specs.Reading.{accepted, strict, readAs}
-use Rattle.plan_reading.specs.Strict.{Entry, fieldsIn, rising}
+use Rattle.plan_reading.specs.Strict.{Entry, fieldsIn}
 use Rattle.plan_reading.specs.FieldBytes.{rowBytes}
 use Rattle.plan_reading.specs.Saved.{savedFields, savedBytes, NoneSaysNothing}
 use Rattle.plan_reading.specs.laws.Within.{within-low}
@@ -25,15 +24,13 @@ use Rattle.plan_reading.specs.laws.Valid.{accepted-valid}
 use Rattle.plan_reading.specs.laws.Rows.{Ascends}
 use Rattle.plan_reading.specs.laws.InOrder.{ascends-same}
 use Rattle.plan_reading.specs.StrictTheorem.{read-loosely, keys-ascend, accepted-bytes}
-use Rattle.plan_reading.specs.laws.SavedRow.{AllOk}
-use Rattle.plan_reading.specs.laws.RowRead.{row-ascends}
 use Rattle.plan_reading.specs.laws.Entries.{SaysPart, Says}
 use Rattle.plan_reading.specs.laws.Says.{saved-says, says-saved, said-once}
 use Rattle.plan_reading.specs.laws.SavedOrder.{saved-ascends}
 use Rattle.plan_reading.specs.laws.Sources.{Some, tablesOf, source, alone-source}
 use Rattle.plan_reading.specs.laws.Columns
 use Rattle.plan_reading.specs.laws.Fresh.{Fresh, fresh-ok, fresh-says}
-use Rattle.plan_reading.specs.laws.Walked.{fresh-row, accepted-row}
+use Rattle.plan_reading.specs.laws.Walked.{accepted-row}
 
 -- a header is among the fields
 abbrev pub Headed : List Entry → Type 0
@@ -95,16 +92,6 @@ module _ (es : List Entry) (fresh : Fresh blank es) (headed : Headed es) (tells 
       ascends-same (saved-ascends q (λ e h. fresh-ok fresh (part-there (e .part) (e .route) h) .numbers)) up
       (λ e m. let h = saved-says q m in part-there (e .part) (e .route) h)
       (λ e m. says-saved q e (row-says m))
-
--- the same of a row of fields in range in strict order
-pub ok-back
-    : (es : List Entry)
-    → AllOk es
-    → rising es ≡ true
-    → Headed es
-    → ((e : Entry) → List·Memᴰ e es → SaysNothing (e .part) → ⊥)
-    → savedFields (tablesOf es) ≡ es
-ok-back es ok up headed tells = row-back es (fresh-row es ok up) headed tells (row-ascends es ok up)
 
 -- an accepted plan has a header
 header-there : (es : List Entry) → 1 ≤ tablesOf es .top → Headed es

@@ -131,9 +131,12 @@ module _ (p : Plan) where
       )
 
   -- the routes of a valid plan are no longer than a route may be
-  pub saved-length : validPlan p ≡ true → length (savedBytes p) ≤ maxBytes
-  saved-length valid = omega (arith, saved-most (λ f l. hops f (slot-cases p valid f l)))
+  pub valid-hops : validPlan p ≡ true → (f : ℕ) → f < flowSlots → hopsOf p f ≤ maxHops
+  valid-hops valid f l = go (slot-cases p valid f l)
     where
-      hops : (f : ℕ) → Empty p f ⊎ Held p f → hopsOf p f ≤ maxHops
-      hops f (inl e) = omega (arith, e .hops)
-      hops f (inr e) = e .hops-most
+      go : Empty p f ⊎ Held p f → hopsOf p f ≤ maxHops
+      go (inl e) = omega (arith, e .hops)
+      go (inr e) = e .hops-most
+
+  pub saved-length : validPlan p ≡ true → length (savedBytes p) ≤ maxBytes
+  saved-length valid = omega (arith, saved-most (valid-hops valid))

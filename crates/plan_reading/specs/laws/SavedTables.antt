@@ -18,14 +18,14 @@ use Rattle.plan.specs.Field.{Field, clock}
 use Rattle.plan_reading.specs.Store.{putsClock, store}
 use Rattle.plan_reading.specs.Draft.{blank}
 use Rattle.plan_reading.specs.Saved.{headerField, savedFields, clockField}
-use Rattle.plan_reading.specs.Tidy.{Tidy, tidiedAt, tidied}
+use Rattle.plan_reading.specs.Tidy.{tidiedAt, tidied}
 use Rattle.plan_reading.specs.Sized.{Sized}
 use Rattle.plan_reading.specs.laws.Entries.{SaysPart, clocks-equal}
 use Rattle.plan_reading.specs.laws.Says.{clock-says, saved-says}
 use Rattle.plan_reading.specs.laws.Sources.{Some, tablesOf, alone-source}
 use Rattle.plan_reading.specs.laws.Columns
 use Rattle.plan_reading.specs.laws.SavedOk.{says-ok}
-use Rattle.plan_reading.specs.laws.Tidy.{route-place, tidied-same}
+use Rattle.plan_reading.specs.laws.Tidy.{route-place}
 use Rattle.plan_reading.specs.laws.SavedSlots.{left-sized, left-says, left-none, same-port, same-extra, same-jitter, same-flow}
 
 module _ (p : Plan) (valid : validPlan p ≡ true) where
@@ -110,7 +110,3 @@ module _ (p : Plan) (valid : validPlan p ≡ true) where
         hops = hops i;
         routes = routes i;
       }
-
-  -- so a valid plan that is tidy is left as it was
-  pub saved-same : Sized p → Tidy p → tablesOf (savedFields p) ≡ p
-  saved-same sized tidy = saved-tables sized ∙ tidied-same p sized tidy
