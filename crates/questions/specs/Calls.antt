@@ -6,7 +6,7 @@ use Rattle.cqf.specs.Plan.{Plan, noPlan}
 use Rattle.plan_reading.specs.Reading.{PlanRead, accepted, rejected, Mode, readAs}
 use Rattle.loading.specs.Outcome.{loadLeaves}
 
--- a question, with what it is given; the two searches are lent a scratch, and saving a buffer
+-- a question, with what it is given; the two searches are lent a scratch, and those that write fields a buffer
 pub data Question : Type 0 where
   check : (duration : ℕ) → Question
   slack : (port duration : ℕ) → Question
@@ -14,6 +14,7 @@ pub data Question : Type 0 where
   marginSafe : (scratch : List ℕ) → Question
   fixedPoint : (start steps : ℕ) → Question
   save : (buffer : List ℕ) → Question
+  gates : (duration even odd : ℕ) (buffer : List ℕ) → Question
 
 -- a load says in which reading
 pub data Call : Type 0 where

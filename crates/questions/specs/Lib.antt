@@ -2,11 +2,13 @@
 pub mod Outcome
 pub mod FixedPoint
 pub mod Save
+pub mod Gates
 pub mod Calls
 pub mod Answer
 pub mod Meaning
 pub mod Reply
 pub mod Restored
+pub mod Scheduled
 pub mod NoWorse
 pub mod Iterations
 pub mod laws
@@ -15,6 +17,7 @@ pub mod Theorem
 pub mod LighterTheorem
 pub mod IterationsTheorem
 pub mod SaveTheorem
+pub mod GatesTheorem
 pub mod Failing
 pub mod Search
 pub mod Iterate

@@ -22,6 +22,7 @@ use Rattle.questions.specs.laws.Answers
 use Rattle.questions.specs.laws.Answers.{check-none, slack-none, fixed-point-none, check-within}
 use Rattle.questions.specs.laws.Calls.{after-none, after-loaded}
 use Rattle.questions.specs.laws.Saved.{save-none, save-keeps}
+use Rattle.questions.specs.laws.Gates.{gates-none, gates-keeps}
 use Rattle.questions.specs.laws.Searched.{ends-no-plan, least-ends, margin-safe-ends}
 
 -- tables that are not valid
@@ -36,6 +37,8 @@ answers-none p e (Calls.marginSafe scratch) =
     ap₂ ofSearch (sym (h .0)) (sym (h .1))
 answers-none p e (Calls.fixedPoint start steps) = ap ofFixedPoint (fixed-point-none p start steps e)
 answers-none p e (Calls.save buffer) = ap₂ ofWriting (save-none p buffer e) (save-keeps p buffer e)
+answers-none p e (Calls.gates T even odd buffer) =
+    ap₂ ofWriting (gates-none p T even odd buffer e) (gates-keeps p T even odd buffer e)
 
 -- a valid plan is not refused 20 at 1 ns
 verdictNumber : Reply → ℕ

@@ -8,7 +8,8 @@ use Rattle.loading.specs.Outcome.{Answer, refusal}
 use Rattle.questions.specs.Outcome.{checkAnswer, slackAnswer, leastAnswer, leastLeaves, marginSafeAnswer, marginSafeLeaves}
 use Rattle.questions.specs.FixedPoint.{FixedPoint, fixedPointAnswer}
 use Rattle.questions.specs.Save.{saveAnswer, saveLeaves}
-use Rattle.questions.specs.Calls.{Question, check, slack, least, marginSafe, fixedPoint, save}
+use Rattle.questions.specs.Gates.{gatesAnswer, gatesLeaves}
+use Rattle.questions.specs.Calls.{Question, check, slack, least, marginSafe, fixedPoint, save, gates}
 
 pub data Reply : Type 0 where
   ofCheck : Answer (Unit {0}) → Reply
@@ -24,6 +25,7 @@ reply p (least scratch) = ofSearch (leastAnswer p scratch) (leastLeaves p scratc
 reply p (marginSafe scratch) = ofSearch (marginSafeAnswer p scratch) (marginSafeLeaves p scratch)
 reply p (fixedPoint start steps) = ofFixedPoint (fixedPointAnswer p start steps)
 reply p (save buffer) = ofWriting (saveAnswer p buffer) (saveLeaves p buffer)
+reply p (gates T even odd buffer) = ofWriting (gatesAnswer p T even odd buffer) (gatesLeaves p T even odd buffer)
 
 -- 20 with 0, and lent memory as it was
 abbrev pub noPlanReply : Question → Reply
@@ -33,6 +35,7 @@ noPlanReply (least scratch) = ofSearch (refusal 20 (0 ∷ [])) scratch
 noPlanReply (marginSafe scratch) = ofSearch (refusal 20 (0 ∷ [])) scratch
 noPlanReply (fixedPoint start steps) = ofFixedPoint (refusal 20 (0 ∷ []))
 noPlanReply (save buffer) = ofWriting (refusal 20 (0 ∷ [])) buffer
+noPlanReply (gates T even odd buffer) = ofWriting (refusal 20 (0 ∷ [])) buffer
 
 -- two planners that answer every question alike
 abbrev pub SameAnswers : Plan → Plan → Type 0

@@ -8,6 +8,7 @@ pub mod Topped
 pub mod Signed
 pub mod Answers
 pub mod Saved
+pub mod Gates
 pub mod PortNeed
 pub mod Scratch
 pub mod PortTest

@@ -1,0 +1,4 @@
+-- Laws of gate control lists.
+pub mod States
+pub mod Played
+pub mod TwoCycles

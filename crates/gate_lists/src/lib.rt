@@ -1,0 +1,1 @@
+// Gate control lists, as definitions, in specs/.
