@@ -1,4 +1,6 @@
 // The calls: the planner by value, its tables lent column by column.
+use gating::GatesAnswer;
+use gating::gates_tables;
 use questions::CheckAnswer;
 use questions::FixedPointAnswer;
 use questions::Goal;
@@ -18,7 +20,9 @@ ghost use Rattle.questions.specs.Meaning.{CheckMeans};
 ghost use Rattle.questions.specs.Outcome.{checkAnswer, slackAnswer, leastAnswer, leastLeaves, marginSafeAnswer, marginSafeLeaves};
 ghost use Rattle.questions.specs.FixedPoint.{fixedPointAnswer};
 ghost use Rattle.questions.specs.Save.{saveAnswer, saveLeaves};
+ghost use Rattle.questions.specs.Gates.{gatesAnswer, gatesLeaves};
 ghost use Rattle.saving.specs.Answer.{saveOf};
+ghost use Rattle.gating.specs.Answer.{gatesOf};
 
 // Is this duration admissible? What the answer means is demand 3: after every sequence of calls that leads to this planner.
 pub fn check(planner: Planner, duration: u64) -> CheckAnswer
@@ -147,6 +151,31 @@ pub fn save(planner: Planner, buffer: &mut [u8]) -> SaveAnswer
         &planner.jitters,
         &planner.hops,
         &planner.routes,
+        buffer,
+    )
+}
+
+// The gate control list of a duration for two queues, written into the buffer; 20, 10 and 21 as from `check`, 18 where the queues are
+// not two of the eight, 13 where the buffer is too short for the list.
+pub fn gates(planner: Planner, duration: u64, even: u64, odd: u64, buffer: &mut [u8]) -> GatesAnswer
+    ensures { λ r. ⌜ (gatesOf r ≡ gatesAnswer (planOf planner) duration even odd (now (buffer .entry))) × (now (buffer .exit) ≡ gatesLeaves (planOf planner) duration even odd (now (buffer .entry))) ⌝ }
+{
+    gates_tables(
+        planner.guard,
+        planner.top,
+        planner.clock,
+        &planner.rates,
+        &planner.blockings,
+        &planner.extras,
+        &planner.periods,
+        &planner.counts,
+        &planner.lengths,
+        &planner.jitters,
+        &planner.hops,
+        &planner.routes,
+        duration,
+        even,
+        odd,
         buffer,
     )
 }

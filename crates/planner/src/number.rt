@@ -1,4 +1,5 @@
 // The papers' number of each answer, 0 for a result.
+use gating::GatesAnswer;
 use loading::LoadAnswer;
 use plan::fault_number;
 use questions::CheckAnswer;
@@ -11,12 +12,15 @@ ghost use Rattle.loading.specs.Outcome.{numberOf};
 ghost use Rattle.loading.specs.Answer.{loadOf};
 ghost use Rattle.questions.specs.Answer.{checkOf, slackOf, searchOf, leastOf, marginSafeOf, fixedPointOf};
 ghost use Rattle.saving.specs.Answer.{saveOf};
+ghost use Rattle.gating.specs.Answer.{gatesOf};
 
 const BAD_DURATION: u32 = 10;
 
 const SHORT_SCRATCH: u32 = 11;
 
 const SHORT_BUFFER: u32 = 13;
+
+const BAD_QUEUE: u32 = 18;
 
 const NO_PLAN: u32 = 20;
 
@@ -114,5 +118,18 @@ pub fn save_number(answer: SaveAnswer) -> u32
         SaveAnswer::Written(_) => 0,
         SaveAnswer::NoPlan => NO_PLAN,
         SaveAnswer::ShortBuffer(_) => SHORT_BUFFER,
+    }
+}
+
+pub fn gates_number(answer: GatesAnswer) -> u32
+    ensures { λ r. ⌜ r ≡ numberOf (gatesOf answer) ⌝ }
+{
+    match answer {
+        GatesAnswer::Written(_) => 0,
+        GatesAnswer::NoPlan => NO_PLAN,
+        GatesAnswer::BadDuration => BAD_DURATION,
+        GatesAnswer::Failing { port: _, count: _ } => NOT_ADMISSIBLE,
+        GatesAnswer::BadQueue => BAD_QUEUE,
+        GatesAnswer::ShortBuffer(_) => SHORT_BUFFER,
     }
 }

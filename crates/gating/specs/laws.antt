@@ -1,0 +1,4 @@
+-- Laws of the bytes of a gate control list, of gate states, and of the answer.
+pub mod List
+pub mod States
+pub mod Outcome
