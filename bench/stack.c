@@ -32,6 +32,9 @@ static cp_slack_answer see_slack(cp_planner p, uint64_t n, uint64_t d) { SEEN; (
 static cp_answer see_search(cp_planner p, uint64_t *s, size_t n) { SEEN; (void)p, (void)s, (void)n; return answer; }
 static cp_fixed_point_answer see_steps(cp_planner p, uint64_t d, uint64_t n) { SEEN; (void)p, (void)d, (void)n; return stepped; }
 static cp_answer see_save(cp_planner p, uint8_t *b, size_t n) { SEEN; (void)p, (void)b, (void)n; return answer; }
+static cp_answer see_gates(cp_planner p, uint64_t d, uint64_t e, uint64_t o, uint8_t *b, size_t n) {
+  SEEN; (void)p, (void)d, (void)e, (void)o, (void)b, (void)n; return answer;
+}
 static cp_field_read see_field(const uint8_t *b, size_t n, size_t o) { SEEN; (void)b, (void)n, (void)o; return field; }
 static uint8_t see_repeats(const uint8_t *b, size_t n) { SEEN; (void)b, (void)n; return 0; }
 
@@ -126,6 +129,12 @@ MEASURED(on_refused_save) {
   return unused;
 }
 
+MEASURED(on_gates) {
+  MEASURE(cp_answer (*volatile call)(cp_planner, uint64_t, uint64_t, uint64_t, uint8_t *, size_t), see_gates, cp_gates,
+          answer = call(held, held.top, 2, 3, buffer, MAX_BYTES));
+  return unused;
+}
+
 MEASURED(on_field) {
   MEASURE(cp_field_read (*volatile call)(const uint8_t *, size_t, size_t), see_field, cp_field,
           field = call(accepted.bytes, accepted.length, 0));
@@ -188,9 +197,13 @@ int main(int count, char **paths) {
   if (answer.refusal != 0) return 1;
   row("cp_save, refused", on_refused_save, sizeof held, sizeof answer);
   if (answer.refusal != 13) return 1;
+  row("cp_gates", on_gates, sizeof held, sizeof answer);
+  if (answer.refusal != 0) return 1;
   held = overloaded;
   questions("cp_check, refused", "cp_slack, negative", "cp_least, refused", "cp_margin_safe, refused", "cp_fixed_point, refused");
   if (answer.refusal == 0 || stepped.refusal != 22) return 1;
+  row("cp_gates, refused", on_gates, sizeof held, sizeof answer);
+  if (answer.refusal != 21) return 1;
   row("cp_field", on_field, 0, sizeof field);
   row("cp_repeats", on_repeats, 0, sizeof repeats);
   return 0;

@@ -70,6 +70,15 @@ cp_fixed_point_answer cp_fixed_point(cp_planner planner, uint64_t start, uint64_
  * byte. Either load accepts what was written and holds the same plan. */
 cp_answer cp_save(cp_planner planner, uint8_t *buffer, size_t length);
 
+/* The gate control list of an admissible duration for two cycles, written into the buffer as fields of tag 0x21, length 5: gate
+ * states (1 byte; bit q, from the lowest as 0, is 1 where queue q is open) and interval (4 bytes, ns, high byte first). Each cycle
+ * is the guard band with both queues closed, the window with one open, the guard band with both closed; the even queue opens in the
+ * first cycle, the odd one in the second, the other six are always open; an interval of 0 is left out. Result: first = the length
+ * written, 48, or 16 without a guard band, second = 0; the bytes behind it remain. Refusal 20, 10, 21 as from cp_check; then 18, a
+ * queue is above 7 or both are equal: 0, 0; then 13, the buffer is shorter than the list: first = the length needed, second = 0. A
+ * refusal writes nothing. */
+cp_answer cp_gates(cp_planner planner, uint64_t duration, uint64_t even, uint64_t odd, uint8_t *buffer, size_t length);
+
 /* The field at an offset of a plan, by tests 2 to 5. Result: tag 1 to 6; offset = the one after the field; numbers:
  * 1, header: guard, top; 2, port: number, rate, blocker; 3, flow: number, period, count, length, hops; 4, extra bytes per
  * frame at a port: port number, extra bytes; 5, release jitter of a flow: flow number, jitter; 6, clocks: drift,

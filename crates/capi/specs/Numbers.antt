@@ -31,7 +31,7 @@ abbrev pub searchNumbers : Answer ℕ → AnswerNumbers
 searchNumbers (result duration) = answerNumbers 0 duration 0
 searchNumbers (refusal number values) = refusedWith number values
 
--- the length written; 13 has the length needed
+-- the length written; 13 has the length needed, 21 the lowest failing port and how many
 abbrev pub writtenNumbers : Answer ℕ → AnswerNumbers
 writtenNumbers (result length) = answerNumbers 0 length 0
 writtenNumbers (refusal number values) = refusedWith number values

@@ -6,6 +6,7 @@ use crate::answers::least_numbers;
 use crate::answers::margin_safe_numbers;
 use crate::answers::outcome_numbers;
 use crate::answers::slack_numbers;
+use crate::written::gates_numbers;
 use crate::written::save_numbers;
 use planner::Planner;
 ghost use mathlib.Core.Path.{_≡_};
@@ -17,6 +18,7 @@ ghost use Rattle.loading.specs.Outcome.{loadAnswer, loadLeaves};
 ghost use Rattle.questions.specs.Outcome.{checkAnswer, slackAnswer, leastAnswer, leastLeaves, marginSafeAnswer, marginSafeLeaves};
 ghost use Rattle.questions.specs.FixedPoint.{fixedPointAnswer};
 ghost use Rattle.questions.specs.Save.{saveAnswer, saveLeaves};
+ghost use Rattle.questions.specs.Gates.{gatesAnswer, gatesLeaves};
 ghost use Rattle.capi.specs.Meaning.{CheckNumbersMean};
 ghost use Rattle.capi.specs.Numbers.{loadNumbers, checkNumbers, slackNumbers, searchNumbers, stepsNumbers, writtenNumbers, fieldNumbers};
 
@@ -139,4 +141,17 @@ pub extern "C" fn cp_save(planner: Planner, buffer: &mut [u8]) -> AnswerNumbers
     ensures { λ r. ⌜ (r ≡ writtenNumbers (saveAnswer (planOf planner) (now (buffer .entry)))) × (now (buffer .exit) ≡ saveLeaves (planOf planner) (now (buffer .entry))) ⌝ }
 {
     save_numbers(planner::save(planner, buffer))
+}
+
+#[no_mangle]
+pub extern "C" fn cp_gates(
+    planner: Planner,
+    duration: u64,
+    even: u64,
+    odd: u64,
+    buffer: &mut [u8],
+) -> AnswerNumbers
+    ensures { λ r. ⌜ (r ≡ writtenNumbers (gatesAnswer (planOf planner) duration even odd (now (buffer .entry)))) × (now (buffer .exit) ≡ gatesLeaves (planOf planner) duration even odd (now (buffer .entry))) ⌝ }
+{
+    gates_numbers(planner::gates(planner, duration, even, odd, buffer))
 }

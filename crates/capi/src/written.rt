@@ -1,10 +1,13 @@
 // Each answer of a call that writes bytes as numbers: the refusal, 0 for a result, and the length written or needed.
 use crate::AnswerNumbers;
 use crate::answers::numbered;
+use planner::GatesAnswer;
 use planner::SaveAnswer;
+use planner::gates_number;
 use planner::save_number;
 ghost use mathlib.Core.Path.{_≡_};
 ghost use Rattle.saving.specs.Answer.{saveOf};
+ghost use Rattle.gating.specs.Answer.{gatesOf};
 ghost use Rattle.capi.specs.Numbers.{writtenNumbers};
 
 pub(crate) fn save_numbers(answer: SaveAnswer) -> AnswerNumbers
@@ -15,5 +18,20 @@ pub(crate) fn save_numbers(answer: SaveAnswer) -> AnswerNumbers
         SaveAnswer::Written(length) => numbered(refusal, length as u64, 0),
         SaveAnswer::NoPlan => numbered(refusal, 0, 0),
         SaveAnswer::ShortBuffer(needed) => numbered(refusal, needed as u64, 0),
+    }
+}
+
+// 21 has the lowest failing port and how many fail.
+pub(crate) fn gates_numbers(answer: GatesAnswer) -> AnswerNumbers
+    ensures { λ r. ⌜ r ≡ writtenNumbers (gatesOf answer) ⌝ }
+{
+    let refusal = gates_number(answer);
+    match answer {
+        GatesAnswer::Written(length) => numbered(refusal, length as u64, 0),
+        GatesAnswer::NoPlan => numbered(refusal, 0, 0),
+        GatesAnswer::BadDuration => numbered(refusal, 0, 0),
+        GatesAnswer::Failing { port, count } => numbered(refusal, port as u64, count as u64),
+        GatesAnswer::BadQueue => numbered(refusal, 0, 0),
+        GatesAnswer::ShortBuffer(needed) => numbered(refusal, needed as u64, 0),
     }
 }

@@ -7,4 +7,5 @@ pub mod Lighter
 pub mod Order
 pub mod Strict
 pub mod Saved
+pub mod Gates
 pub mod FixedPoint

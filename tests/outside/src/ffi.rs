@@ -18,6 +18,7 @@ extern "C" {
     fn cp_margin_safe(planner: Planner, scratch: *mut u64, length: usize) -> Answer;
     fn cp_fixed_point(planner: Planner, start: u64, steps: u64) -> StepsAnswer;
     fn cp_save(planner: Planner, buffer: *mut u8, length: usize) -> Answer;
+    fn cp_gates(planner: Planner, duration: u64, even: u64, odd: u64, buffer: *mut u8, length: usize) -> Answer;
     fn cp_field(plan: *const u8, length: usize, offset: usize) -> FieldRead;
     fn cp_repeats(value: *const u8, length: usize) -> u8;
 }
@@ -58,6 +59,10 @@ pub fn fixed_point(planner: &Planner, start: u64, steps: u64) -> StepsAnswer {
 
 pub fn save(planner: &Planner, buffer: &mut [u8]) -> Answer {
     unsafe { cp_save(planner.clone(), buffer.as_mut_ptr(), buffer.len()) }
+}
+
+pub fn gates(planner: &Planner, duration: u64, even: u64, odd: u64, buffer: &mut [u8]) -> Answer {
+    unsafe { cp_gates(planner.clone(), duration, even, odd, buffer.as_mut_ptr(), buffer.len()) }
 }
 
 pub fn field(plan: &[u8], offset: usize) -> FieldRead {

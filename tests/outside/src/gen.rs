@@ -7,6 +7,7 @@ pub mod kinds;
 pub mod laden;
 mod later;
 pub mod lighter;
+pub mod short;
 pub mod sized;
 pub mod strict;
 

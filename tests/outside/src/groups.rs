@@ -5,6 +5,8 @@ pub mod clocks;
 pub mod extra;
 pub mod fields;
 pub mod foreign;
+pub mod gates;
+mod gates_k;
 pub mod jitter;
 pub mod known;
 mod later_fields;
@@ -34,6 +36,7 @@ use crate::model::spans::{first_past, search, spans, Search, Span};
 use crate::model::{self as judge, Flow, Plan};
 use crate::report::Tally;
 use crate::rng::Rng;
+use gates::{ask_gates, QUEUES};
 use save::ask_save;
 
 pub const LENGTHS: [usize; 5] = [0, 63, 64, 65, 100];
@@ -128,6 +131,10 @@ pub fn ask_all(tally: &mut Tally, planner: &Planner, plan: Option<&Plan>, rng: &
     let needed = plan.map_or(11, |plan| written(plan).len());
     for length in [needed, rng.pick(&[0, needed - 1, needed + 1, 16_384])] {
         ask_save(tally, planner, plan, length, rng);
+    }
+    for queues in [(2, 3), (rng.pick(&QUEUES), rng.pick(&QUEUES))] {
+        let (duration, length) = (rng.pick(&asked), rng.pick(&[0, 16, 47, 48, 60]));
+        ask_gates(tally, planner, plan, (duration, queues.0, queues.1), length, rng);
     }
     let length = rng.pick(&LENGTHS);
     for length in [length, 64] {

@@ -19,7 +19,7 @@ const SEED: u64 = 20_261_115;
 const CASES: u64 = 1_500;
 
 /// A group's name, its share of the cases in hundredths, and its body.
-const GROUPS: [(&str, u64, fn(&mut Tally)); 14] = [
+const GROUPS: [(&str, u64, fn(&mut Tally)); 15] = [
     ("known", 100, groups::known::run),
     ("model", 20, groups::model::run),
     ("fields", 100, groups::fields::run),
@@ -30,6 +30,7 @@ const GROUPS: [(&str, u64, fn(&mut Tally)); 14] = [
     ("questions", 60, groups::questions::run),
     ("searches", 100, groups::searches::run),
     ("steps", 100, groups::steps::run),
+    ("gates", 60, groups::gates::run),
     ("foreign", 200, groups::foreign::run),
     ("order", 40, groups::order::run),
     ("runs", 60, groups::runs::run),

@@ -2,6 +2,7 @@
 
 pub mod field;
 pub mod fixed_point;
+pub mod gates;
 pub mod lighter;
 pub mod read;
 pub mod save;

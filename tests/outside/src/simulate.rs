@@ -2,6 +2,7 @@
 
 pub mod cuts;
 pub mod emissions;
+pub mod gates;
 
 use crate::model::Plan;
 use cuts::Cut;

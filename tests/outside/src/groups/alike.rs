@@ -17,6 +17,10 @@ pub fn alike(tally: &mut Tally, how: &str, other: &Planner, one: &Planner, plan:
         let port = rng.pick(&ports);
         let (got, want) = (ffi::slack(other, port, *duration), ffi::slack(one, port, *duration));
         tally.same(format_args!("cp_slack({port}, {duration}) {how}"), got, want);
+        let mut lists = [[0; 48], [0; 48]];
+        let (got, want) = (ffi::gates(other, *duration, 2, 3, &mut lists[0]), ffi::gates(one, *duration, 2, 3, &mut lists[1]));
+        tally.same(format_args!("cp_gates({duration}, 2, 3) {how}"), got, want);
+        tally.same(format_args!("list of cp_gates({duration}, 2, 3) {how}"), lists[0], lists[1]);
     }
     let (start, steps) = (rng.pick(&asked), rng.pick(&[0, 8, 16]));
     let (got, want) = (ffi::fixed_point(other, start, steps), ffi::fixed_point(one, start, steps));

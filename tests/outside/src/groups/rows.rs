@@ -44,4 +44,5 @@ pub fn run(tally: &mut Tally) {
     tally.must_have_seen("margin_safe", &[0, 11, 20, 23]);
     tally.must_have_seen("fixed_point", &[0, 10, 20, 22, 26]);
     tally.must_have_seen("save", &[0, 13, 20]);
+    tally.must_have_seen("gates", &[0, 10, 13, 18, 20, 21]);
 }

@@ -1,0 +1,3 @@
+-- Arguments in decimal digits.
+pub mod Decimal
+pub mod laws
