@@ -15,15 +15,15 @@ use Rattle.plan_reading.specs.Reading.{PlanRead, accepted, rejected, Mod
 use Rattle.plan_reading.specs.Strict.{Accepts, fieldsIn, SameContent, InOrder, firstLate, foundBefore, strictly}
 use Rattle.plan_reading.specs.FieldBytes.{rowBytes}
 use Rattle.plan_reading.specs.FieldOrder.{SameFields}
-use Rattle.plan_reading.specs.laws.Walk.{read-as}
-use Rattle.plan_reading.specs.laws.Order.{flagged-blank}
-use Rattle.plan_reading.specs.laws.PlanLength.{sized, read-sized}
-use Rattle.plan_reading.specs.laws.Late.{known-none}
-use Rattle.plan_reading.specs.laws.Strictly.{strict-reading}
-use Rattle.plan_reading.specs.laws.Rows.{Ascends, ascends-rising, rising-from}
-use Rattle.plan_reading.specs.laws.InOrder.{none-late, strict-ascends, ascends-same, permuted-holds}
-use Rattle.plan_reading.specs.laws.Written.{plan-bytes}
-use Rattle.plan_reading.specs.laws.Content.{same-content, same-itself}
+use Rattle.plan_reading.specs.laws.reading.Walk.{read-as}
+use Rattle.plan_reading.specs.laws.order.Order.{flagged-blank}
+use Rattle.plan_reading.specs.laws.reading.PlanLength.{sized, read-sized}
+use Rattle.plan_reading.specs.laws.order.Late.{known-none}
+use Rattle.plan_reading.specs.laws.order.Strictly.{strict-reading}
+use Rattle.plan_reading.specs.laws.order.Rows.{Ascends, ascends-rising, rising-from}
+use Rattle.plan_reading.specs.laws.order.InOrder.{none-late, strict-ascends, ascends-same, permuted-holds}
+use Rattle.plan_reading.specs.laws.rows.Written.{plan-bytes}
+use Rattle.plan_reading.specs.laws.order.Content.{same-content, same-itself}
 
 -- what comes of an answer of the loose reading
 strictly-accepted

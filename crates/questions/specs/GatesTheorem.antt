@@ -13,7 +13,7 @@ use Rattle.gate_lists.specs.GateList.{gateListBytes}
 use Rattle.gate_lists.specs.Playing.{PlaysTwoCycles}
 use Rattle.gate_lists.specs.Theorem.{list-length, plays-two-cycles}
 use Rattle.plan_reading.specs.Reading.{accepted, Mode, readAs}
-use Rattle.plan_reading.specs.laws.Within.{within-low, within-high}
+use Rattle.plan_reading.specs.laws.fields.Within.{within-low, within-high}
 use Rattle.loading.specs.Outcome.{result}
 use Rattle.questions.specs.Outcome.{checkAnswer}
 use Rattle.questions.specs.Gates.{queuesOk, gatesAnswer, gatesLeaves}

@@ -7,7 +7,7 @@ use Prim.Native.Nat.{ℕ, _≤_}
 use Rattle.cqf.specs.Plan.{Plan}
 use Rattle.plan_reading.specs.Reading.{accepted, Mode, readAs}
 use Rattle.plan_reading.specs.StrictTheorem.{read-loosely}
-use Rattle.plan_reading.specs.laws.Valid.{accepted-valid}
+use Rattle.plan_reading.specs.laws.validity.Valid.{accepted-valid}
 use Rattle.questions.specs.Calls.{Call, after, heldBytes}
 use Rattle.questions.specs.Iterations.{Iterations, AgreesWithLeast}
 use Rattle.questions.specs.laws.Calls.{after-held}

@@ -14,7 +14,7 @@ use Rattle.cqf.specs.Lighter.{Lighter}
 use Rattle.cqf.specs.LighterTheorem.{no-worse}
 use Rattle.plan_reading.specs.Reading.{accepted, Mode, readAs}
 use Rattle.plan_reading.specs.StrictTheorem.{read-loosely}
-use Rattle.plan_reading.specs.laws.Valid.{accepted-valid}
+use Rattle.plan_reading.specs.laws.validity.Valid.{accepted-valid}
 use Rattle.questions.specs.Outcome.{searched, leastAnswer, marginSafeAnswer}
 use Rattle.questions.specs.Calls.{Call, after, heldBytes}
 use Rattle.questions.specs.NoWorse.{SearchNoWorse, AnswersNoWorse}

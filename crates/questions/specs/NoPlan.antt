@@ -12,7 +12,7 @@ use Rattle.cqf.specs.Bounded.{within}
 use Rattle.cqf.specs.Plan.{Plan, validPlan}
 use Rattle.cqf.specs.Condition.{admissible, least, marginSafe}
 use Rattle.cqf.specs.laws.Ranges.{top-positive}
-use Rattle.plan_reading.specs.laws.Valid.{accepted-valid}
+use Rattle.plan_reading.specs.laws.validity.Valid.{accepted-valid}
 use Rattle.loading.specs.Outcome.{result, numberOf}
 use Rattle.questions.specs.Outcome.{failingAt}
 use Rattle.questions.specs.Calls as Calls

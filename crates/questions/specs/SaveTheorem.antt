@@ -15,11 +15,11 @@ use Rattle.plan_reading.specs.Reading.{accepted, Mode, loose, strict, readAs, r
 use Rattle.plan_reading.specs.Sized.{Sized}
 use Rattle.plan_reading.specs.Saved.{savedBytes, NoneSaysNothing}
 use Rattle.plan_reading.specs.Tidy.{tidied}
-use Rattle.plan_reading.specs.laws.SavedBack.{saved-back}
-use Rattle.plan_reading.specs.laws.SavedLength.{valid-hops, saved-length}
-use Rattle.plan_reading.specs.laws.SavedRead.{saved-read, saved-again}
-use Rattle.plan_reading.specs.laws.Tidy.{tidied-route}
-use Rattle.plan_reading.specs.laws.Valid.{accepted-valid}
+use Rattle.plan_reading.specs.laws.saved.SavedBack.{saved-back}
+use Rattle.plan_reading.specs.laws.saved.SavedLength.{valid-hops, saved-length}
+use Rattle.plan_reading.specs.laws.saved.SavedRead.{saved-read, saved-again}
+use Rattle.plan_reading.specs.laws.saved.Tidy.{tidied-route}
+use Rattle.plan_reading.specs.laws.validity.Valid.{accepted-valid}
 use Rattle.loading.specs.Outcome.{result, loadAnswer, loadLeaves, readingAnswer, readingLeaves}
 use Rattle.questions.specs.Save.{saveAnswer, saveLeaves}
 use Rattle.questions.specs.Reply.{reply}

@@ -15,9 +15,9 @@ use Rattle.cqf.specs.Theorem.{large-enough}
 use Rattle.cqf.specs.laws.Longer.{longer}
 use Rattle.plan_reading.specs.FieldOrder.{SameFields}
 use Rattle.plan_reading.specs.Reading.{accepted, readPlan}
-use Rattle.plan_reading.specs.laws.Order.{field-order}
+use Rattle.plan_reading.specs.laws.order.Order.{field-order}
 use Rattle.plan_reading.specs.StrictTheorem.{read-loosely}
-use Rattle.plan_reading.specs.laws.Valid.{accepted-valid}
+use Rattle.plan_reading.specs.laws.validity.Valid.{accepted-valid}
 use Rattle.loading.specs.Outcome.{Answer, result}
 use Rattle.questions.specs.Outcome.{failingAt, checkAnswer}
 use Rattle.questions.specs.Meaning.{Refuses, Means, CheckMeans}

@@ -6,7 +6,7 @@ use native.Mathlib.Omega.{arith}
 use Rattle.cqf.specs.Plan.{noPlan, validPlan}
 use Rattle.plan_reading.specs.Reading.{PlanRead, accepted, rejected, loose, readAs}
 use Rattle.plan_reading.specs.StrictTheorem.{read-loosely}
-use Rattle.plan_reading.specs.laws.Valid.{accepted-valid}
+use Rattle.plan_reading.specs.laws.validity.Valid.{accepted-valid}
 use Rattle.tables.specs.Tables.{planOf}
 use Rattle.loading.specs.Outcome.{result, Fields}
 use Rattle.loading.specs.Answer.{loadOf}

@@ -7,7 +7,7 @@ use native.Mathlib.Omega.{arith}
 use lib.ListN.{length}
 use Rattle.cqf.specs.Plan.{Plan}
 use Rattle.cqf.specs.laws.Ranges.{top-most}
-use Rattle.plan_reading.specs.laws.Within.{within-high}
+use Rattle.plan_reading.specs.laws.fields.Within.{within-high}
 use Rattle.gate_lists.specs.GateList.{gateListBytes}
 use Rattle.loading.specs.Outcome.{Answer, result, refusal}
 use Rattle.writing.specs.Laid.{laid}

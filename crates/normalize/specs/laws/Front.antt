@@ -8,7 +8,7 @@ use lib.ListN.{length}
 use Rattle.cqf.specs.Plan.{Plan, validPlan}
 use Rattle.plan_reading.specs.Reading.{maxBytes}
 use Rattle.plan_reading.specs.Saved.{savedBytes}
-use Rattle.plan_reading.specs.laws.SavedLength.{saved-length}
+use Rattle.plan_reading.specs.laws.saved.SavedLength.{saved-length}
 use Rattle.writing.specs.laws.Laid.{over-length}
 use Rattle.loading.specs.Outcome.{Answer, result, refusal}
 use Rattle.questions.specs.Save.{saveAnswer, saveLeaves}

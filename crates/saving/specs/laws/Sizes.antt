@@ -17,7 +17,7 @@ use Rattle.plan.specs.Field.{portSize, flowSize, extraSize, jitterSize}
 use Rattle.plan_reading.specs.Strict.{Entry}
 use Rattle.plan_reading.specs.FieldBytes.{valueOf, bytesOf, rowBytes}
 use Rattle.plan_reading.specs.Saved.{when, collect, portField, flowField, extraField, jitterField}
-use Rattle.plan_reading.specs.laws.Decoded.{ports-length}
+use Rattle.plan_reading.specs.laws.fields.Decoded.{ports-length}
 use Rattle.tables.specs.Columns.{columns}
 use Rattle.saving.specs.declared.kind.Kind.{Kind}
 use Rattle.saving.specs.Slots.{slotsOf, fieldsOf, slotBytes, slotSize, SlotsInRange}

@@ -9,7 +9,7 @@ use Rattle.cqf.specs.Limits.{maxHops}
 use Rattle.plan.specs.Bytes.{headSize}
 use Rattle.plan.specs.Field.{flow, flowSize}
 use Rattle.plan_reading.specs.FieldBytes.{valueOf, bytesOf}
-use Rattle.plan_reading.specs.laws.Decoded.{ports-length}
+use Rattle.plan_reading.specs.laws.fields.Decoded.{ports-length}
 use Rattle.writing.specs.Fields.{flowBytes}
 
 module _ (n period count bytes : ℕ) (r : List ℕ) where

@@ -7,7 +7,7 @@ use native.Mathlib.Numerals.{add-one}
 use lib.ListN.{length, getD, take, length-take}
 use lib.Seq.{take-suc}
 use Rattle.plan_reading.specs.FieldBytes.{bytes2, bytes2s}
-use Rattle.plan_reading.specs.laws.Decoded.{ports-length}
+use Rattle.plan_reading.specs.laws.fields.Decoded.{ports-length}
 
 route-more : (r t : List ℕ) → bytes2s (r ++ t) ≡ bytes2s r ++ bytes2s t
 unfolding bytes2s

@@ -3,7 +3,7 @@ use mathlib.Core.Path.{sym, ap, _∙_}
 use denote.Ref.{now}
 use Rattle.plan_reading.specs.Draft.{Draft}
 use Rattle.plan.specs.Answer.{fieldReadOf}
-use Rattle.plan_reading.specs.laws.Steps.{step-refused}
+use Rattle.plan_reading.specs.laws.reading.Steps.{step-refused}
 use Rattle.loading.specs.Answer.{modeOf}
 use Rattle.loading.specs.Loading.{draftOf}
 use borrow.Author.Needs.{needs}

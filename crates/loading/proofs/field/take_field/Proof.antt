@@ -10,10 +10,10 @@ use Rattle.plan_reading.specs.Draft.{Draft, taken, fieldRepeats, added}
 use Rattle.plan_reading.specs.Reading.{more, routeAt, late}
 use Rattle.plan.specs.Answer.{fieldOf}
 use Rattle.plan.specs.laws.Whole.{part-whole}
-use Rattle.plan_reading.specs.laws.Passes.{field-is-whole}
-use Rattle.plan_reading.specs.laws.Found.{found-numbers, found-route}
-use Rattle.plan_reading.specs.laws.Kinds.{key-below}
-use Rattle.plan_reading.specs.laws.Steps.{step-taken, step-late, step-repeats, step-added}
+use Rattle.plan_reading.specs.laws.fields.Passes.{field-is-whole}
+use Rattle.plan_reading.specs.laws.fields.Found.{found-numbers, found-route}
+use Rattle.plan_reading.specs.laws.fields.Kinds.{key-below}
+use Rattle.plan_reading.specs.laws.reading.Steps.{step-taken, step-late, step-repeats, step-added}
 use Rattle.loading.specs.Answer.{modeOf}
 use Rattle.loading.specs.Loading.{draftOf}
 use borrow.Author.Needs.{needs}

@@ -2,7 +2,7 @@
 use mathlib.Core.Path.{sym, _∙_}
 use borrow.Author.Needs.{needs}
 use denote.Ref.{now}
-use Rattle.plan_reading.specs.laws.Absent.{first-route, first-jitter, first-extra}
+use Rattle.plan_reading.specs.laws.reading.Absent.{first-route, first-jitter, first-extra}
 use Rattle.loading.proofs.first.first_absent.Statement.{statement}
 use Rattle.loading.proofs.first.first_absent.Tie as tie
 

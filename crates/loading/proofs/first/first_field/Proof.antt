@@ -12,7 +12,7 @@ use Rattle.plan.specs.Field.{head, headAt}
 use Rattle.plan.specs.Answer.{headOf}
 use Rattle.plan_reading.specs.Reading.{firstFrom, firstField}
 use Rattle.plan.specs.laws.Whole.{read-whole, read-tag, read-size, read-fits, read-cut}
-use Rattle.plan_reading.specs.laws.First.{first-cut, first-here, first-past}
+use Rattle.plan_reading.specs.laws.reading.First.{first-cut, first-here, first-past}
 use Rattle.loading.specs.Loading.{soughtIn}
 use Rattle.loading.proofs.first.first_field.Statement.{statement}
 use Rattle.loading.proofs.first.first_field.Tie as tie

@@ -6,7 +6,7 @@ use borrow.Author.Needs.{needs}
 use borrow.Author.Tests.{not-true, not-false}
 use Rattle.cqf.specs.Limits.{portSlots, portOk}
 use Rattle.cqf.specs.laws.Route.{rate-at}
-use Rattle.plan_reading.specs.laws.Within.{within-low, slot-below}
+use Rattle.plan_reading.specs.laws.fields.Within.{within-low, slot-below}
 use Rattle.loading.proofs.first.has_port.Statement.{statement}
 use Rattle.loading.proofs.first.has_port.Tie as tie
 

@@ -2,7 +2,7 @@
 use mathlib.Core.Path.{sym, _∙_}
 use denote.Ref.{now}
 use Rattle.plan.specs.laws.Whole.{part-whole}
-use Rattle.plan_reading.specs.laws.Absent.{absent-steady, absent-jitter}
+use Rattle.plan_reading.specs.laws.reading.Absent.{absent-steady, absent-jitter}
 use borrow.Author.Needs.{needs}
 use Rattle.loading.proofs.first.jitter_absent.Statement.{statement}
 use Rattle.loading.proofs.first.jitter_absent.Tie as tie

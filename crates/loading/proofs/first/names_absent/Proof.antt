@@ -3,7 +3,7 @@ use mathlib.Core.Path.{sym, _∙_}
 use denote.Ref.{now}
 use Rattle.plan.specs.Field.{routeIn}
 use Rattle.plan.specs.laws.Whole.{part-whole}
-use Rattle.plan_reading.specs.laws.Absent.{absent-other, absent-flow}
+use Rattle.plan_reading.specs.laws.reading.Absent.{absent-other, absent-flow}
 use borrow.Author.Needs.{needs}
 use Rattle.loading.proofs.first.names_absent.Statement.{statement}
 use Rattle.loading.proofs.first.names_absent.Tie as tie

@@ -11,7 +11,7 @@ use Rattle.cqf.specs.Plan.{Plan}
 use Rattle.plan_reading.specs.Key.{headerKey}
 use Rattle.plan_reading.specs.Draft.{Draft, hasKey}
 use Rattle.plan_reading.specs.Reading.{firstAbsent}
-use Rattle.plan_reading.specs.laws.Closing.{close-headless, close-flowless, close-absent, close-accepted}
+use Rattle.plan_reading.specs.laws.reading.Closing.{close-headless, close-flowless, close-absent, close-accepted}
 use borrow.Author.Needs.{needs}
 use Rattle.loading.proofs.reading.close.Statement.{statement}
 use Rattle.loading.proofs.reading.close.Tie as tie

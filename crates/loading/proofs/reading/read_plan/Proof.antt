@@ -12,9 +12,9 @@ use Rattle.cqf.specs.Bounded.{within}
 use Rattle.cqf.specs.Plan.{noPlan}
 use Rattle.plan_reading.specs.Draft.{Draft, blank}
 use Rattle.plan_reading.specs.Reading.{Mode, Step, more, stepAt, readFrom, readAs, maxBytes}
-use Rattle.plan_reading.specs.laws.PlanLength.{read-sized, read-unsized}
-use Rattle.plan_reading.specs.laws.Within.{within-high}
-use Rattle.plan_reading.specs.laws.Onward.{Onward, onward, read-end, read-stop, read-more}
+use Rattle.plan_reading.specs.laws.reading.PlanLength.{read-sized, read-unsized}
+use Rattle.plan_reading.specs.laws.fields.Within.{within-high}
+use Rattle.plan_reading.specs.laws.reading.Onward.{Onward, onward, read-end, read-stop, read-more}
 use Rattle.tables.specs.Tables.{planOf}
 use Rattle.loading.specs.laws.Load.{refused-leaves, refused-answer, accepted-leaves, accepted-answer}
 use Rattle.loading.specs.Answer.{modeOf}

@@ -2,7 +2,7 @@
 use native.Mathlib.Omega.{arith}
 use borrow.Author.Needs.{needs}
 use Rattle.cqf.specs.Limits.{portSlots, maxExtra}
-use Rattle.plan_reading.specs.laws.Within.{within-low, within-high, slot-below}
+use Rattle.plan_reading.specs.laws.fields.Within.{within-low, within-high, slot-below}
 use Rattle.loading.proofs.store.store_extra.Statement.{statement}
 use Rattle.loading.proofs.store.store_extra.Tie as tie
 

@@ -15,7 +15,7 @@ use Rattle.plan_reading.specs.Key.{keyOf}
 use Rattle.plan_reading.specs.Store.{store}
 use Rattle.plan_reading.specs.Draft.{Draft, added}
 use Rattle.plan.specs.Answer.{fieldOf}
-use Rattle.plan_reading.specs.laws.Kinds.{key-below}
+use Rattle.plan_reading.specs.laws.fields.Kinds.{key-below}
 use Rattle.loading.specs.Loading.{draftOf}
 use borrow.Author.Needs.{needs}
 use Rattle.loading.proofs.store.store_field.Statement.{statement}

@@ -1,6 +1,6 @@
 -- `store_flow` meets its contract.
 use Rattle.cqf.specs.Limits.{flowSlots}
-use Rattle.plan_reading.specs.laws.Within.{within-low, slot-below, sublist-below}
+use Rattle.plan_reading.specs.laws.fields.Within.{within-low, slot-below, sublist-below}
 use borrow.Author.Needs.{needs}
 use Rattle.loading.proofs.store.store_flow.Statement.{statement}
 use Rattle.loading.proofs.store.store_flow.Tie as tie

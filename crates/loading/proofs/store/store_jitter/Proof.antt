@@ -2,7 +2,7 @@
 use native.Mathlib.Omega.{arith}
 use borrow.Author.Needs.{needs}
 use Rattle.cqf.specs.Limits.{flowSlots}
-use Rattle.plan_reading.specs.laws.Within.{within-low, within-high}
+use Rattle.plan_reading.specs.laws.fields.Within.{within-low, within-high}
 use Rattle.loading.proofs.store.store_jitter.Statement.{statement}
 use Rattle.loading.proofs.store.store_jitter.Tie as tie
 

@@ -1,7 +1,7 @@
 -- `store_port` meets its contract.
 use borrow.Author.Needs.{needs}
 use Rattle.cqf.specs.Limits.{portSlots}
-use Rattle.plan_reading.specs.laws.Within.{within-low, slot-below}
+use Rattle.plan_reading.specs.laws.fields.Within.{within-low, slot-below}
 use Rattle.loading.proofs.store.store_port.Statement.{statement}
 use Rattle.loading.proofs.store.store_port.Tie as tie
 

@@ -9,7 +9,7 @@ use denote.Ref.{now}
 use Rattle.cqf.specs.Limits.{portSlots, portOk}
 use Rattle.cqf.specs.laws.Lists.{every-at}
 use Rattle.plan.specs.Field.{routePorts, routePort}
-use Rattle.plan_reading.specs.laws.Within.{within-high}
+use Rattle.plan_reading.specs.laws.fields.Within.{within-high}
 use Rattle.loading.specs.laws.Copy.{sets-take}
 use Rattle.loading.proofs.store.store_route.Statement.{statement}
 use Rattle.loading.proofs.store.store_route.Tie as tie

@@ -13,7 +13,7 @@ use Rattle.cqf.specs.Limits.{portSlots, maxTop, portOk, mostStretch}
 use Rattle.cqf.specs.Plan.{Plan, rateOf, blockingOf, extraOf, validPlan}
 use Rattle.cqf.specs.Condition.{stretchBy, demand}
 use Rattle.cqf.specs.laws.Ranges.{top-most, extra-most}
-use Rattle.plan_reading.specs.laws.Within.{within-low, within-high, slot-below}
+use Rattle.plan_reading.specs.laws.fields.Within.{within-low, within-high, slot-below}
 use Rattle.numbers.specs.Clock.{clockOf}
 use Rattle.tables.specs.Columns.{planBy}
 use Rattle.loading.specs.Outcome.{result}

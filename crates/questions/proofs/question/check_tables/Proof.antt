@@ -6,7 +6,7 @@ use borrow.Author.Tests.{not-true, not-false}
 use Rattle.cqf.specs.Bounded.{within}
 use Rattle.cqf.specs.Plan.{Plan, validPlan}
 use Rattle.cqf.specs.Condition.{failing}
-use Rattle.plan_reading.specs.laws.Within.{within-low, within-high}
+use Rattle.plan_reading.specs.laws.fields.Within.{within-low, within-high}
 use Rattle.numbers.specs.Clock.{clockOf}
 use Rattle.tables.specs.Columns.{planBy}
 use Rattle.questions.specs.laws.Topped.{topped-valid, topped-failing, topped-lowest}

@@ -8,7 +8,7 @@ use denote.Ref.{now}
 use lib.ListN.{length}
 use Rattle.plan.specs.Field.{flowTag, flowSize}
 use Rattle.plan_reading.specs.FieldBytes.{bytes2, bytes4, bytes2s, valueOf, bytesOf}
-use Rattle.plan_reading.specs.laws.Decoded.{ports-length}
+use Rattle.plan_reading.specs.laws.fields.Decoded.{ports-length}
 use Rattle.writing.specs.Laid.{over, laid}
 use Rattle.writing.specs.Fields.{headBytes, flowBytes}
 use Rattle.writing.specs.laws.Laid.{laid-over, laid-short, laid-none, lay-next}

@@ -8,7 +8,7 @@ use denote.Ref.{now}
 use lib.ListN.{length, getD, take}
 use lib.Seq.{take-all}
 use Rattle.plan_reading.specs.FieldBytes.{bytes2, bytes2s}
-use Rattle.plan_reading.specs.laws.Decoded.{ports-length}
+use Rattle.plan_reading.specs.laws.fields.Decoded.{ports-length}
 use Rattle.writing.specs.Laid.{over}
 use Rattle.writing.specs.laws.Laid.{laid-over, laid-short, over-length, lay-next}
 use Rattle.writing.specs.laws.Route.{front-length, route-next}

@@ -1,0 +1,104 @@
+-- Keys rise with tags and numbers. They are given out tag after tag, to each as many as it has numbers.
+use Prim.Native.Nat.{ℕ, zero, suc, _+_, _≤_, _<_}
+use mathlib.Core.Path.{_≡_, refl, sym}
+use mathlib.Core.Bool.{Bool, true, false, cond, _&&_, _||_}
+use native.Mathlib.Omega.{arith}
+use borrow.Author.Tests.{lt-ltb, le-ltb, ltb-true, ltb-false, eqb-true, eqb-false}
+use lib.Dec.{ltb, eqb}
+use Rattle.cqf.specs.Limits.{portSlots, flowSlots}
+use Rattle.plan.specs.Field.{Field, header, port, flow, extra, jitter, clock, headerTag, portTag, flowTag, extraTag, jitterTag, clockTag}
+use Rattle.plan_reading.specs.Key.{keyOf}
+use Rattle.plan_reading.specs.Rank.{tagOf, numberOf, before}
+use Rattle.plan_reading.specs.Ranges.{NumbersOk}
+use Rattle.plan_reading.specs.laws.fields.Within.{within-low, within-high}
+
+-- the first number that a tag has, and how many it has
+unfoldable firstNumber : ℕ → ℕ
+firstNumber tag = cond (eqb tag headerTag || eqb tag clockTag) 0 1
+
+unfoldable numbers : ℕ → ℕ
+numbers tag =
+    cond (eqb tag headerTag) 1
+    (cond (eqb tag portTag) portSlots
+    (cond (eqb tag flowTag) flowSlots
+    (cond (eqb tag extraTag) portSlots
+    (cond (eqb tag jitterTag) flowSlots
+    (cond (eqb tag clockTag) 1
+    0)))))
+
+-- the first key of a tag
+unfoldable firstKey : ℕ → ℕ
+unfolding numbers
+firstKey zero = 0
+firstKey (suc tag) = firstKey tag + numbers tag
+
+-- the keys of a tag come after those of the tags before it
+keys-rise : (low high : ℕ) → low ≤ high → firstKey low ≤ firstKey high
+unfolding firstKey
+keys-rise low zero h = let e : low ≡ 0 = omega arith in rw e (omega arith)
+keys-rise low (suc high) h = go (keys-rise low high) (ltb high low) refl
+  where
+    go : (low ≤ high → firstKey low ≤ firstKey high) → (b : Bool) → ltb high low ≡ b → firstKey low ≤ firstKey (suc high)
+    go rest true e = let same : low ≡ suc high = omega (arith, ltb-true high low e) in rw same (omega arith)
+    go rest false e = omega (arith, rest (ltb-false high low e))
+
+-- a field has the key of its number among those of its tag
+record Keyed (x : Field) : Type 0 where
+  numbered : firstNumber (tagOf x) ≤ numberOf x
+  placed : keyOf x + firstNumber (tagOf x) ≡ firstKey (tagOf x) + numberOf x
+  fits : keyOf x < firstKey (suc (tagOf x))
+
+keyed : (x : Field) → NumbersOk x → Keyed x
+unfolding firstNumber numbers firstKey
+keyed (header g t) k = record { numbered = omega arith; placed = refl; fits = omega arith }
+keyed (port n r b) k =
+    let low = within-low _ _ n (k .number) in
+    record { numbered = low; placed = omega arith; fits = omega (arith, within-high _ _ n (k .number)) }
+keyed (flow n p c l h) k =
+    let low = within-low _ _ n (k .number) in
+    record { numbered = low; placed = omega arith; fits = omega (arith, within-high _ _ n (k .number)) }
+keyed (extra n b) k =
+    let low = within-low _ _ n (k .number) in
+    record { numbered = low; placed = omega arith; fits = omega (arith, within-high _ _ n (k .number)) }
+keyed (jitter n j) k =
+    let low = within-low _ _ n (k .number) in
+    record { numbered = low; placed = omega arith; fits = omega (arith, within-high _ _ n (k .number)) }
+keyed (clock c) k = record { numbered = omega arith; placed = refl; fits = omega arith }
+
+-- x is due before y exactly when its key is the lower
+pub before-key : (x y : Field) → NumbersOk x → NumbersOk y → before x y ≡ ltb (keyOf x) (keyOf y)
+before-key x y k m = tags (ltb (tagOf x) (tagOf y)) refl (eqb (tagOf x) (tagOf y)) refl
+  where
+    a : Keyed x
+    a = keyed x k
+
+    b : Keyed y
+    b = keyed y m
+
+    -- the key of a field is none before the first of its tag
+    lowest : firstKey (tagOf y) ≤ keyOf y
+    lowest = omega (arith, b .numbered, b .placed)
+
+    lower : firstKey (tagOf x) ≤ keyOf x
+    lower = omega (arith, a .numbered, a .placed)
+
+    same : tagOf x ≡ tagOf y → (c : Bool) → ltb (numberOf x) (numberOf y) ≡ c → c ≡ ltb (keyOf x) (keyOf y)
+    same e true h =
+        let p : keyOf x + firstNumber (tagOf y) ≡ firstKey (tagOf y) + numberOf x = rw e at (a .placed) in
+        sym (lt-ltb (keyOf x) (keyOf y) (omega (arith, ltb-true (numberOf x) (numberOf y) h, b .placed)))
+    same e false h =
+        let p : keyOf x + firstNumber (tagOf y) ≡ firstKey (tagOf y) + numberOf x = rw e at (a .placed) in
+        sym (le-ltb (keyOf x) (keyOf y) (omega (arith, ltb-false (numberOf x) (numberOf y) h, b .placed)))
+
+    tags
+        : (c : Bool) → ltb (tagOf x) (tagOf y) ≡ c
+        → (e : Bool) → eqb (tagOf x) (tagOf y) ≡ e
+        → c || (e && ltb (numberOf x) (numberOf y)) ≡ ltb (keyOf x) (keyOf y)
+    tags true h e g =
+        let up = keys-rise (suc (tagOf x)) (tagOf y) (ltb-true (tagOf x) (tagOf y) h) in
+        sym (lt-ltb (keyOf x) (keyOf y) (omega (arith, up, a .fits, lowest)))
+    tags false h true g = same (eqb-true _ _ g) (ltb (numberOf x) (numberOf y)) refl
+    tags false h false g =
+        let apart = eqb-false (tagOf x) (tagOf y) g in
+        let up = keys-rise (suc (tagOf y)) (tagOf x) (omega (arith, ltb-false (tagOf x) (tagOf y) h, apart)) in
+        sym (le-ltb (keyOf x) (keyOf y) (omega (arith, up, b .fits, lower)))

@@ -1,0 +1,88 @@
+-- Laws of a plan's fields as they are read: where they stand in order their keys rise, and the strict reading finds just that.
+use Prim.Native.Nat.{ℕ, zero, suc, _≤_, _<_}
+use mathlib.Core.Path.{_≡_, refl, sym, _∙_}
+use mathlib.Core.List.{List, [], _∷_}
+use mathlib.Core.Bool.{true, and-eq-true-iff}
+use native.Mathlib.Omega.{arith}
+use borrow.Author.Tests.{lt-ltb, ltb-true}
+use Rattle.plan.specs.Field.{Field, FieldRead, field, refused, fieldAt}
+use Rattle.plan_reading.specs.Key.{keyOf}
+use Rattle.plan_reading.specs.Rank.{before}
+use Rattle.plan_reading.specs.Ranges.{NumbersOk}
+use Rattle.plan_reading.specs.Reading.{routeAt}
+use Rattle.plan_reading.specs.Strict.{Entry, entryOf, fieldsFrom, ahead, rising}
+use Rattle.plan_reading.specs.laws.fields.Found.{found-numbers}
+use Rattle.plan_reading.specs.laws.order.Ranks.{before-key}
+
+-- the fields of a plan, one by one
+pub row-refused : (n : ℕ) (s : List ℕ) (at k o : ℕ) → fieldAt s at ≡ refused k o → fieldsFrom n s at ≡ []
+unfolding fieldsFrom
+row-refused zero s at k o e = refl
+row-refused (suc n) s at k o e = rw (e, fieldsFrom)
+
+pub row-field
+    : (n : ℕ) (s : List ℕ) (at : ℕ) (x : Field) (next : ℕ)
+    → fieldAt s at ≡ field x next
+    → fieldsFrom (suc n) s at ≡ entryOf x (routeAt s at) ∷ fieldsFrom n s next
+unfolding fieldsFrom
+row-field n s at x next e = rw (e, fieldsFrom)
+
+-- fields in range whose keys rise from this one on
+pub data Ascends : ℕ → List Entry → Type 0 where
+  none : {least : ℕ} → Ascends least []
+  next
+      : {least : ℕ} {e : Entry} {es : List Entry}
+      → NumbersOk (e .part)
+      → least ≤ keyOf (e .part)
+      → Ascends (suc (keyOf (e .part))) es
+      → Ascends least (e ∷ es)
+
+-- each of them stands before all that follow it
+ascends-ahead : (x : Field) {least : ℕ} {es : List Entry} → NumbersOk x → keyOf x < least → Ascends least es → ahead x es ≡ true
+unfolding ahead
+ascends-ahead x k below none = refl
+ascends-ahead x k below (next {e = e} m low rest) =
+    rw (before-key x (e .part) k m, lt-ltb (keyOf x) (keyOf (e .part)) (omega arith)) (ascends-ahead x k (omega arith) rest)
+
+pub ascends-rising : {least : ℕ} {es : List Entry} → Ascends least es → rising es ≡ true
+unfolding rising
+ascends-rising none = refl
+ascends-rising (next {e = e} m low rest) = rw (ascends-ahead (e .part) m (omega arith) rest) (ascends-rising rest)
+
+-- and where each does, their keys rise
+data Ranged : List Entry → Type 0 where
+  none : Ranged []
+  next : {e : Entry} {es : List Entry} → NumbersOk (e .part) → Ranged es → Ranged (e ∷ es)
+
+ranged : (n : ℕ) (s : List ℕ) (at : ℕ) → Ranged (fieldsFrom n s at)
+unfolding fieldsFrom
+ranged zero s at = none
+ranged (suc n) s at = go (ranged n s) (fieldAt s at) refl
+  where
+    go : ((next : ℕ) → Ranged (fieldsFrom n s next)) → (r : FieldRead) → fieldAt s at ≡ r → Ranged (fieldsFrom (suc n) s at)
+    go rest (refused k o) e = rw (row-refused (suc n) s at k o e) none
+    go rest (field x after) e = rw (row-field n s at x after e) (next (found-numbers s at x after e) (rest after))
+
+abbrev From : ℕ → List Entry → Type 0
+From least [] = Unit {0}
+From least (e ∷ es) = least ≤ keyOf (e .part)
+
+rising-ascends : (least : ℕ) {es : List Entry} → Ranged es → From least es → rising es ≡ true → Ascends least es
+unfolding rising ahead
+rising-ascends least none from up = none
+rising-ascends least (next {e = e} {es = es} k rest) from up =
+    let t = and-eq-true-iff (ahead (e .part) es) (rising es) .0 up in
+    next k from (rising-ascends (suc (keyOf (e .part))) rest (after es rest (t .0)) (t .1))
+  where
+    after : (es : List Entry) → Ranged es → ahead (e .part) es ≡ true → From (suc (keyOf (e .part))) es
+    after [] r a = tt
+    after (f ∷ fs) (next m r) a =
+        let b = and-eq-true-iff (before (e .part) (f .part)) (ahead (e .part) fs) .0 a .0 in
+        ltb-true (keyOf (e .part)) (keyOf (f .part)) (sym (before-key (e .part) (f .part) k m) ∙ b)
+
+pub rising-from : (n : ℕ) (s : List ℕ) (at : ℕ) → rising (fieldsFrom n s at) ≡ true → Ascends 0 (fieldsFrom n s at)
+rising-from n s at = rising-ascends 0 (ranged n s at) (any (fieldsFrom n s at))
+  where
+    any : (es : List Entry) → From 0 es
+    any [] = tt
+    any (e ∷ es) = omega arith

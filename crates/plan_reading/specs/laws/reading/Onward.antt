@@ -1,0 +1,130 @@
+-- Laws of the reading, field after field: a step that goes on reaches a later offset, and the plan's length is enough for all steps.
+use Prim.Native.Nat.{ℕ, zero, suc, _+_, _≤_, _<_}
+use mathlib.Core.Path.{_≡_, refl, sym, ap, _∙_}
+use mathlib.Core.List.{List}
+use mathlib.Core.Bool.{Bool, true, false}
+use native.Mathlib.Omega.{arith}
+use borrow.Author.Tests.{lt-ltb, le-ltb, ltb-true, ltb-false}
+use lib.Dec.{ltb}
+use lib.ListN.{length}
+use Rattle.plan.specs.Bytes.{headSize}
+use Rattle.plan.specs.Field.{Field, header, port, flow, extra, jitter, clock}
+use Rattle.plan_reading.specs.Draft.{Draft, added, portsIn, flowsIn}
+use Rattle.plan_reading.specs.Reading.{rejected, Mode, Step, stop, more, stepAt, closing, readFrom}
+use Rattle.plan_reading.specs.laws.fields.Found.{found-forward, found-within}
+use Rattle.plan_reading.specs.laws.reading.Steps.{step-more}
+
+-- a step that goes on reaches a later offset within the plan, and has counted one field more at the most
+pub record Onward (s : List ℕ) (at : ℕ) (d : Draft) (next : ℕ) (d′ : Draft) : Type 0 where
+  pub forward : at + headSize ≤ next
+  pub inside : next ≤ length s
+  pub ports : d′ .ports ≤ d .ports + 1
+  pub flows : d′ .flows ≤ d .flows + 1
+
+-- a field adds one of a kind at the most
+pub portsIn-one : (x : Field) → portsIn x ≤ 1
+portsIn-one (header g t) = omega arith
+portsIn-one (port n r b) = omega arith
+portsIn-one (flow n p c l h) = omega arith
+portsIn-one (extra n b) = omega arith
+portsIn-one (jitter n j) = omega arith
+portsIn-one (clock c) = omega arith
+
+pub flowsIn-one : (x : Field) → flowsIn x ≤ 1
+flowsIn-one (header g t) = omega arith
+flowsIn-one (port n r b) = omega arith
+flowsIn-one (flow n p c l h) = omega arith
+flowsIn-one (extra n b) = omega arith
+flowsIn-one (jitter n j) = omega arith
+flowsIn-one (clock c) = omega arith
+
+pub onward
+    : (mode : Mode) (s : List ℕ) (at last : ℕ) (d : Draft) (next key : ℕ) (d′ : Draft)
+    → stepAt mode s at last d ≡ more next key d′
+    → Onward s at d next d′
+unfolding added
+onward mode s at last d next key d′ e =
+    let t = step-more mode s at last d next key d′ e in
+    let ep : d .ports + portsIn (t .part) ≡ d′ .ports = ap (λ (y : Draft). y .ports) (t .adds) in
+    let ef : d .flows + flowsIn (t .part) ≡ d′ .flows = ap (λ (y : Draft). y .flows) (t .adds) in
+    record {
+      forward = found-forward s at (t .part) next (t .stands);
+      inside = found-within s at (t .part) next (t .stands);
+      ports = omega (arith, portsIn-one (t .part));
+      flows = omega (arith, flowsIn-one (t .part));
+    }
+
+module _ (mode : Mode) (s : List ℕ) (at last : ℕ) (d : Draft) where
+  -- at the plan's end, whatever number of steps is left
+  pub read-end : (n : ℕ) → length s ≤ at → readFrom mode n s at last d ≡ closing s d
+  unfolding readFrom
+  read-end zero h = refl
+  read-end (suc n) h = rw (le-ltb at (length s) h, readFrom)
+
+  pub stop-one
+      : (n : ℕ) (k o : ℕ)
+      → at < length s
+      → stepAt mode s at last d ≡ stop k o
+      → readFrom mode (suc n) s at last d ≡ rejected k o
+  unfolding readFrom
+  stop-one n k o h e = rw (lt-ltb at (length s) h, e, readFrom)
+
+  pub more-one
+      : (n : ℕ) (next key : ℕ) (d′ : Draft)
+      → at < length s
+      → stepAt mode s at last d ≡ more next key d′
+      → readFrom mode (suc n) s at last d ≡ readFrom mode n s next key d′
+  unfolding readFrom
+  more-one n next key d′ h e = rw (lt-ltb at (length s) h, e, readFrom)
+
+-- any number of steps that is no less than the bytes left gives the same reading
+pub read-enough
+    : (mode : Mode) (n m : ℕ) (s : List ℕ) (at last : ℕ) (d : Draft)
+    → length s ≤ at + n
+    → length s ≤ at + m
+    → readFrom mode n s at last d ≡ readFrom mode m s at last d
+read-enough mode zero m s at last d h g =
+    read-end mode s at last d zero (omega arith) ∙ sym (read-end mode s at last d m (omega arith))
+read-enough mode (suc n) zero s at last d h g =
+    read-end mode s at last d (suc n) (omega arith) ∙ sym (read-end mode s at last d zero (omega arith))
+read-enough mode (suc n) (suc m) s at last d h g = by-end (λ next key d′. read-enough mode n m s next key d′) (ltb at (length s)) refl
+  where
+    Rest : Type 0
+    Rest =
+        (next key : ℕ) (d′ : Draft)
+        → length s ≤ next + n
+        → length s ≤ next + m
+        → readFrom mode n s next key d′ ≡ readFrom mode m s next key d′
+
+    by-step
+        : Rest
+        → (r : Step)
+        → stepAt mode s at last d ≡ r
+        → at < length s
+        → readFrom mode (suc n) s at last d ≡ readFrom mode (suc m) s at last d
+    by-step rest (stop k o) e l = stop-one mode s at last d n k o l e ∙ sym (stop-one mode s at last d m k o l e)
+    by-step rest (more next key d′) e l =
+        let f = onward mode s at last d next key d′ e in
+        more-one mode s at last d n next key d′ l e
+        ∙ rest next key d′ (omega (arith, f .forward)) (omega (arith, f .forward))
+        ∙ sym (more-one mode s at last d m next key d′ l e)
+
+    by-end : Rest → (b : Bool) → ltb at (length s) ≡ b → readFrom mode (suc n) s at last d ≡ readFrom mode (suc m) s at last d
+    by-end rest true e = by-step rest (stepAt mode s at last d) refl (ltb-true _ _ e)
+    by-end rest false e =
+        read-end mode s at last d (suc n) (ltb-false _ _ e) ∙ sym (read-end mode s at last d (suc m) (ltb-false _ _ e))
+
+-- one field, with the plan's length as the bound throughout
+module _ (mode : Mode) (s : List ℕ) (at last : ℕ) (d : Draft) (l : at < length s) where
+  pub read-stop : (k o : ℕ) → stepAt mode s at last d ≡ stop k o → readFrom mode (length s) s at last d ≡ rejected k o
+  read-stop k o e =
+      read-enough mode (length s) (suc (length s)) s at last d (omega arith) (omega arith)
+      ∙ stop-one mode s at last d (length s) k o l e
+
+  pub read-more
+      : (next key : ℕ) (d′ : Draft)
+      → stepAt mode s at last d ≡ more next key d′
+      → readFrom mode (length s) s at last d ≡ readFrom mode (length s) s next key d′
+  read-more next key d′ e =
+      read-enough mode (length s) (suc (length s)) s at last d (omega arith) (omega arith)
+      ∙ more-one mode s at last d (length s) next key d′ l e

@@ -1,0 +1,171 @@
+-- Where the reading refuses: a field's own refusals are at its tag, those of the whole plan come last.
+use Prim.Native.Nat.{ℕ, zero, suc, _+_, _*_, _≤_, _<_}
+use mathlib.Core.Path.{_≡_, refl, sym, _∙_}
+use mathlib.Core.List.{List}
+use mathlib.Core.Bool.{Bool, true, false, cond, not, _&&_, _||_}
+use native.Mathlib.Omega.{arith}
+use borrow.Author.Tests.{lt-leb, le-ltb, ltb-true, ltb-false}
+use lib.Dec.{leb, ltb, eqb}
+use lib.ListN.{length}
+use Rattle.cqf.specs.Bounded.{every}
+use Rattle.cqf.specs.Limits.{guardOk, topOk, portOk, rateOk, lengthOk, blockingOk, extraOk, flowOk, periodOk, countOk, jitterOk, hopsOk}
+use Rattle.cqf.specs.Plan.{clockOk}
+use Rattle.plan.specs.Bytes.{number2, number4, headSize, tagAt, sizeAt, wholeAt, valueAt}
+use Rattle.plan.specs.Field.{Field, FieldRead, field, refused, unless, headerTag, portTag, flowTag, extraTag, jitterTag, clockTag, headerSize, portSize, flowSize, extraSize, jitterSize, clockSize, hopsIn, routeIn, headerIn, portInValue, flowIn, extraIn, jitterIn, clockNumbers, clockIn, fieldIn, fieldAt}
+use Rattle.plan_reading.specs.Key.{headerKey, keyOf}
+use Rattle.plan_reading.specs.Draft.{Draft, hasKey, taken, fieldRepeats, added}
+use Rattle.plan_reading.specs.Reading.{accepted, rejected, Mode, Step, stop, more, routeAt, late, fieldStep, stepAt, firstAbsent, closing, readFrom}
+use Rattle.plan_reading.specs.Strict.{foundBefore}
+use Rattle.plan_reading.specs.laws.reading.Onward.{onward, read-end, stop-one, more-one}
+
+-- a refusal by the tests 2 to 6 of the field at this offset
+pub record Here (at number offset : ℕ) : Type 0 where
+  pub early : number ≤ 6
+  pub place : offset ≡ at
+
+-- the tests 4 and 5 of a value
+tested
+    : (at : ℕ) (four five : Bool) (x : Field) (next : ℕ) {k o : ℕ}
+    → unless 4 at four (unless 5 at five (field x next)) ≡ refused k o
+    → Here at k o
+tested at false five x next {k} e = let same : _≡_ {A = ℕ} 4 k = cc in record { early = omega arith; place = cc }
+tested at true false x next {k} e = let same : _≡_ {A = ℕ} 5 k = cc in record { early = omega arith; place = cc }
+tested at true true x next e = let z : _≡_ {A = ℕ} 0 1 = cc in absurd (omega arith)
+
+-- the tag that is tested decides, or the tests of the tags after it do
+by-tag
+    : {A : Type 0} (tag kind : ℕ) (here rest : FieldRead) {r : FieldRead}
+    → (here ≡ r → A)
+    → (rest ≡ r → A)
+    → cond (eqb tag kind) here rest ≡ r
+    → A
+by-tag {A} tag kind here rest {r} is other = go (eqb tag kind)
+  where
+    go : (b : Bool) → cond b here rest ≡ r → A
+    go true e = is e
+    go false e = other e
+
+module _ (v : List ℕ) (at next : ℕ) {k o : ℕ} where
+  header-refused : headerIn v at next ≡ refused k o → Here at k o
+  unfolding headerIn
+  header-refused = tested at (eqb (length v) headerSize) (guardOk (number4 v 0) && topOk (number4 v 4)) _ next
+
+  port-refused : portInValue v at next ≡ refused k o → Here at k o
+  unfolding portInValue
+  port-refused =
+      tested at (eqb (length v) portSize) (portOk (number2 v 0) && rateOk (number4 v 2) && blockingOk (number2 v 6)) _ next
+
+  flow-refused : flowIn v at next ≡ refused k o → Here at k o
+  unfolding flowIn
+  flow-refused =
+      tested at (hopsOk (hopsIn (length v)) && eqb (length v) (flowSize + 2 * hopsIn (length v)))
+      (flowOk (number2 v 0) && periodOk (number4 v 2) && countOk (number2 v 6) && lengthOk (number2 v 8) && every portOk (routeIn v))
+      _ next
+
+  extra-refused : extraIn v at next ≡ refused k o → Here at k o
+  unfolding extraIn
+  extra-refused = tested at (eqb (length v) extraSize) (portOk (number2 v 0) && extraOk (number2 v 2)) _ next
+
+  jitter-refused : jitterIn v at next ≡ refused k o → Here at k o
+  unfolding jitterIn
+  jitter-refused = tested at (eqb (length v) jitterSize) (flowOk (number2 v 0) && jitterOk (number4 v 2)) _ next
+
+  clock-refused : clockIn v at next ≡ refused k o → Here at k o
+  unfolding clockIn
+  clock-refused = tested at (eqb (length v) clockSize) (clockOk (clockNumbers v)) _ next
+
+  unknown-refused : refused 3 at ≡ refused k o → Here at k o
+  unknown-refused e = let same : _≡_ {A = ℕ} 3 k = cc in record { early = omega arith; place = cc }
+
+  value-refused : (tag : ℕ) → fieldIn tag v at next ≡ refused k o → Here at k o
+  unfolding fieldIn
+  value-refused tag =
+      by-tag tag headerTag _ _ header-refused
+      (by-tag tag portTag _ _ port-refused
+      (by-tag tag flowTag _ _ flow-refused
+      (by-tag tag extraTag _ _ extra-refused
+      (by-tag tag jitterTag _ _ jitter-refused
+      (by-tag tag clockTag _ _ clock-refused
+      unknown-refused)))))
+
+-- a field that tests 2 to 5 refuse is refused at its tag
+pub refused-here : (s : List ℕ) (at k o : ℕ) → fieldAt s at ≡ refused k o → Here at k o
+unfolding fieldAt
+refused-here s at k o = go (wholeAt s at)
+  where
+    go
+        : (whole : Bool)
+        → unless 2 at whole (fieldIn (tagAt s at) (valueAt s at) at (at + headSize + sizeAt s at)) ≡ refused k o
+        → Here at k o
+    go true e = value-refused (valueAt s at) at _ (tagAt s at) e
+    go false e = let same : _≡_ {A = ℕ} 2 k = cc in record { early = omega arith; place = cc }
+
+-- a step that ends the reading does so at the field's tag
+pub stop-here : (mode : Mode) (s : List ℕ) (at last : ℕ) (d : Draft) (k o : ℕ) → stepAt mode s at last d ≡ stop k o → o ≡ at
+unfolding stepAt
+stop-here mode s at last d k o e = go (fieldAt s at) refl e
+  where
+    by-tests
+        : (six twelve seven : Bool) (n key : ℕ) (d′ : Draft)
+        → cond six (stop 6 at) (cond twelve (stop 12 at) (cond seven (stop 7 at) (more n key d′))) ≡ stop k o
+        → o ≡ at
+    by-tests true b c n key d′ e = cc
+    by-tests false true c n key d′ e = cc
+    by-tests false false true n key d′ e = cc
+    by-tests false false false n key d′ e = cc
+
+    go : (r : FieldRead) → fieldAt s at ≡ r → fieldStep mode s at last d r ≡ stop k o → o ≡ at
+    go (refused number offset) q e =
+        let same : offset ≡ o = cc in
+        sym same ∙ refused-here s at number offset q .place
+    go (field x next) q e =
+        by-tests (taken d x) (late mode last x) (fieldRepeats x (routeAt s at)) next (keyOf x) (added d x (routeAt s at)) e
+
+-- the tests 8 and 9 come when all fields are read
+pub closed-last : (s : List ℕ) (d : Draft) (at : ℕ) → foundBefore s at (closing s d) ≡ leb (length s) at
+unfolding closing
+closed-last s d at = go (not (hasKey d headerKey) || eqb (d .flows) 0) (ltb absent (length s))
+  where
+    absent : ℕ
+    absent = firstAbsent (d .tables .rates) (d .tables .periods) s
+
+    go
+        : (eight nine : Bool)
+        → foundBefore s at (cond eight (rejected 8 (length s)) (cond nine (rejected 9 absent) (accepted (d .tables) (d .ports) (d .flows))))
+        ≡ leb (length s) at
+    go true nine = refl
+    go false true = refl
+    go false false = refl
+
+-- what is found from an offset on is found after all that stands before it
+refused-after : (s : List ℕ) (here k o : ℕ) → here < o → here < length s → foundBefore s here (rejected k o) ≡ false
+refused-after s here k o less inside = go (leb k 6) (eqb k 7)
+  where
+    go : (a b : Bool) → cond a (leb o here) (cond b (ltb o here) (leb (length s) here)) ≡ false
+    go true b = lt-leb o here less
+    go false true = le-ltb o here (omega arith)
+    go false false = lt-leb (length s) here inside
+
+pub found-after
+    : (mode : Mode) (n : ℕ) (s : List ℕ) (at last : ℕ) (d : Draft) (here : ℕ)
+    → here < at
+    → here < length s
+    → foundBefore s here (readFrom mode n s at last d) ≡ false
+unfolding readFrom
+found-after mode zero s at last d here less inside = closed-last s d here ∙ lt-leb (length s) here inside
+found-after mode (suc n) s at last d here less inside = by-end (λ next key d′. found-after mode n s next key d′ here) (ltb at (length s)) refl
+  where
+    Rest : Type 0
+    Rest = (next key : ℕ) (d′ : Draft) → here < next → here < length s → foundBefore s here (readFrom mode n s next key d′) ≡ false
+
+    by-step : Rest → at < length s → (r : Step) → stepAt mode s at last d ≡ r → foundBefore s here (readFrom mode (suc n) s at last d) ≡ false
+    by-step rest l (stop k o) e =
+        rw (stop-one mode s at last d n k o l e) (refused-after s here k o (omega (arith, stop-here mode s at last d k o e)) inside)
+    by-step rest l (more next key d′) e =
+        rw (more-one mode s at last d n next key d′ l e)
+        (rest next key d′ (omega (arith, onward mode s at last d next key d′ e .forward)) inside)
+
+    by-end : Rest → (b : Bool) → ltb at (length s) ≡ b → foundBefore s here (readFrom mode (suc n) s at last d) ≡ false
+    by-end rest true e = by-step rest (ltb-true _ _ e) (stepAt mode s at last d) refl
+    by-end rest false e =
+        rw (read-end mode s at last d (suc n) (ltb-false _ _ e)) (closed-last s d here ∙ lt-leb (length s) here inside)

@@ -1,0 +1,157 @@
+-- A row of fields is accepted, and gives what its fields add, where each is in range, they stand in strict order with a header and
+-- a flow among them, and name only what the row has.
+use Prim.Native.Nat.{ℕ, _≤_, _<_}
+use mathlib.Core.Path.{_≡_, refl, sym, ap, _∙_}
+use mathlib.Core.Logic.{_⊎_, inl, inr}
+use mathlib.Core.List.{List, [], _∷_, List·Memᴰ, List·Memᴰ·not-nil, List·Memᴰ·cases-cons}
+use mathlib.Core.Bool.{Bool, true, false}
+use native.Mathlib.Omega.{arith}
+use borrow.Author.Tests.{le-leb, eqb-true, eqb-false}
+use lib.Dec.{eqb}
+use lib.ListN.{length, length-append}
+use lib.Seq.{getD-set-same, getD-set-other}
+use Rattle.cqf.specs.Bounded.{within}
+use Rattle.plan.specs.Field.{Field}
+use Rattle.plan_reading.specs.Key.{headerKey, keyOf}
+use Rattle.plan_reading.specs.Draft.{Draft, blank, hasKey, flowsIn, added}
+use Rattle.plan_reading.specs.Ranges.{NumbersOk}
+use Rattle.plan_reading.specs.Reading.{Mode, loose, strict, accepted, maxBytes, closing, readFrom, readAs}
+use Rattle.plan_reading.specs.Strict.{Entry, rising}
+use Rattle.plan_reading.specs.FieldBytes.{bytesOf, rowBytes}
+use Rattle.plan_reading.specs.laws.fields.Kinds.{key-below}
+use Rattle.plan_reading.specs.laws.stores.Stored.{Flagged, added-flagged}
+use Rattle.plan_reading.specs.laws.order.Order.{flagged-blank}
+use Rattle.plan_reading.specs.laws.reading.Steps.{step-added}
+use Rattle.plan_reading.specs.laws.reading.Onward.{read-end, read-more}
+use Rattle.plan_reading.specs.laws.reading.Walk.{Reads, done, one}
+use Rattle.plan_reading.specs.laws.reading.Closing.{close-accepted}
+use Rattle.plan_reading.specs.laws.reading.PlanLength.{read-sized}
+use Rattle.plan_reading.specs.StrictTheorem.{strict-accepts}
+use Rattle.plan_reading.specs.laws.rows.SavedRow.{AllOk, none, more, addedAll}
+use Rattle.plan_reading.specs.laws.rows.EntryRead.{entry-length}
+use Rattle.plan_reading.specs.laws.rows.RowRead.{row-fields, row-in-order, row-reads}
+use Rattle.plan_reading.specs.laws.rows.RowAbsent.{AllPresent, none-absent}
+
+pub record Row (es : List Entry) : Type 0 where
+  pub ok : AllOk es
+  pub in-order : rising es ≡ true
+  pub most : length (rowBytes es) ≤ maxBytes
+  -- it begins with the header
+  pub first : Entry
+  pub others : List Entry
+  pub begins : es ≡ first ∷ others
+  pub header : keyOf (first .part) ≡ headerKey
+  -- and has a flow
+  pub with-flow : 0 < addedAll blank es .flows
+  -- what its fields name is in the plan that they give
+  pub present : AllPresent (addedAll blank es .tables .rates) (addedAll blank es .tables .periods) es
+
+-- the key of a field that was added is taken, and stays so
+key-taken : (d : Draft) (x : Field) (r : List ℕ) → Flagged d → NumbersOk x → hasKey (added d x r) (keyOf x) ≡ true
+unfolding added
+key-taken d x r flagged k = rw (getD-set-same (d .seen) (keyOf x) 1 0 (omega (arith, flagged, key-below x k)))
+
+key-stays
+    : (d : Draft) (x : Field) (r : List ℕ) (key : ℕ)
+    → Flagged d
+    → NumbersOk x
+    → hasKey d key ≡ true
+    → hasKey (added d x r) key ≡ true
+unfolding added
+key-stays d x r key flagged k e = go (eqb key (keyOf x)) refl
+  where
+    go : (b : Bool) → eqb key (keyOf x) ≡ b → hasKey (added d x r) key ≡ true
+    go true same = rw (eqb-true key (keyOf x) same) (key-taken d x r flagged k)
+    go false apart = rw (getD-set-other (d .seen) (keyOf x) key 1 0 (eqb-false key (keyOf x) apart)) e
+
+all-key
+    : (d : Draft) (key : ℕ) {es : List Entry}
+    → AllOk es
+    → Flagged d
+    → hasKey d key ≡ true
+    → hasKey (addedAll d es) key ≡ true
+unfolding addedAll
+all-key d key none flagged e = e
+all-key d key (more {e = f} ok rest) flagged e =
+    all-key (added d (f .part) (f .route)) key rest (added-flagged d (f .part) (f .route) flagged)
+    (key-stays d (f .part) (f .route) key flagged (ok .numbers) e)
+
+-- flows are counted, so a row that has one counts some
+all-flows : (d : Draft) (es : List Entry) → d .flows ≤ addedAll d es .flows
+unfolding addedAll added
+all-flows d [] = omega arith
+all-flows d (e ∷ es) = omega (arith, all-flows (added d (e .part) (e .route)) es)
+
+pub some-flow : (d : Draft) (es : List Entry) (f : Entry) → List·Memᴰ f es → flowsIn (f .part) ≡ 1 → 0 < addedAll d es .flows
+unfolding addedAll added
+some-flow d [] f i is = absurd (List·Memᴰ·not-nil i)
+some-flow d (e ∷ es) f i is = go (λ j. some-flow after es f j is) (List·Memᴰ·cases-cons i)
+  where
+    after : Draft
+    after = added d (e .part) (e .route)
+
+    go : (List·Memᴰ f es → 0 < addedAll after es .flows) → (f ≡ e) ⊎ List·Memᴰ f es → 0 < addedAll after es .flows
+    go rest (inl same) =
+        let counted : flowsIn (e .part) ≡ 1 = rw same at is in
+        omega (arith, all-flows after es)
+    go rest (inr i) = rest i
+
+-- a walk to the end comes to the tests 8 and 9
+walk-closes
+    : (s : List ℕ) {at : ℕ} {d e : Draft} (last : ℕ)
+    → Reads s at d e
+    → readFrom loose (length s) s at last d ≡ closing s e
+walk-closes s {at} {d} last (done same end) = read-end loose s at last d (length s) end ∙ ap (closing s) same
+walk-closes s {at} {d} last (one x next less stands fresh no-repeat rest) =
+    read-more loose s at last d less next (keyOf x) _ (step-added loose s at last d x next stands fresh refl no-repeat)
+    ∙ walk-closes s (keyOf x) rest
+
+module _ (es : List Entry) (row : Row es) where
+  abbrev final : Draft
+  final = addedAll blank es
+
+  with-header : hasKey final headerKey ≡ true
+  unfolding addedAll
+  with-header = rw (row .begins) (go (rw (row .begins) at (row .ok)))
+    where
+      x : Entry
+      x = row .first
+
+      go : AllOk (x ∷ row .others) → hasKey (addedAll (added blank (x .part) (x .route)) (row .others)) headerKey ≡ true
+      go (more ok rest) =
+          let d = added blank (x .part) (x .route) in
+          all-key d headerKey rest (added-flagged blank (x .part) (x .route) flagged-blank)
+          (sym (ap (hasKey d) (row .header)) ∙ key-taken blank (x .part) (x .route) flagged-blank (ok .numbers))
+
+  closes : closing (rowBytes es) final ≡ accepted (final .tables) (final .ports) (final .flows)
+  closes =
+      close-accepted (rowBytes es) final with-header (λ zero. omega (arith, row .with-flow))
+      (none-absent (final .tables .rates) (final .tables .periods) (rowBytes es) (row-reads es (row .ok) (row .in-order))
+      (rw (row-fields es (row .ok)) (row .present)))
+
+  -- at least a head
+  least : 1 ≤ length (rowBytes es)
+  unfolding rowBytes
+  least = rw (row .begins) (go (rw (row .begins) at (row .ok)))
+    where
+      go : AllOk (row .first ∷ row .others) → 1 ≤ length (rowBytes (row .first ∷ row .others))
+      go (more ok rest) =
+          omega (arith, length-append (bytesOf (row .first)) (rowBytes (row .others)), entry-length (row .first) (ok .fits))
+
+  loosely : readAs loose (rowBytes es) ≡ accepted (final .tables) (final .ports) (final .flows)
+  loosely =
+      let sized : within 1 maxBytes (length (rowBytes es)) ≡ true = rw (le-leb 1 _ least, le-leb _ maxBytes (row .most)) in
+      read-sized loose (rowBytes es) sized
+      ∙ walk-closes (rowBytes es) 0 (row-reads es (row .ok) (row .in-order))
+      ∙ closes
+
+-- in either reading
+pub row-accepted
+    : (mode : Mode) (es : List Entry)
+    → Row es
+    → readAs mode (rowBytes es)
+    ≡ accepted (addedAll blank es .tables) (addedAll blank es .ports) (addedAll blank es .flows)
+row-accepted loose es row = loosely es row
+row-accepted strict es row =
+    strict-accepts (rowBytes es) (addedAll blank es .tables) (addedAll blank es .ports) (addedAll blank es .flows) .1
+    (loosely es row, row-in-order es (row .ok) (row .in-order))

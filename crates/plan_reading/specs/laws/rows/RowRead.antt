@@ -1,0 +1,132 @@
+-- The bytes of a row of fields are read as the row: field by field, and where the fields rise, to its end.
+use Prim.Native.Nat.{ℕ, zero, suc, _+_, _≤_}
+use mathlib.Core.Path.{_≡_, refl, sym, ap, ap₂, _∙_, subst}
+use mathlib.Core.List.{List, [], _∷_, _++_, append-assoc, append-nil}
+use mathlib.Core.Bool.{Bool, true, false}
+use native.Mathlib.Omega.{arith}
+use borrow.Author.Tests.{ltb-true, ltb-false}
+use lib.Dec.{ltb}
+use lib.ListN.{length, getD, replicate, length-append, length-replicate, getD-replicate, List·getD-eq-default}
+use lib.Seq.{getD-set-other}
+use Rattle.plan.specs.Bytes.{headSize}
+use Rattle.plan.specs.Field.{Field, field, fieldAt}
+use Rattle.plan_reading.specs.Key.{keySlots, keyOf}
+use Rattle.plan_reading.specs.Draft.{Draft, blank, hasKey, fieldRepeats, added}
+use Rattle.plan_reading.specs.Reading.{routeAt}
+use Rattle.plan_reading.specs.Strict.{Entry, entryOf, fieldsFrom, fieldsIn, rising, InOrder}
+use Rattle.plan_reading.specs.FieldBytes.{bytesOf, rowBytes}
+use Rattle.plan_reading.specs.laws.reading.Walk.{Reads, done, one}
+use Rattle.plan_reading.specs.laws.order.Late.{past-end}
+use Rattle.plan_reading.specs.laws.order.Rows.{row-refused, row-field, Ascends, none, next, rising-from}
+use Rattle.plan_reading.specs.laws.rows.SavedRow.{EntryOk, AllOk, none, more, addedAll}
+use Rattle.plan_reading.specs.laws.rows.EntryRead.{entry-length, field-there, entry-there, added-entry, repeats-entry}
+
+-- s goes on at this offset with the bytes of these fields
+record Holds (s : List ℕ) (at : ℕ) (es : List Entry) : Type 0 where
+  front : List ℕ
+  bytes : s ≡ front ++ rowBytes es
+  offset : at ≡ length front
+
+-- with no field left it ends there
+holds-none : (s : List ℕ) (at : ℕ) → Holds s at [] → length s ≡ at
+unfolding rowBytes
+holds-none s at h = ap length (h .bytes ∙ append-nil (h .front)) ∙ sym (h .offset)
+
+-- the field at the front is read, and the others follow it
+module _ (s : List ℕ) (at : ℕ) (e : Entry) (es : List Entry) (ok : EntryOk e) (h : Holds s at (e ∷ es)) where
+  front-field : fieldAt s at ≡ field (e .part) (at + length (bytesOf e))
+  unfolding rowBytes
+  front-field = rw (h .bytes, h .offset) (field-there (h .front) (rowBytes es) e ok)
+
+  front-entry : entryOf (e .part) (routeAt s at) ≡ e
+  unfolding rowBytes
+  front-entry = rw (h .bytes, h .offset) (entry-there (h .front) (rowBytes es) e ok)
+
+  holds-rest : Holds s (at + length (bytesOf e)) es
+  unfolding rowBytes
+  holds-rest =
+      record {
+        front = h .front ++ bytesOf e;
+        bytes = h .bytes ∙ sym (append-assoc (h .front) (bytesOf e) (rowBytes es));
+        offset = omega (arith, h .offset, length-append (h .front) (bytesOf e));
+      }
+
+  front-inside : at + headSize ≤ length s
+  unfolding rowBytes
+  front-inside =
+      let whole = ap length (h .bytes) ∙ length-append (h .front) (bytesOf e ++ rowBytes es) in
+      omega (arith, whole, h .offset, length-append (bytesOf e) (rowBytes es), entry-length e (ok .fits))
+
+-- the fields that are read
+row-from : (n : ℕ) (s : List ℕ) (at : ℕ) {es : List Entry} → AllOk es → Holds s at es → length s ≤ at + n → fieldsFrom n s at ≡ es
+row-from n s at none h enough = row-refused n s at 2 at (past-end s at (omega (arith, holds-none s at h)))
+row-from zero s at (more {e = e} {es = es} ok rest) h enough = absurd (omega (arith, front-inside s at e es ok h))
+row-from (suc n) s at (more {e = e} {es = es} ok rest) h enough =
+    let after = at + length (bytesOf e) in
+    let long = entry-length e (ok .fits) in
+    row-field n s at (e .part) after (front-field s at e es ok h)
+    ∙ ap₂ _∷_ (front-entry s at e es ok h) (row-from n s after rest (holds-rest s at e es ok h) (omega arith))
+
+whole-row : (es : List Entry) → Holds (rowBytes es) 0 es
+whole-row es = record { front = []; bytes = refl; offset = refl }
+
+pub row-fields : (es : List Entry) → AllOk es → fieldsIn (rowBytes es) ≡ es
+unfolding fieldsIn
+row-fields es ok = row-from (length (rowBytes es)) (rowBytes es) 0 ok (whole-row es) (omega arith)
+
+-- a row that rises is in order
+pub row-in-order : (es : List Entry) → AllOk es → rising es ≡ true → InOrder (rowBytes es)
+row-in-order es ok up = ap rising (row-fields es ok) ∙ up
+
+pub row-ascends : (es : List Entry) → AllOk es → rising es ≡ true → Ascends 0 es
+unfolding fieldsIn
+row-ascends es ok up =
+    subst (Ascends 0) (row-fields es ok) (rising-from (length (rowBytes es)) (rowBytes es) 0 (row-in-order es ok up))
+
+-- no key from this one on is taken
+abbrev Free : Draft → ℕ → Type 0
+Free d least = (key : ℕ) → least ≤ key → hasKey d key ≡ false
+
+free-blank : Free blank 0
+unfolding blank
+free-blank key from = go (ltb key keySlots) refl
+  where
+    go : (b : Bool) → ltb key keySlots ≡ b → ltb 0 (getD (replicate keySlots 0) key 0) ≡ false
+    go true e = rw (getD-replicate {A = ℕ} keySlots key 0 0 (ltb-true key keySlots e))
+    go false e =
+        let past : length {A = ℕ} (replicate keySlots 0) ≤ key = omega (arith, length-replicate {A = ℕ} keySlots 0, ltb-false key keySlots e) in
+        rw (List·getD-eq-default {A = ℕ} (replicate keySlots 0) 0 {n = key} past)
+
+free-added : (d : Draft) (x : Field) (r : List ℕ) (least : ℕ) → Free d least → least ≤ keyOf x → Free (added d x r) (suc (keyOf x))
+unfolding added
+free-added d x r least free from key after =
+    rw (getD-set-other (d .seen) (keyOf x) key 1 0 (λ same. absurd (omega arith))) (free key (omega arith))
+
+-- the walk over the row
+walk-row
+    : (s : List ℕ) (at least : ℕ) (d : Draft) {es : List Entry}
+    → AllOk es
+    → Ascends least es
+    → Free d least
+    → Holds s at es
+    → Reads s at d (addedAll d es)
+unfolding addedAll
+walk-row s at least d none up free h = Reads.done {at = at} refl (omega (arith, holds-none s at h))
+walk-row s at least d (more {e = e} {es = es} ok rest) (next k low up) free h =
+    let same = front-entry s at e es ok h in
+    let adds : added d (e .part) (routeAt s at) ≡ added d (e .part) (e .route) =
+    added-entry d (e .part) (routeAt s at) ∙ ap (λ (f : Entry). added d (e .part) (f .route)) same in
+    let repeats : fieldRepeats (e .part) (routeAt s at) ≡ fieldRepeats (e .part) (e .route) =
+    repeats-entry (e .part) (routeAt s at) ∙ ap (λ (f : Entry). fieldRepeats (e .part) (f .route)) same in
+    let after = at + length (bytesOf e) in
+    let final = addedAll (added d (e .part) (e .route)) es in
+    Reads.one {at = at} {d = d} {e = final} (e .part) after (omega (arith, front-inside s at e es ok h)) (front-field s at e es ok h)
+    (free (keyOf (e .part)) low)
+    (repeats ∙ ok .no-repeat)
+    (rw adds
+    (walk-row s after (suc (keyOf (e .part))) (added d (e .part) (e .route)) rest up
+    (free-added d (e .part) (e .route) least free low)
+    (holds-rest s at e es ok h)))
+
+pub row-reads : (es : List Entry) → AllOk es → rising es ≡ true → Reads (rowBytes es) 0 blank (addedAll blank es)
+row-reads es ok up = walk-row (rowBytes es) 0 0 blank ok (row-ascends es ok up) free-blank (whole-row es)

@@ -1,0 +1,68 @@
+-- A valid plan is saved as bytes that either reading accepts, and that hold the same plan.
+use Prim.Native.Nat.{ℕ}
+use mathlib.Core.Path.{_≡_, refl, _∙_}
+use mathlib.Core.List.{List}
+use mathlib.Core.Bool.{true}
+use lib.Dec.{ltb}
+use Rattle.cqf.specs.Bounded.{countTo}
+use Rattle.cqf.specs.Limits.{portSlots, flowSlots}
+use Rattle.cqf.specs.Plan.{Plan, rateOf, periodOf, validPlan}
+use Rattle.plan_reading.specs.Reading.{accepted, Mode, readAs}
+use Rattle.plan_reading.specs.Saved.{headerField, savedFields, savedBytes}
+use Rattle.plan_reading.specs.Tidy.{Tidy, tidied}
+use Rattle.plan_reading.specs.Sized.{Sized}
+use Rattle.plan_reading.specs.laws.validity.Valid.{accepted-valid}
+use Rattle.plan_reading.specs.StrictTheorem.{read-loosely}
+use Rattle.plan_reading.specs.laws.rows.RowAccepted.{Row, row-accepted}
+use Rattle.plan_reading.specs.laws.saved.SavedLength.{saved-length}
+use Rattle.plan_reading.specs.laws.saved.Says.{portsOn}
+use Rattle.plan_reading.specs.laws.saved.SavedOk.{saved-ok, saved-rising, saved-present, saved-header}
+use Rattle.plan_reading.specs.laws.saved.Tidy.{tidied-same}
+use Rattle.plan_reading.specs.laws.reading.Walked.{accepted-sized, accepted-tidy}
+use Rattle.plan_reading.specs.laws.saved.SavedTables.{saved-tables}
+use Rattle.plan_reading.specs.laws.saved.SavedCounts.{saved-ports, saved-flows, saved-some}
+
+module _ (p : Plan) (valid : validPlan p ≡ true) (sized : Sized p) where
+  saved-row : Row (savedFields p)
+  unfolding savedBytes tidied
+  saved-row =
+      record {
+        ok = saved-ok p valid;
+        in-order = saved-rising p valid;
+        most = saved-length p valid;
+        first = headerField p;
+        others = portsOn p;
+        begins = saved-header p;
+        header = refl;
+        with-flow = saved-some p valid;
+        present = rw (saved-tables p valid sized) (saved-present p valid);
+      }
+
+  -- the plan with the places past its routes 0, and as many ports and flows as it has
+  pub saved-read
+      : (mode : Mode)
+      → readAs mode (savedBytes p)
+      ≡ accepted (tidied p) (countTo portSlots (λ q. ltb 0 (rateOf p q))) (countTo flowSlots (λ f. ltb 0 (periodOf p f)))
+  unfolding savedBytes
+  saved-read mode =
+      row-accepted mode (savedFields p) saved-row
+      ∙ (λ i. accepted (saved-tables p valid sized i) (saved-ports p i) (saved-flows p i))
+
+  -- the plan itself, where it is tidy
+  pub saved-held
+      : Tidy p
+      → (mode : Mode)
+      → readAs mode (savedBytes p)
+      ≡ accepted p (countTo portSlots (λ q. ltb 0 (rateOf p q))) (countTo flowSlots (λ f. ltb 0 (periodOf p f)))
+  saved-held tidy mode =
+      saved-read mode
+      ∙ (λ i. accepted (tidied-same p sized tidy i) (countTo portSlots (λ q. ltb 0 (rateOf p q))) (countTo flowSlots (λ f. ltb 0 (periodOf p f))))
+
+-- so saving a plan that a reading accepted, and reading it again in either way, gives the plan
+pub saved-again
+    : (mode other : Mode) (s : List ℕ) (p : Plan) (ports flows : ℕ)
+    → readAs mode s ≡ accepted p ports flows
+    → readAs other (savedBytes p)
+    ≡ accepted p (countTo portSlots (λ q. ltb 0 (rateOf p q))) (countTo flowSlots (λ f. ltb 0 (periodOf p f)))
+saved-again mode other s p m k e =
+    saved-held p (accepted-valid s p m k (read-loosely mode s p m k e)) (accepted-sized mode s p m k e) (accepted-tidy mode s p m k e) other
