@@ -2,7 +2,8 @@
 use Prim.Native.Nat.{ℕ}
 use mathlib.Core.List.{List, [], _∷_}
 use lib.IntN.{ℤ, pos}
-use Rattle.loading.specs.Outcome.{Answer, result, refusal, Fields}
+use Rattle.answers.specs.Answer.{Answer, result, refusal}
+use Rattle.loading.specs.Outcome.{Fields}
 use Rattle.plan.specs.Field.{header, port, flow, extra, jitter, clock, FieldRead, field, refused, headerTag, portTag, flowTag, extraTag, jitterTag, clockTag}
 use Rattle.questions.specs.FixedPoint.{FixedPoint}
 use Rattle.capi.specs.declared.AnswerNumbers.{AnswerNumbers}

@@ -1,11 +1,11 @@
 // The planner for C and Rust: the calls with their answers as numbers (include/cycle_planner.h).
-use crate::answers::check_numbers;
-use crate::answers::field_numbers;
-use crate::answers::fixed_point_numbers;
-use crate::answers::least_numbers;
-use crate::answers::margin_safe_numbers;
-use crate::answers::outcome_numbers;
-use crate::answers::slack_numbers;
+use crate::answer_numbers::check_numbers;
+use crate::answer_numbers::field_numbers;
+use crate::answer_numbers::fixed_point_numbers;
+use crate::answer_numbers::least_numbers;
+use crate::answer_numbers::margin_safe_numbers;
+use crate::answer_numbers::outcome_numbers;
+use crate::answer_numbers::slack_numbers;
 use crate::written::gates_numbers;
 use crate::written::save_numbers;
 use planner::Planner;
@@ -17,12 +17,12 @@ ghost use Rattle.tables.specs.Tables.{planOf};
 ghost use Rattle.loading.specs.Outcome.{loadAnswer, loadLeaves};
 ghost use Rattle.questions.specs.Outcome.{checkAnswer, slackAnswer, leastAnswer, leastLeaves, marginSafeAnswer, marginSafeLeaves};
 ghost use Rattle.questions.specs.FixedPoint.{fixedPointAnswer};
-ghost use Rattle.questions.specs.Save.{saveAnswer, saveLeaves};
-ghost use Rattle.questions.specs.Gates.{gatesAnswer, gatesLeaves};
+ghost use Rattle.saving.specs.Save.{saveAnswer, saveLeaves};
+ghost use Rattle.gating.specs.Gates.{gatesAnswer, gatesLeaves};
 ghost use Rattle.capi.specs.Meaning.{CheckNumbersMean};
 ghost use Rattle.capi.specs.Numbers.{loadNumbers, checkNumbers, slackNumbers, searchNumbers, stepsNumbers, writtenNumbers, fieldNumbers};
 
-mod answers; // answers.rt: each answer as numbers
+mod answer_numbers; // answer_numbers.rt: each answer as numbers
 mod written; // written.rt: those of the calls that write bytes
 
 #[repr(C)]

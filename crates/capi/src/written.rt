@@ -1,6 +1,6 @@
 // Each answer of a call that writes bytes as numbers: the refusal, 0 for a result, and the length written or needed.
 use crate::AnswerNumbers;
-use crate::answers::numbered;
+use crate::answer_numbers::numbered;
 use planner::GatesAnswer;
 use planner::SaveAnswer;
 use planner::gates_number;

@@ -1,13 +1,14 @@
 -- Document 02's number and values for each case of the code's answer.
 use Prim.Native.Nat.{ℕ}
 use mathlib.Core.List.{[], _∷_}
-use Rattle.loading.specs.Outcome.{Answer, result, refusal}
+use Rattle.answers.specs.Answer.{Answer, result, refusal}
+use Rattle.answers.specs.Refusals.{badDuration, shortBuffer, badQueue, noPlanHeld, notAdmissible}
 use Rattle.gating.specs.declared.GatesAnswer.{GatesAnswer}
 
 abbrev pub gatesOf : GatesAnswer → Answer ℕ
 gatesOf (GatesAnswer.Written n) = result n
-gatesOf GatesAnswer.NoPlan = refusal 20 (0 ∷ [])
-gatesOf GatesAnswer.BadDuration = refusal 10 (0 ∷ [])
-gatesOf (GatesAnswer.Failing port count) = refusal 21 (port ∷ count ∷ [])
-gatesOf GatesAnswer.BadQueue = refusal 18 (0 ∷ [])
-gatesOf (GatesAnswer.ShortBuffer n) = refusal 13 (n ∷ [])
+gatesOf GatesAnswer.NoPlan = refusal noPlanHeld (0 ∷ [])
+gatesOf GatesAnswer.BadDuration = refusal badDuration (0 ∷ [])
+gatesOf (GatesAnswer.Failing port count) = refusal notAdmissible (port ∷ count ∷ [])
+gatesOf GatesAnswer.BadQueue = refusal badQueue (0 ∷ [])
+gatesOf (GatesAnswer.ShortBuffer n) = refusal shortBuffer (n ∷ [])

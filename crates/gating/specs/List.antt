@@ -7,7 +7,7 @@ use lib.Dec.{ltb}
 use Rattle.cqf.specs.Condition.{windowOf}
 use Rattle.plan.specs.Bytes.{headSize}
 use Rattle.gate_lists.specs.GateList.{gateSize, gateBytes, listBytes, lasting, bothClosed, oneOpen}
-use Rattle.questions.specs.Gates.{queuesOk}
+use Rattle.gating.specs.Gates.{queuesOk}
 
 -- a field: gate states, and for how many ns they hold; and the same, left out where it is 0 ns
 abbrev pub gateOf : (states interval : ℕ) → List ℕ

@@ -5,15 +5,16 @@ use mathlib.Core.Bool.{Bool, true, false, cond}
 use mathlib.Core.List.{List, [], _∷_}
 use lib.Dec.{leb}
 use Rattle.cqf.specs.Plan.{Plan}
-use Rattle.loading.specs.Outcome.{Answer, result, refusal}
-use Rattle.questions.specs.Gates.{gatesAnswer, gatesLeaves}
+use Rattle.answers.specs.Answer.{Answer, result, refusal}
+use Rattle.answers.specs.Refusals.{shortBuffer, badQueue}
+use Rattle.gating.specs.Gates.{gatesAnswer, gatesLeaves}
 
 abbrev pub Gated : Plan → (T even odd : ℕ) → (buffer : List ℕ) → Answer ℕ → (exit : List ℕ) → Type 0
 Gated p T even odd buffer answer exit = (answer ≡ gatesAnswer p T even odd buffer) × (exit ≡ gatesLeaves p T even odd buffer)
 
 -- of an admissible duration: by whether the queues are two of the eight, then by the length needed and that of the buffer
 abbrev pub listBy : Bool → (needed size : ℕ) → Answer ℕ
-listBy queues needed size = cond queues (cond (leb needed size) (result needed) (refusal 13 (needed ∷ []))) (refusal 18 (0 ∷ []))
+listBy queues needed size = cond queues (cond (leb needed size) (result needed) (refusal shortBuffer (needed ∷ []))) (refusal badQueue (0 ∷ []))
 
 -- what the plain question refuses comes first
 abbrev pub answerBy : Answer (Unit {0}) → Bool → (needed size : ℕ) → Answer ℕ

@@ -3,7 +3,7 @@ ghost use mathlib.Core.Path.{_≡_};
 ghost use mathlib.Core.Bool.{true};
 ghost use Prim.Native.Nat.{_≤_};
 ghost use Rattle.gate_lists.specs.GateList.{bit, bothClosed};
-ghost use Rattle.questions.specs.Gates.{lastQueue, queuesOk};
+ghost use Rattle.gating.specs.Gates.{lastQueue, queuesOk};
 
 const LAST_QUEUE: u64 = 7;
 

@@ -7,7 +7,8 @@ use Rattle.cqf.specs.Plan.{Plan}
 use Rattle.plan.specs.Answer.{faultNumber}
 use Rattle.plan_reading.specs.Reading.{Mode, loose, strict}
 use Rattle.tables.specs.Tables.{planOf}
-use Rattle.loading.specs.Outcome.{Answer, result, refusal, Fields, loadAnswer, loadLeaves}
+use Rattle.answers.specs.Answer.{Answer, result, refusal}
+use Rattle.loading.specs.Outcome.{Fields, loadAnswer, loadLeaves}
 use Rattle.loading.specs.declared.LoadAnswer.{LoadAnswer}
 use Rattle.loading.specs.declared.LoadOutcome.{LoadOutcome}
 

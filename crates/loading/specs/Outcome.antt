@@ -1,18 +1,9 @@
--- What a call answers, and what a load answers and leaves, for any held plan and any bytes.
+-- What a load answers and leaves, for any held plan and any bytes.
 use Prim.Native.Nat.{ℕ}
 use mathlib.Core.List.{List, [], _∷_}
+use Rattle.answers.specs.Answer.{Answer, result, refusal}
 use Rattle.cqf.specs.Plan.{Plan}
 use Rattle.plan_reading.specs.Reading.{PlanRead, accepted, rejected, Mode, readAs}
-
--- a result, or a refusal's number in document 01 and what it carries
-pub data Answer (A : Type 0) : Type 0 where
-  result : A → Answer A
-  refusal : (number : ℕ) → (values : List ℕ) → Answer A
-
--- its number: 0 for a result
-abbrev pub numberOf : {A : Type 0} → Answer A → ℕ
-numberOf (result x) = 0
-numberOf (refusal number values) = number
 
 -- the load: the numbers of port and flow fields, or 1 to 9, or 12, with the offset
 pub record Fields : Type 0 where

@@ -11,9 +11,10 @@ use Rattle.plan.specs.Field.{routePorts, routeIn, headerIn, portInValue, flowIn
 use Rattle.plan_reading.specs.Store.{store}
 use Rattle.plan_reading.specs.Draft.{blank, added}
 use Rattle.plan_reading.specs.Reading.{stepAt, namesAbsent, jitterAbsent, extraAbsent, firstFrom, firstAbsent, closing, readFrom, readAs, readPlan, loose}
-use Rattle.loading.specs.Outcome.{Answer, result, refusal, loadLeaves}
+use Rattle.answers.specs.Answer.{Answer, result, refusal}
+use Rattle.loading.specs.Outcome.{loadLeaves}
 use Rattle.questions.specs.FixedPoint.{FixedPoint, fixedPointAnswer}
-use Rattle.questions.specs.Calls.{load, afterFrom, after}
+use Rattle.sequences.specs.Calls.{load, afterFrom, after}
 use Rattle.plan_k.specs.PlanK.{bytesK}
 
 -- by 0, 1, 2 and 9 steps from 1 ns

@@ -13,9 +13,10 @@ use Rattle.plan.specs.Field.{routePorts, routeIn, headerIn, portInValue, flowIn
 use Rattle.plan_reading.specs.Store.{store}
 use Rattle.plan_reading.specs.Draft.{blank, added}
 use Rattle.plan_reading.specs.Reading.{stepAt, namesAbsent, jitterAbsent, extraAbsent, firstFrom, firstAbsent, closing, readFrom, readAs, readPlan, loose, accepted}
-use Rattle.loading.specs.Outcome.{result, refusal, loadAnswer, loadLeaves}
+use Rattle.answers.specs.Answer.{result, refusal}
+use Rattle.loading.specs.Outcome.{loadAnswer, loadLeaves}
 use Rattle.questions.specs.Outcome.{checkAnswer, slackAnswer}
-use Rattle.questions.specs.Calls.{load, afterFrom, after}
+use Rattle.sequences.specs.Calls.{load, afterFrom, after}
 use Rattle.plan_k.specs.PlanK.{bytesK, Line, at, fails-one, linesOf}
 use Rattle.plan_k.specs.Extra.{extra, flow3}
 

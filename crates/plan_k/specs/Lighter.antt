@@ -18,12 +18,12 @@ use Rattle.plan.specs.Field.{routePorts, routeIn, headerIn, portInValue, flowIn
 use Rattle.plan_reading.specs.Store.{store}
 use Rattle.plan_reading.specs.Draft.{blank, added}
 use Rattle.plan_reading.specs.Reading.{stepAt, namesAbsent, jitterAbsent, extraAbsent, firstFrom, firstAbsent, closing, readFrom, readAs, loose, strict, accepted}
-use Rattle.loading.specs.Outcome.{result}
+use Rattle.answers.specs.Answer.{result}
 use Rattle.questions.specs.Outcome.{leastAnswer, marginSafeAnswer}
-use Rattle.questions.specs.Calls.{load, after, heldFrom, heldBytes}
-use Rattle.questions.specs.NoWorse.{AnswersNoWorse}
-use Rattle.questions.specs.LighterTheorem.{lighter-answers}
-use Rattle.questions.specs.laws.Calls.{after-held}
+use Rattle.sequences.specs.Calls.{load, after, heldFrom, heldBytes}
+use Rattle.sequences.specs.NoWorse.{AnswersNoWorse}
+use Rattle.sequences.specs.LighterTheorem.{lighter-answers}
+use Rattle.sequences.specs.laws.Calls.{after-held}
 use Rattle.questions.specs.laws.Searched.{least-gives, margin-safe-gives}
 
 -- K with rate 200, a blocking frame of 100 bytes, two frames a period for flow 1, 32 extra bytes at port 1, jitter 30,000 for flow 1

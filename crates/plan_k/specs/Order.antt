@@ -13,9 +13,9 @@ use Rattle.plan_reading.specs.Store.{store}
 use Rattle.plan_reading.specs.Draft.{blank, added}
 use Rattle.plan_reading.specs.Reading.{stepAt, namesAbsent, jitterAbsent, extraAbsent, firstFrom, firstAbsent, closing, readFrom, readAs, readPlan, loose}
 use Rattle.plan_reading.specs.FieldOrder.{IsField, AllFields, none, more, SameFields}
-use Rattle.questions.specs.Calls.{load, after, heldFrom, heldBytes}
-use Rattle.questions.specs.Reply.{SameAnswers}
-use Rattle.questions.specs.Theorem.{order-free}
+use Rattle.sequences.specs.Calls.{load, after, heldFrom, heldBytes}
+use Rattle.sequences.specs.Reply.{SameAnswers}
+use Rattle.sequences.specs.Theorem.{order-free}
 use Rattle.plan_k.specs.PlanK.{bytesK, heldK}
 
 -- the four fields of K

@@ -13,9 +13,10 @@ use Rattle.plan.specs.Field.{routePorts, routeIn, headerIn, portInValue, flowIn
 use Rattle.plan_reading.specs.Store.{store}
 use Rattle.plan_reading.specs.Draft.{blank, added}
 use Rattle.plan_reading.specs.Reading.{stepAt, namesAbsent, jitterAbsent, extraAbsent, firstFrom, firstAbsent, closing, readFrom, readAs, readPlan, loose, accepted}
-use Rattle.loading.specs.Outcome.{Answer, result, refusal, loadAnswer, loadLeaves}
+use Rattle.answers.specs.Answer.{Answer, result, refusal}
+use Rattle.loading.specs.Outcome.{loadAnswer, loadLeaves}
 use Rattle.questions.specs.Outcome.{checkAnswer, slackAnswer}
-use Rattle.questions.specs.Calls.{load, afterFrom, after, heldFrom, heldBytes}
+use Rattle.sequences.specs.Calls.{load, afterFrom, after, heldFrom, heldBytes}
 
 unfoldable pub bytesK : List ℕ
 bytesK =

@@ -13,9 +13,10 @@ use Rattle.plan.specs.Field.{routePorts, routeIn, headerIn, portInValue, flowIn
 use Rattle.plan_reading.specs.Store.{store}
 use Rattle.plan_reading.specs.Draft.{blank, added}
 use Rattle.plan_reading.specs.Reading.{stepAt, namesAbsent, jitterAbsent, extraAbsent, firstFrom, firstAbsent, closing, readFrom, readAs, strict, accepted}
-use Rattle.loading.specs.Outcome.{result, refusal, loadAnswer}
-use Rattle.questions.specs.Calls.{load, after, heldFrom, heldBytes}
-use Rattle.questions.specs.laws.Calls.{after-held}
+use Rattle.answers.specs.Answer.{result, refusal}
+use Rattle.loading.specs.Outcome.{loadAnswer}
+use Rattle.sequences.specs.Calls.{load, after, heldFrom, heldBytes}
+use Rattle.sequences.specs.laws.Calls.{after-held}
 use Rattle.plan_k.specs.PlanK.{bytesK}
 use Rattle.plan_k.specs.Extra.{extra, flow3}
 use Rattle.plan_k.specs.Jitter.{jitter}

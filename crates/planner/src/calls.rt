@@ -16,11 +16,11 @@ use tables::Planner;
 ghost use mathlib.Core.Path.{_≡_};
 ghost use Rattle.tables.specs.Tables.{planOf};
 ghost use Rattle.questions.specs.Answer.{checkOf, slackOf, leastOf, marginSafeOf, fixedPointOf};
-ghost use Rattle.questions.specs.Meaning.{CheckMeans};
+ghost use Rattle.sequences.specs.Meaning.{CheckMeans};
 ghost use Rattle.questions.specs.Outcome.{checkAnswer, slackAnswer, leastAnswer, leastLeaves, marginSafeAnswer, marginSafeLeaves};
 ghost use Rattle.questions.specs.FixedPoint.{fixedPointAnswer};
-ghost use Rattle.questions.specs.Save.{saveAnswer, saveLeaves};
-ghost use Rattle.questions.specs.Gates.{gatesAnswer, gatesLeaves};
+ghost use Rattle.saving.specs.Save.{saveAnswer, saveLeaves};
+ghost use Rattle.gating.specs.Gates.{gatesAnswer, gatesLeaves};
 ghost use Rattle.saving.specs.Answer.{saveOf};
 ghost use Rattle.gating.specs.Answer.{gatesOf};
 

@@ -8,7 +8,7 @@ use questions::SearchAnswer;
 use questions::SlackAnswer;
 use saving::SaveAnswer;
 ghost use mathlib.Core.Path.{_≡_};
-ghost use Rattle.loading.specs.Outcome.{numberOf};
+ghost use Rattle.answers.specs.Answer.{numberOf};
 ghost use Rattle.loading.specs.Answer.{loadOf};
 ghost use Rattle.questions.specs.Answer.{checkOf, slackOf, searchOf, leastOf, marginSafeOf, fixedPointOf};
 ghost use Rattle.saving.specs.Answer.{saveOf};

@@ -2,7 +2,8 @@
 use Prim.Native.Nat.{ℕ}
 use mathlib.Core.List.{[], _∷_}
 use lib.IntN.{ℤ}
-use Rattle.loading.specs.Outcome.{Answer, result, refusal}
+use Rattle.answers.specs.Answer.{Answer, result, refusal}
+use Rattle.answers.specs.Refusals.{badDuration, shortScratch, noPlanHeld, notAdmissible, noLeast, noMarginSafe, notCrossed, notFinished}
 use Rattle.questions.specs.FixedPoint.{FixedPoint}
 use Rattle.questions.specs.declared.CheckAnswer.{CheckAnswer}
 use Rattle.questions.specs.declared.SlackAnswer.{SlackAnswer}
@@ -11,34 +12,34 @@ use Rattle.questions.specs.declared.FixedPointAnswer.{FixedPointAnswer}
 
 abbrev pub checkOf : CheckAnswer → Answer (Unit {0})
 checkOf CheckAnswer.Admissible = result tt
-checkOf CheckAnswer.NoPlan = refusal 20 (0 ∷ [])
-checkOf CheckAnswer.BadDuration = refusal 10 (0 ∷ [])
-checkOf (CheckAnswer.Failing port count) = refusal 21 (port ∷ count ∷ [])
+checkOf CheckAnswer.NoPlan = refusal noPlanHeld (0 ∷ [])
+checkOf CheckAnswer.BadDuration = refusal badDuration (0 ∷ [])
+checkOf (CheckAnswer.Failing port count) = refusal notAdmissible (port ∷ count ∷ [])
 
 abbrev pub slackOf : SlackAnswer → Answer ℤ
 slackOf (SlackAnswer.Slack z) = result z
-slackOf SlackAnswer.NoPlan = refusal 20 (0 ∷ [])
-slackOf SlackAnswer.BadDuration = refusal 10 (0 ∷ [])
-slackOf SlackAnswer.NotCrossed = refusal 24 (0 ∷ [])
+slackOf SlackAnswer.NoPlan = refusal noPlanHeld (0 ∷ [])
+slackOf SlackAnswer.BadDuration = refusal badDuration (0 ∷ [])
+slackOf SlackAnswer.NotCrossed = refusal notCrossed (0 ∷ [])
 
 -- a search's answer, where the failing ports at top come with the refusal of this number
 abbrev pub searchOf : ℕ → SearchAnswer → Answer ℕ
 searchOf number (SearchAnswer.Duration T) = result T
-searchOf number SearchAnswer.NoPlan = refusal 20 (0 ∷ [])
-searchOf number SearchAnswer.ShortScratch = refusal 11 (0 ∷ [])
+searchOf number SearchAnswer.NoPlan = refusal noPlanHeld (0 ∷ [])
+searchOf number SearchAnswer.ShortScratch = refusal shortScratch (0 ∷ [])
 searchOf number (SearchAnswer.Failing port count) = refusal number (port ∷ count ∷ [])
 
 -- the answer of the search for the least duration, and of the one for the margin-safe duration
 abbrev pub leastOf : SearchAnswer → Answer ℕ
-leastOf = searchOf 22
+leastOf = searchOf noLeast
 
 abbrev pub marginSafeOf : SearchAnswer → Answer ℕ
-marginSafeOf = searchOf 23
+marginSafeOf = searchOf noMarginSafe
 
 -- the answer of the fixed-point iteration
 abbrev pub fixedPointOf : FixedPointAnswer → Answer FixedPoint
 fixedPointOf (FixedPointAnswer.Duration duration steps) = result (record { duration = duration; steps = steps })
-fixedPointOf FixedPointAnswer.NoPlan = refusal 20 (0 ∷ [])
-fixedPointOf FixedPointAnswer.BadStart = refusal 10 (0 ∷ [])
-fixedPointOf (FixedPointAnswer.Failing port count steps) = refusal 22 (port ∷ count ∷ steps ∷ [])
-fixedPointOf (FixedPointAnswer.Unfinished duration steps) = refusal 26 (duration ∷ steps ∷ [])
+fixedPointOf FixedPointAnswer.NoPlan = refusal noPlanHeld (0 ∷ [])
+fixedPointOf FixedPointAnswer.BadStart = refusal badDuration (0 ∷ [])
+fixedPointOf (FixedPointAnswer.Failing port count steps) = refusal noLeast (port ∷ count ∷ steps ∷ [])
+fixedPointOf (FixedPointAnswer.Unfinished duration steps) = refusal notFinished (duration ∷ steps ∷ [])

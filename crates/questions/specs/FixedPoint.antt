@@ -4,7 +4,8 @@ use mathlib.Core.List.{[], _∷_}
 use Rattle.cqf.specs.Plan.{Plan, validPlan}
 use Rattle.cqf.specs.Condition.{failing, lowestFailing}
 use Rattle.cqf.specs.FixedPoint.{Outcome, found, none, unfinished, iterate}
-use Rattle.loading.specs.Outcome.{Answer, result, refusal}
+use Rattle.answers.specs.Answer.{Answer, result, refusal}
+use Rattle.answers.specs.Refusals.{noLeast, notFinished}
 use Rattle.questions.specs.Outcome.{asked}
 
 -- a duration, and the steps that were used
@@ -16,8 +17,8 @@ pub record FixedPoint : Type 0 where
 -- the duration reached. Each says last how many steps were used.
 abbrev pub outcomeAnswer : Plan → (steps : ℕ) → Outcome → Answer FixedPoint
 outcomeAnswer p steps (found t n) = result (record { duration = t; steps = n })
-outcomeAnswer p steps (none n) = refusal 22 (lowestFailing p (p .top) ∷ failing p (p .top) ∷ n ∷ [])
-outcomeAnswer p steps (unfinished t) = refusal 26 (t ∷ steps ∷ [])
+outcomeAnswer p steps (none n) = refusal noLeast (lowestFailing p (p .top) ∷ failing p (p .top) ∷ n ∷ [])
+outcomeAnswer p steps (unfinished t) = refusal notFinished (t ∷ steps ∷ [])
 
 -- 20, then 10 for a start outside 1 to top, then the outcome
 unfoldable pub fixedPointAnswer : Plan → (start steps : ℕ) → Answer FixedPoint

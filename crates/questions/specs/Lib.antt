@@ -1,23 +1,8 @@
--- The calls of the planner: what each answers, what it leaves, and sequences of calls.
+-- The questions: what each answers and leaves.
 pub mod Outcome
 pub mod FixedPoint
-pub mod Save
-pub mod Gates
-pub mod Calls
 pub mod Answer
-pub mod Meaning
-pub mod Reply
-pub mod Restored
-pub mod Scheduled
-pub mod NoWorse
-pub mod Iterations
 pub mod laws
-pub mod NoPlan
-pub mod Theorem
-pub mod LighterTheorem
-pub mod IterationsTheorem
-pub mod SaveTheorem
-pub mod GatesTheorem
 pub mod Failing
 pub mod Search
 pub mod Iterate

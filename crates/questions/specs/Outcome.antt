@@ -10,14 +10,15 @@ use Rattle.cqf.specs.Bounded.{within, tabulate}
 use Rattle.cqf.specs.Limits.{portSlots, portOk}
 use Rattle.cqf.specs.Plan.{Plan, validPlan}
 use Rattle.cqf.specs.Condition.{demand, slack, crossed, admissible, failing, lowestFailing, least, marginSafe}
-use Rattle.loading.specs.Outcome.{Answer, result, refusal}
+use Rattle.answers.specs.Answer.{Answer, result, refusal}
+use Rattle.answers.specs.Refusals.{badDuration, shortScratch, noPlanHeld, notAdmissible, noLeast, noMarginSafe, notCrossed}
 
 -- 20, then 10, then what the question says
 abbrev pub asked : {A : Type 0} → Plan → ℕ → Answer A → Answer A
 asked p T answer =
     cond (validPlan p)
-    (cond (within 1 (p .top) T) answer (refusal 10 (0 ∷ [])))
-    (refusal 20 (0 ∷ []))
+    (cond (within 1 (p .top) T) answer (refusal badDuration (0 ∷ [])))
+    (refusal noPlanHeld (0 ∷ []))
 
 -- a refusal that names the failing ports at T: the lowest, and how many
 abbrev pub failingAt : {A : Type 0} → ℕ → Plan → ℕ → Answer A
@@ -26,13 +27,13 @@ failingAt number p T = refusal number (lowestFailing p T ∷ failing p T ∷ [])
 -- the plain question
 unfoldable pub checkAnswer : Plan → ℕ → Answer (Unit {0})
 unfolding admissible failing lowestFailing validPlan
-checkAnswer p T = asked p T (cond (admissible p T) (result tt) (failingAt 21 p T))
+checkAnswer p T = asked p T (cond (admissible p T) (result tt) (failingAt notAdmissible p T))
 
 -- the spare of port n
 unfoldable pub slackAnswer : Plan → ℕ → ℕ → Answer ℤ
 unfolding crossed slack validPlan
 slackAnswer p n T =
-    asked p T (cond (portOk n && crossed p (n - 1)) (result (slack p (n - 1) T)) (refusal 24 (0 ∷ [])))
+    asked p T (cond (portOk n && crossed p (n - 1)) (result (slack p (n - 1) T)) (refusal notCrossed (0 ∷ [])))
 
 -- a search of a valid plan for a duration from 1 to top: what it answers, by the refusal of this number where there is none, and
 -- each port's demand at the duration found, or at top
@@ -46,8 +47,8 @@ foundDemands p found = tabulate portSlots (λ q. demand p q (cond (leb found (p 
 abbrev pub searched : ℕ → Plan → ℕ → List ℕ → Answer ℕ
 searched number p found scratch =
     cond (validPlan p)
-    (cond (leb portSlots (length scratch)) (foundAnswer number p found) (refusal 11 (0 ∷ [])))
-    (refusal 20 (0 ∷ []))
+    (cond (leb portSlots (length scratch)) (foundAnswer number p found) (refusal shortScratch (0 ∷ [])))
+    (refusal noPlanHeld (0 ∷ []))
 
 -- what it leaves in the scratch: the demands in its first numbers, and the rest as it was
 abbrev pub searchLeaves : Plan → ℕ → List ℕ → List ℕ
@@ -58,7 +59,7 @@ searchLeaves p found scratch =
 
 unfoldable pub leastAnswer : Plan → List ℕ → Answer ℕ
 unfolding least failing lowestFailing validPlan
-leastAnswer p scratch = searched 22 p (least p) scratch
+leastAnswer p scratch = searched noLeast p (least p) scratch
 
 unfoldable pub leastLeaves : Plan → List ℕ → List ℕ
 unfolding least demand validPlan tabulate
@@ -66,7 +67,7 @@ leastLeaves p scratch = searchLeaves p (least p) scratch
 
 unfoldable pub marginSafeAnswer : Plan → List ℕ → Answer ℕ
 unfolding marginSafe failing lowestFailing validPlan
-marginSafeAnswer p scratch = searched 23 p (marginSafe p) scratch
+marginSafeAnswer p scratch = searched noMarginSafe p (marginSafe p) scratch
 
 unfoldable pub marginSafeLeaves : Plan → List ℕ → List ℕ
 unfolding marginSafe demand validPlan tabulate

@@ -6,7 +6,8 @@ use Rattle.cqf.specs.Bounded.{tabulate}
 use Rattle.cqf.specs.Limits.{portSlots}
 use Rattle.cqf.specs.Plan.{Plan}
 use Rattle.cqf.specs.Condition.{demand, least, marginSafe}
-use Rattle.loading.specs.Outcome.{Answer}
+use Rattle.answers.specs.Answer.{Answer}
+use Rattle.answers.specs.Refusals.{noLeast, noMarginSafe}
 use Rattle.questions.specs.Outcome.{foundAnswer, foundDemands, searched, searchLeaves}
 use Rattle.questions.specs.declared.seek.Goal.{Goal}
 
@@ -16,8 +17,8 @@ wanted Goal.Least = least
 wanted Goal.MarginSafe = marginSafe
 
 abbrev pub noneNumber : Goal → ℕ
-noneNumber Goal.Least = 22
-noneNumber Goal.MarginSafe = 23
+noneNumber Goal.Least = noLeast
+noneNumber Goal.MarginSafe = noMarginSafe
 
 -- the duration sought was found, and where it is up to top, out has the demands at it
 pub record Found (sought : Plan → ℕ) (p : Plan) (found : ℕ) (out : List ℕ) : Type 0 where

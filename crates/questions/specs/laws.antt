@@ -1,5 +1,4 @@
--- Laws of the calls.
-pub mod Calls
+-- Laws of the questions.
 pub mod Sums
 pub mod Stretched
 pub mod Sets
@@ -7,12 +6,9 @@ pub mod Fails
 pub mod Topped
 pub mod Signed
 pub mod Answers
-pub mod Saved
-pub mod Gates
 pub mod PortNeed
 pub mod Scratch
 pub mod PortTest
 pub mod Iteration
 pub mod Descent
 pub mod Searched
-pub mod Iterations

@@ -1,4 +1,5 @@
 -- Laws of the fields of a plan, and of what saving answers.
+pub mod Saved
 pub mod Slots
 pub mod Sizes
 pub mod Whole

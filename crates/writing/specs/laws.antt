@@ -2,3 +2,4 @@
 pub mod Laid
 pub mod Route
 pub mod Fields
+pub mod Answer

@@ -5,9 +5,10 @@ use mathlib.Core.List.{List, [], _∷_}
 use Prim.Native.Nat.{ℕ}
 use native.Mathlib.Omega.{arith}
 use Rattle.cqf.specs.Plan.{Plan}
-use Rattle.loading.specs.Outcome.{Answer, result, refusal, numberOf}
+use Rattle.answers.specs.Answer.{Answer, result, refusal, numberOf}
+use Rattle.answers.specs.Refusals.{notAdmissible}
 use Rattle.questions.specs.Answer.{checkOf}
-use Rattle.questions.specs.Meaning.{Refuses, Means, CheckMeans}
+use Rattle.sequences.specs.Meaning.{Refuses, Means, CheckMeans}
 use Rattle.questions.specs.declared.CheckAnswer.{CheckAnswer}
 use Rattle.capi.specs.declared.AnswerNumbers.{AnswerNumbers}
 use Rattle.capi.specs.Numbers.{refusedWith, checkNumbers}
@@ -24,7 +25,7 @@ check-number (result tt) = refl
 check-number (refusal number values) = refused-number number values
 
 -- of what the plain question answers, 21 is the refusal with the lowest failing port and their count, and 0 the result
-refuses : (answer : CheckAnswer) → numberOf (checkOf answer) ≡ 21 → Refuses (checkOf answer)
+refuses : (answer : CheckAnswer) → numberOf (checkOf answer) ≡ notAdmissible → Refuses (checkOf answer)
 refuses CheckAnswer.Admissible e = absurd (omega arith)
 refuses CheckAnswer.NoPlan e = absurd (omega arith)
 refuses CheckAnswer.BadDuration e = absurd (omega arith)
@@ -54,7 +55,7 @@ module _ (answer : CheckAnswer) (numbers : AnswerNumbers) (is : numbers ≡ chec
   number : numbers .refusal ≡ numberOf (checkOf answer)
   number = ap (λ (n : AnswerNumbers). n .refusal) is ∙ check-number (checkOf answer)
 
-  refusing : Refuses (checkOf answer) ↔ (numbers .refusal ≡ 21)
+  refusing : Refuses (checkOf answer) ↔ (numbers .refusal ≡ notAdmissible)
   refusing = (λ r. number ∙ ap numberOf (r .is), λ e. refuses answer (sym number ∙ e))
 
   accepting : (checkOf answer ≡ result tt) ↔ (numbers .refusal ≡ 0)

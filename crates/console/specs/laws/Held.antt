@@ -8,7 +8,8 @@ use Rattle.plan_reading.specs.Reading.{PlanRead, accepted, rejected, loose, rea
 use Rattle.plan_reading.specs.StrictTheorem.{read-loosely}
 use Rattle.plan_reading.specs.laws.validity.Valid.{accepted-valid}
 use Rattle.tables.specs.Tables.{planOf}
-use Rattle.loading.specs.Outcome.{result, Fields}
+use Rattle.answers.specs.Answer.{result}
+use Rattle.loading.specs.Outcome.{Fields}
 use Rattle.loading.specs.Answer.{loadOf}
 use Rattle.loading.specs.declared.LoadOutcome.{LoadOutcome}
 use Rattle.loading.specs.laws.Load.{accepted-leaves, refused-answer}

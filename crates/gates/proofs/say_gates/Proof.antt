@@ -6,7 +6,7 @@ use lib.Seq.{length-take-le}
 use borrow.Author.Needs.{needs}
 use Rattle.gating.specs.Answer.{gatesOf}
 use Rattle.tables.specs.Tables.{planOf}
-use Rattle.questions.specs.laws.Gates.{gates-fit}
+use Rattle.gating.specs.laws.Gates.{gates-fit}
 use Rattle.gates.proofs.say_gates.Statement.{statement}
 use Rattle.gates.proofs.say_gates.Tie as tie
 

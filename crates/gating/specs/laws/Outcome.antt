@@ -9,13 +9,13 @@ use Rattle.cqf.specs.Plan.{Plan}
 use Rattle.cqf.specs.laws.Ranges.{top-most}
 use Rattle.plan_reading.specs.laws.fields.Within.{within-high}
 use Rattle.gate_lists.specs.GateList.{gateListBytes}
-use Rattle.loading.specs.Outcome.{Answer, result, refusal}
+use Rattle.answers.specs.Answer.{Answer, result, refusal}
 use Rattle.writing.specs.Laid.{laid}
 use Rattle.writing.specs.laws.Laid.{laid-over}
 use Rattle.questions.specs.Outcome.{checkAnswer}
-use Rattle.questions.specs.Gates.{queuesOk, gatesAnswer, gatesLeaves}
+use Rattle.gating.specs.Gates.{queuesOk, gatesAnswer, gatesLeaves}
 use Rattle.questions.specs.laws.Answers.{check-accepts}
-use Rattle.questions.specs.laws.Gates.{accepts-valid, gates-refused, gates-accepted, gates-leave, gates-check, gates-apart, gates-fit}
+use Rattle.gating.specs.laws.Gates.{accepts-valid, gates-refused, gates-accepted, gates-leave, gates-check, gates-apart, gates-fit}
 use Rattle.gating.specs.List.{listOf, listSizeBy, ListFits}
 use Rattle.gating.specs.Outcome.{answerBy, isResult}
 use Rattle.gating.specs.laws.List.{list-is, list-length}

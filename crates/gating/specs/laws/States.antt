@@ -9,8 +9,8 @@ use lib.Dec.{leb, eqb}
 use Rattle.cqf.specs.Bounded.{allTo}
 use Rattle.cqf.specs.laws.Bounded.{allTo-at}
 use Rattle.gate_lists.specs.GateList.{bit, bothClosed}
-use Rattle.questions.specs.Gates.{lastQueue, queuesOk}
-use Rattle.questions.specs.laws.Gates.{even-below, odd-below, queues-apart}
+use Rattle.gating.specs.Gates.{lastQueue, queuesOk}
+use Rattle.gating.specs.laws.Gates.{even-below, odd-below, queues-apart}
 
 -- a queue that is none of those before the last is the last
 past : (k : ℕ) {q : ℕ} → k ≤ q → (q ≡ k → ⊥) → suc k ≤ q

@@ -4,7 +4,8 @@ use mathlib.Core.Path.{_≡_, ap}
 use mathlib.Core.List.{List, [], _∷_}
 use Rattle.cqf.specs.Plan.{Plan}
 use Rattle.plan_reading.specs.Reading.{accepted, rejected, Mode, readAs}
-use Rattle.loading.specs.Outcome.{result, refusal, readingAnswer, readingLeaves, loadAnswer, loadLeaves}
+use Rattle.answers.specs.Answer.{result, refusal}
+use Rattle.loading.specs.Outcome.{readingAnswer, readingLeaves, loadAnswer, loadLeaves}
 
 module _ (mode : Mode) (held : Plan) (s : List ℕ) where
   -- a refusal keeps the plan held before

@@ -10,9 +10,9 @@ use Rattle.plan_reading.specs.Reading.{maxBytes}
 use Rattle.plan_reading.specs.Saved.{savedBytes}
 use Rattle.plan_reading.specs.laws.saved.SavedLength.{saved-length}
 use Rattle.writing.specs.laws.Laid.{over-length}
-use Rattle.loading.specs.Outcome.{Answer, result, refusal}
-use Rattle.questions.specs.Save.{saveAnswer, saveLeaves}
-use Rattle.questions.specs.laws.Saved.{save-written, save-lays, save-front, save-size}
+use Rattle.answers.specs.Answer.{Answer, result, refusal}
+use Rattle.saving.specs.Save.{saveAnswer, saveLeaves}
+use Rattle.saving.specs.laws.Saved.{save-written, save-lays, save-front, save-size}
 use Rattle.normalize.specs.{Front}
 
 module _

@@ -7,9 +7,9 @@ use Rattle.cqf.specs.Limits.{maxTop}
 use Rattle.cqf.specs.Plan.{Plan}
 use Rattle.cqf.specs.laws.Ranges.{top-most}
 use Rattle.tables.specs.Tables.{planOf}
-use Rattle.loading.specs.Outcome.{Answer}
+use Rattle.answers.specs.Answer.{Answer}
 use Rattle.questions.specs.FixedPoint.{FixedPoint, fixedPointAnswer}
-use Rattle.questions.specs.Iterations.{lastPlus, plusSteps}
+use Rattle.sequences.specs.Iterations.{lastPlus, plusSteps}
 use Rattle.progress.specs.Portion.{portionSteps}
 use Rattle.progress.specs.laws.Portions.{reached-few, portioned, found-within, none-within, stopped-within, not-20, not-10}
 use Rattle.progress.proofs.portion.Statement.{statement}

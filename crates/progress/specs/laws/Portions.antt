@@ -12,10 +12,11 @@ use Rattle.cqf.specs.FixedPoint.{stepsFrom, Outcome, found, none, unfinished, i
 use Rattle.cqf.specs.laws.Ranges.{top-positive}
 use Rattle.cqf.specs.laws.Ended.{ended-found, ended-none, ended-finished}
 use Rattle.cqf.specs.laws.Converges.{converges, steps-top}
-use Rattle.loading.specs.Outcome.{Answer, result, refusal, numberOf}
+use Rattle.answers.specs.Answer.{Answer, result, refusal, numberOf}
+use Rattle.answers.specs.Refusals.{badDuration, noPlanHeld, noLeast, notFinished}
 use Rattle.questions.specs.FixedPoint.{FixedPoint, outcomeAnswer, fixedPointAnswer}
-use Rattle.questions.specs.Iterations.{plusSteps}
-use Rattle.questions.specs.laws.Iterations.{answers, of-result, of-none, of-unfinished, iterations}
+use Rattle.sequences.specs.Iterations.{plusSteps}
+use Rattle.sequences.specs.laws.Iterations.{answers, of-result, of-none, of-unfinished, iterations}
 use Rattle.progress.specs.Portion.{portionSteps, Reached}
 
 pub reached-start : (p : Plan) → validPlan p ≡ true → Reached p 1 0
@@ -23,12 +24,12 @@ unfolding iterate
 reached-start p valid = record { valid = valid; stopped = answers p valid 1 0 (le-refl 1) (top-positive p valid) }
 
 -- the answer of steps that stopped says how many there were, and none is 20 or 10
-of-stopped : (p : Plan) (n : ℕ) (o : Outcome) (u k : ℕ) → outcomeAnswer p n o ≡ refusal 26 (u ∷ k ∷ []) → n ≡ k
+of-stopped : (p : Plan) (n : ℕ) (o : Outcome) (u k : ℕ) → outcomeAnswer p n o ≡ refusal notFinished (u ∷ k ∷ []) → n ≡ k
 of-stopped p n (found t m) u k e = let z : _≡_ {A = ℕ} 0 26 = ap numberOf e in absurd (omega arith)
 of-stopped p n (none m) u k e = let z : _≡_ {A = ℕ} 22 26 = ap numberOf e in absurd (omega arith)
 of-stopped p n (unfinished t) u k e = cc
 
-not-refused : (p : Plan) (n : ℕ) (o : Outcome) → (numberOf (outcomeAnswer p n o) ≡ 20 → ⊥) × (numberOf (outcomeAnswer p n o) ≡ 10 → ⊥)
+not-refused : (p : Plan) (n : ℕ) (o : Outcome) → (numberOf (outcomeAnswer p n o) ≡ noPlanHeld → ⊥) × (numberOf (outcomeAnswer p n o) ≡ badDuration → ⊥)
 not-refused p n (found t m) = (λ e. absurd (omega (arith, e)), λ e. absurd (omega (arith, e)))
 not-refused p n (none m) = (λ e. absurd (omega (arith, e)), λ e. absurd (omega (arith, e)))
 not-refused p n (unfinished t) = (λ e. absurd (omega (arith, e)), λ e. absurd (omega (arith, e)))
@@ -70,7 +71,7 @@ module _ {p : Plan} {at used : ℕ} (r : Reached p at used) where
         go (yes l) = omega (arith, l, ended-found p (leastFrom p at) (stepsFrom p at) (sym (again .ends n l) ∙ is) .1)
         go (no l) = let d = sym is ∙ again .stops n (omega arith) in absurd (let z : _≡_ {A = ℕ} 0 1 = cc in omega arith)
 
-    pub none-within : {a b k : ℕ} → refusal 22 (a ∷ b ∷ k ∷ []) ≡ fixedPointAnswer p at n → k ≤ n
+    pub none-within : {a b k : ℕ} → refusal noLeast (a ∷ b ∷ k ∷ []) ≡ fixedPointAnswer p at n → k ≤ n
     none-within {a} {b} {k} e = go (decLe (stepsFrom p at) n)
       where
         is : iterate p at n ≡ none k
@@ -80,19 +81,19 @@ module _ {p : Plan} {at used : ℕ} (r : Reached p at used) where
         go (yes l) = omega (arith, l, ended-none p (leastFrom p at) (stepsFrom p at) (sym (again .ends n l) ∙ is) .0)
         go (no l) = let d = sym is ∙ again .stops n (omega arith) in absurd (let z : _≡_ {A = ℕ} 0 1 = cc in omega arith)
 
-    pub stopped-within : {u k : ℕ} → refusal 26 (u ∷ k ∷ []) ≡ fixedPointAnswer p at n → k ≤ n
+    pub stopped-within : {u k : ℕ} → refusal notFinished (u ∷ k ∷ []) ≡ fixedPointAnswer p at n → k ≤ n
     stopped-within {u} {k} e = omega (arith, of-stopped p n (iterate p at n) u k (sym (e ∙ gives)))
 
-    pub not-20 : refusal 20 (0 ∷ []) ≡ fixedPointAnswer p at n → ⊥
+    pub not-20 : refusal noPlanHeld (0 ∷ []) ≡ fixedPointAnswer p at n → ⊥
     not-20 e = not-refused p n (iterate p at n) .0 (sym (ap numberOf (e ∙ gives)))
 
-    pub not-10 : refusal 10 (0 ∷ []) ≡ fixedPointAnswer p at n → ⊥
+    pub not-10 : refusal badDuration (0 ∷ []) ≡ fixedPointAnswer p at n → ⊥
     not-10 e = not-refused p n (iterate p at n) .1 (sym (ap numberOf (e ∙ gives)))
 
   -- the portion came to no end either: further on
   pub reached-next
       : {u k : ℕ}
-      → refusal 26 (u ∷ k ∷ []) ≡ fixedPointAnswer p 1 (used + portionSteps)
+      → refusal notFinished (u ∷ k ∷ []) ≡ fixedPointAnswer p 1 (used + portionSteps)
       → Reached p u k × (used < k)
   reached-next {u} {k} e =
       let all = used + portionSteps in

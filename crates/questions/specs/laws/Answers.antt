@@ -11,16 +11,17 @@ use Rattle.cqf.specs.Limits.{portOk}
 use Rattle.cqf.specs.Plan.{Plan, validPlan}
 use Rattle.cqf.specs.Condition.{slack, crossed, admissible, failing, lowestFailing}
 use Rattle.cqf.specs.FixedPoint.{iterate}
-use Rattle.loading.specs.Outcome.{Answer, result, refusal, numberOf}
+use Rattle.answers.specs.Answer.{Answer, result, refusal, numberOf}
+use Rattle.answers.specs.Refusals.{badDuration, noPlanHeld, notAdmissible, notCrossed}
 use Rattle.questions.specs.Outcome.{asked, failingAt, checkAnswer, slackAnswer}
 use Rattle.questions.specs.FixedPoint.{outcomeAnswer, fixedPointAnswer}
 
 -- 20, then 10, then what the question says
 module _ {A : Type 0} (p : Plan) (T : ℕ) (answer : Answer A) where
-  asked-none : validPlan p ≡ false → asked p T answer ≡ refusal 20 (0 ∷ [])
+  asked-none : validPlan p ≡ false → asked p T answer ≡ refusal noPlanHeld (0 ∷ [])
   asked-none e = rw e
 
-  asked-out : validPlan p ≡ true → within 1 (p .top) T ≡ false → asked p T answer ≡ refusal 10 (0 ∷ [])
+  asked-out : validPlan p ≡ true → within 1 (p .top) T ≡ false → asked p T answer ≡ refusal badDuration (0 ∷ [])
   asked-out e out = rw (e, out)
 
   asked-within : validPlan p ≡ true → within 1 (p .top) T ≡ true → asked p T answer ≡ answer
@@ -30,16 +31,16 @@ module _ {A : Type 0} (p : Plan) (T : ℕ) (answer : Answer A) where
 module _ (p : Plan) (T : ℕ) where
   -- what it says of a valid plan, at a duration from 1 to its top
   abbrev pub verdict : Answer (Unit {0})
-  verdict = cond (admissible p T) (result tt) (failingAt 21 p T)
+  verdict = cond (admissible p T) (result tt) (failingAt notAdmissible p T)
 
   check-is : checkAnswer p T ≡ asked p T verdict
   unfolding checkAnswer
   check-is = refl
 
-  pub check-none : validPlan p ≡ false → checkAnswer p T ≡ refusal 20 (0 ∷ [])
+  pub check-none : validPlan p ≡ false → checkAnswer p T ≡ refusal noPlanHeld (0 ∷ [])
   check-none e = check-is ∙ asked-none p T verdict e
 
-  pub check-out : validPlan p ≡ true → within 1 (p .top) T ≡ false → checkAnswer p T ≡ refusal 10 (0 ∷ [])
+  pub check-out : validPlan p ≡ true → within 1 (p .top) T ≡ false → checkAnswer p T ≡ refusal badDuration (0 ∷ [])
   check-out e out = check-is ∙ asked-out p T verdict e out
 
   pub check-within : validPlan p ≡ true → within 1 (p .top) T ≡ true → checkAnswer p T ≡ verdict
@@ -55,7 +56,7 @@ module _ (p : Plan) (T : ℕ) where
       good : (b : Bool) → admissible p T ≡ b → within 1 (p .top) T ≡ true → admissible p T ≡ true
       good true a r = a
       good false a r =
-          let none : failingAt 21 p T ≡ result tt = rw a at (sym (check-within e r) ∙ said) in
+          let none : failingAt notAdmissible p T ≡ result tt = rw a at (sym (check-within e r) ∙ said) in
           let z : _≡_ {A = ℕ} 21 0 = ap numberOf none in
           absurd (omega arith)
 
@@ -82,7 +83,7 @@ module _ (p : Plan) (T : ℕ) where
         : {port : ℕ}
         → (count ≡ 0 → ⊥)
         → port ≡ lowestFailing p T
-        → checkAnswer p T ≡ refusal 21 (port ∷ count ∷ [])
+        → checkAnswer p T ≡ refusal notAdmissible (port ∷ count ∷ [])
     check-bad ne port = check-within valid ranged ∙ rw (some-refused ne, port, many)
 
 -- the fixed-point iteration
@@ -91,10 +92,10 @@ module _ (p : Plan) (start steps : ℕ) where
   unfolding fixedPointAnswer
   fixed-point-is = refl
 
-  pub fixed-point-none : validPlan p ≡ false → fixedPointAnswer p start steps ≡ refusal 20 (0 ∷ [])
+  pub fixed-point-none : validPlan p ≡ false → fixedPointAnswer p start steps ≡ refusal noPlanHeld (0 ∷ [])
   fixed-point-none e = fixed-point-is ∙ asked-none p start _ e
 
-  pub fixed-point-out : validPlan p ≡ true → within 1 (p .top) start ≡ false → fixedPointAnswer p start steps ≡ refusal 10 (0 ∷ [])
+  pub fixed-point-out : validPlan p ≡ true → within 1 (p .top) start ≡ false → fixedPointAnswer p start steps ≡ refusal badDuration (0 ∷ [])
   fixed-point-out e out = fixed-point-is ∙ asked-out p start _ e out
 
   pub fixed-point-within
@@ -106,23 +107,23 @@ module _ (p : Plan) (start steps : ℕ) where
 -- the slack of port n
 module _ (p : Plan) (n T : ℕ) where
   abbrev spare : Answer ℤ
-  spare = cond (portOk n && crossed p (n - 1)) (result (slack p (n - 1) T)) (refusal 24 (0 ∷ []))
+  spare = cond (portOk n && crossed p (n - 1)) (result (slack p (n - 1) T)) (refusal notCrossed (0 ∷ []))
 
   slack-answer-is : slackAnswer p n T ≡ asked p T spare
   unfolding slackAnswer
   slack-answer-is = refl
 
-  pub slack-none : validPlan p ≡ false → slackAnswer p n T ≡ refusal 20 (0 ∷ [])
+  pub slack-none : validPlan p ≡ false → slackAnswer p n T ≡ refusal noPlanHeld (0 ∷ [])
   slack-none e = slack-answer-is ∙ asked-none p T spare e
 
-  pub slack-out : validPlan p ≡ true → within 1 (p .top) T ≡ false → slackAnswer p n T ≡ refusal 10 (0 ∷ [])
+  pub slack-out : validPlan p ≡ true → within 1 (p .top) T ≡ false → slackAnswer p n T ≡ refusal badDuration (0 ∷ [])
   slack-out e out = slack-answer-is ∙ asked-out p T spare e out
 
   module _ (valid : validPlan p ≡ true) (ranged : within 1 (p .top) T ≡ true) where
-    pub slack-no-port : portOk n ≡ false → slackAnswer p n T ≡ refusal 24 (0 ∷ [])
+    pub slack-no-port : portOk n ≡ false → slackAnswer p n T ≡ refusal notCrossed (0 ∷ [])
     slack-no-port none = slack-answer-is ∙ asked-within p T spare valid ranged ∙ (rw none)
 
-    pub slack-uncrossed : crossed p (n - 1) ≡ false → slackAnswer p n T ≡ refusal 24 (0 ∷ [])
+    pub slack-uncrossed : crossed p (n - 1) ≡ false → slackAnswer p n T ≡ refusal notCrossed (0 ∷ [])
     slack-uncrossed e = slack-answer-is ∙ asked-within p T spare valid ranged ∙ (rw (e, and-false (portOk n)))
 
     pub slack-crossed

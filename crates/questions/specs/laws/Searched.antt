@@ -10,7 +10,8 @@ use borrow.Author.Tests.{le-leb, lt-leb, leb-true}
 use Rattle.cqf.specs.Limits.{portSlots}
 use Rattle.cqf.specs.Plan.{Plan, validPlan}
 use Rattle.cqf.specs.Condition.{least, marginSafe}
-use Rattle.loading.specs.Outcome.{Answer, result, refusal}
+use Rattle.answers.specs.Answer.{Answer, result, refusal}
+use Rattle.answers.specs.Refusals.{shortScratch, noPlanHeld, noLeast, noMarginSafe}
 use Rattle.questions.specs.Outcome.{failingAt, foundAnswer, searched, leastAnswer, leastLeaves, marginSafeAnswer, marginSafeLeaves}
 use Rattle.questions.specs.Failing.{FailingAt}
 use Rattle.questions.specs.Search.{Found, Answers, Ends}
@@ -34,11 +35,11 @@ module _ (number : ℕ) (sought : Plan → ℕ) (p : Plan) where
         (rw (lt-leb _ _ more, f .lowest, f .many), rw (lt-leb _ _ more, f .demands))
 
   module _ (scratch : List ℕ) where
-    pub ends-no-plan : validPlan p ≡ false → Ends number sought p scratch (refusal 20 (0 ∷ [])) scratch
+    pub ends-no-plan : validPlan p ≡ false → Ends number sought p scratch (refusal noPlanHeld (0 ∷ [])) scratch
     ends-no-plan e = (rw e, rw e)
 
     module _ (valid : validPlan p ≡ true) where
-      pub ends-short : length scratch < portSlots → Ends number sought p scratch (refusal 11 (0 ∷ [])) scratch
+      pub ends-short : length scratch < portSlots → Ends number sought p scratch (refusal shortScratch (0 ∷ [])) scratch
       ends-short l = (rw (valid, lt-leb _ _ l), rw (valid, lt-leb _ _ l))
 
       -- the demands replace the first numbers, and those past them are kept
@@ -57,7 +58,7 @@ module _ (number : ℕ) (p : Plan) (found : ℕ) (scratch : List ℕ) where
       go
           : (x y z : Bool)
           → leb found (p .top) ≡ z
-          → cond x (cond y (cond z (result found) (failingAt number p (p .top))) (refusal 11 (0 ∷ []))) (refusal 20 (0 ∷ [])) ≡ result T
+          → cond x (cond y (cond z (result found) (failingAt number p (p .top))) (refusal shortScratch (0 ∷ []))) (refusal noPlanHeld (0 ∷ [])) ≡ result T
           → (found ≡ T) × (found ≤ p .top)
       go true true true l e = (cc, leb-true _ _ l)
       go true true false l e = let z : _≡_ {A = ℕ} 0 1 = cc in absurd (omega arith)
@@ -74,9 +75,9 @@ pub least-searched
     : (p : Plan) (scratch : List ℕ)
     → validPlan p ≡ true
     → portSlots ≤ length scratch
-    → leastAnswer p scratch ≡ foundAnswer 22 p (least p)
+    → leastAnswer p scratch ≡ foundAnswer noLeast p (least p)
 unfolding leastAnswer
-least-searched p scratch valid long = searched-ends 22 p (least p) scratch valid long
+least-searched p scratch valid long = searched-ends noLeast p (least p) scratch valid long
 
 pub least-gives
     : (p : Plan) (scratch : List ℕ) {T : ℕ}
@@ -86,7 +87,7 @@ pub least-gives
     → T ≤ p .top
     → leastAnswer p scratch ≡ result T
 unfolding leastAnswer
-least-gives p scratch {T} valid long is most = ap (λ (n : ℕ). searched 22 p n scratch) is ∙ searched-gives 22 p T scratch valid long most
+least-gives p scratch {T} valid long is most = ap (λ (n : ℕ). searched noLeast p n scratch) is ∙ searched-gives noLeast p T scratch valid long most
 
 pub margin-safe-gives
     : (p : Plan) (scratch : List ℕ) {T : ℕ}
@@ -96,18 +97,18 @@ pub margin-safe-gives
     → T ≤ p .top
     → marginSafeAnswer p scratch ≡ result T
 unfolding marginSafeAnswer
-margin-safe-gives p scratch {T} valid long is most = ap (λ (n : ℕ). searched 23 p n scratch) is ∙ searched-gives 23 p T scratch valid long most
+margin-safe-gives p scratch {T} valid long is most = ap (λ (n : ℕ). searched noMarginSafe p n scratch) is ∙ searched-gives noMarginSafe p T scratch valid long most
 
 pub least-ends
     : (p : Plan) (scratch : List ℕ) {answer : Answer ℕ} {exit : List ℕ}
-    → Ends 22 least p scratch answer exit
+    → Ends noLeast least p scratch answer exit
     → (answer ≡ leastAnswer p scratch) × (exit ≡ leastLeaves p scratch)
 unfolding leastAnswer leastLeaves
 least-ends p scratch h = h
 
 pub margin-safe-ends
     : (p : Plan) (scratch : List ℕ) {answer : Answer ℕ} {exit : List ℕ}
-    → Ends 23 marginSafe p scratch answer exit
+    → Ends noMarginSafe marginSafe p scratch answer exit
     → (answer ≡ marginSafeAnswer p scratch) × (exit ≡ marginSafeLeaves p scratch)
 unfolding marginSafeAnswer marginSafeLeaves
 margin-safe-ends p scratch h = h

@@ -7,16 +7,17 @@ use lib.ListN.{length}
 use Rattle.cqf.specs.Plan.{Plan, validPlan}
 use Rattle.plan_reading.specs.Saved.{savedBytes}
 use Rattle.writing.specs.Laid.{over}
-use Rattle.loading.specs.Outcome.{result, refusal}
-use Rattle.questions.specs.laws.Saved.{save-none, save-keeps, save-short, save-short-keeps, save-written, save-lays}
+use Rattle.answers.specs.Answer.{result, refusal}
+use Rattle.answers.specs.Refusals.{shortBuffer, noPlanHeld}
+use Rattle.saving.specs.laws.Saved.{save-none, save-keeps, save-short, save-short-keeps, save-written, save-lays}
 use Rattle.saving.specs.Outcome.{Saves}
 
 module _ (p : Plan) (buffer : List ℕ) where
-  pub saves-none : validPlan p ≡ false → Saves p buffer (refusal 20 (0 ∷ [])) buffer
+  pub saves-none : validPlan p ≡ false → Saves p buffer (refusal noPlanHeld (0 ∷ [])) buffer
   saves-none e = (sym (save-none p buffer e), sym (save-keeps p buffer e))
 
   module _ (valid : validPlan p ≡ true) (n : ℕ) (is : n ≡ length (savedBytes p)) where
-    pub saves-short : length buffer < n → Saves p buffer (refusal 13 (n ∷ [])) buffer
+    pub saves-short : length buffer < n → Saves p buffer (refusal shortBuffer (n ∷ [])) buffer
     saves-short l =
         let less : length buffer < length (savedBytes p) = rw is at l in
         (rw is (sym (save-short p buffer valid less)), sym (save-short-keeps p buffer valid less))

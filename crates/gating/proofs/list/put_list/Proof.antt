@@ -8,7 +8,7 @@ use denote.Ref.{now}
 use lib.ListN.{length}
 use Rattle.cqf.specs.Condition.{windowOf}
 use Rattle.gate_lists.specs.GateList.{bothClosed, oneOpen}
-use Rattle.questions.specs.laws.Gates.{even-below, odd-below}
+use Rattle.gating.specs.laws.Gates.{even-below, odd-below}
 use Rattle.writing.specs.laws.Laid.{laid-over, laid-short, lay-next}
 use Rattle.gating.specs.List.{cycleOf, cycleSize, listOf}
 use Rattle.gating.specs.laws.States.{even-fits, odd-fits}

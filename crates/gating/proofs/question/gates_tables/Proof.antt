@@ -9,7 +9,7 @@ use denote.Ref.{now}
 use Rattle.cqf.specs.Plan.{Plan}
 use Rattle.numbers.specs.Clock.{clockOf}
 use Rattle.tables.specs.Columns.{planBy}
-use Rattle.questions.specs.Gates.{gatesAnswer}
+use Rattle.gating.specs.Gates.{gatesAnswer}
 use Rattle.gating.specs.Answer.{gatesOf}
 use Rattle.gating.specs.Outcome.{isResult}
 use Rattle.gating.specs.laws.Outcome.{answer-is, refused-leaves, writable, written-leaves}

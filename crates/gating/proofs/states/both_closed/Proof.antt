@@ -2,7 +2,7 @@
 use native.Mathlib.Omega.{arith}
 use borrow.Author.Needs.{needs}
 use Rattle.gate_lists.specs.GateList.{bothClosed}
-use Rattle.questions.specs.laws.Gates.{even-below, odd-below}
+use Rattle.gating.specs.laws.Gates.{even-below, odd-below}
 use Rattle.gating.specs.laws.States.{bits-fit}
 use Rattle.gating.proofs.states.both_closed.Statement.{statement}
 use Rattle.gating.proofs.states.both_closed.Tie as tie

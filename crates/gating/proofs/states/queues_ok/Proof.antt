@@ -1,7 +1,7 @@
 -- `queues_ok` meets its contract, test by test.
 use native.Mathlib.Omega.{arith}
 use borrow.Author.Tests.{le-leb, lt-leb}
-use Rattle.questions.specs.Gates.{lastQueue}
+use Rattle.gating.specs.Gates.{lastQueue}
 use Rattle.gating.proofs.states.queues_ok.Statement.{statement}
 use Rattle.gating.proofs.states.queues_ok.Tie as tie
 

@@ -2,10 +2,10 @@
 use mathlib.Core.Path.{_≡_, sym, subst}
 use Prim.Native.Nat.{ℕ}
 use Rattle.cqf.specs.Plan.{Plan}
-use Rattle.loading.specs.Outcome.{Answer}
+use Rattle.answers.specs.Answer.{Answer}
 use Rattle.questions.specs.Outcome.{checkAnswer}
-use Rattle.questions.specs.Meaning.{CheckMeans}
-use Rattle.questions.specs.Theorem.{check-means}
+use Rattle.sequences.specs.Meaning.{CheckMeans}
+use Rattle.sequences.specs.Theorem.{check-means}
 use Rattle.planner.proofs.calls.check.Statement.{statement}
 use Rattle.planner.proofs.calls.check.Tie as tie
 

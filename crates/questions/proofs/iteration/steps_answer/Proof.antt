@@ -5,7 +5,7 @@ use Rattle.cqf.specs.Plan.{Plan}
 use Rattle.cqf.specs.FixedPoint.{Outcome}
 use Rattle.numbers.specs.Clock.{clockOf}
 use Rattle.tables.specs.Columns.{planBy}
-use Rattle.loading.specs.Outcome.{Answer}
+use Rattle.answers.specs.Answer.{Answer}
 use Rattle.questions.specs.FixedPoint.{FixedPoint, outcomeAnswer}
 use Rattle.questions.proofs.iteration.steps_answer.Statement.{statement}
 use Rattle.questions.proofs.iteration.steps_answer.Tie as tie

@@ -16,7 +16,7 @@ use Rattle.cqf.specs.laws.Ranges.{top-most, extra-most}
 use Rattle.plan_reading.specs.laws.fields.Within.{within-low, within-high, slot-below}
 use Rattle.numbers.specs.Clock.{clockOf}
 use Rattle.tables.specs.Columns.{planBy}
-use Rattle.loading.specs.Outcome.{result}
+use Rattle.answers.specs.Answer.{result}
 use Rattle.cqf.specs.Condition.{workloadOf, mostDemand}
 use Rattle.questions.specs.laws.Sums.{slot-in-range, demand-columns}
 use Rattle.questions.specs.laws.Stretched.{stretch-fits, demand-fits}

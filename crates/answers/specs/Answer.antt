@@ -1,0 +1,13 @@
+-- What a call answers.
+use Prim.Native.Nat.{ℕ}
+use mathlib.Core.List.{List}
+
+-- a result, or a refusal's number and what it carries
+pub data Answer (A : Type 0) : Type 0 where
+  result : A → Answer A
+  refusal : (number : ℕ) → (values : List ℕ) → Answer A
+
+-- its number: 0 for a result
+abbrev pub numberOf : {A : Type 0} → Answer A → ℕ
+numberOf (result x) = 0
+numberOf (refusal number values) = number

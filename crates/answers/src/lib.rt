@@ -1,0 +1,1 @@
+// The answer of a call, and the numbers of refusals, as definitions, in specs/.

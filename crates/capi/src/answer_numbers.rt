@@ -1,0 +1,211 @@
+// Each answer of the planner as numbers: document 01's refusal, 0 for a result, and what it carries.
+use crate::AnswerNumbers;
+use crate::FieldReadNumbers;
+use crate::FixedPointAnswerNumbers;
+use crate::LoadOutcomeNumbers;
+use crate::SlackAnswerNumbers;
+use plan::Field;
+use plan::FieldRead;
+use planner::CheckAnswer;
+use planner::FixedPointAnswer;
+use planner::LoadAnswer;
+use planner::LoadOutcome;
+use planner::SearchAnswer;
+use planner::SlackAnswer;
+use planner::check_number;
+use planner::fixed_point_number;
+use planner::least_number;
+use planner::load_number;
+use planner::margin_safe_number;
+use planner::slack_number;
+ghost use mathlib.Core.Path.{_≡_};
+ghost use Prim.Native.Nat.{ℕ};
+ghost use Rattle.plan.specs.Answer.{fieldReadOf};
+ghost use Rattle.tables.specs.Tables.{planOf};
+ghost use Rattle.answers.specs.Answer.{numberOf};
+ghost use Rattle.loading.specs.Answer.{loadOf};
+ghost use Rattle.questions.specs.Answer.{checkOf, slackOf, searchOf, leastOf, marginSafeOf, fixedPointOf};
+ghost use Rattle.capi.specs.Numbers.{loadNumbers, checkNumbers, slackNumbers, searchNumbers, stepsNumbers, fieldNumbers};
+
+// The tags of the fields.
+const HEADER: u32 = plan::read::HEADER_TAG as u32;
+
+const PORT: u32 = plan::read::PORT_TAG as u32;
+
+const FLOW: u32 = plan::read::FLOW_TAG as u32;
+
+const EXTRA: u32 = plan::read::EXTRA_TAG as u32;
+
+const JITTER: u32 = plan::read::JITTER_TAG as u32;
+
+const CLOCK: u32 = plan::read::CLOCK_TAG as u32;
+
+pub(crate) fn numbered(refusal: u32, first: u64, second: u64) -> AnswerNumbers
+    ensures { λ r. ⌜ r ≡ (record { refusal = refusal; first = first; second = second }) ⌝ }
+{
+    AnswerNumbers {
+        refusal,
+        first,
+        second,
+    }
+}
+
+fn load_numbers(answer: LoadAnswer) -> AnswerNumbers
+    ensures { λ r. ⌜ r ≡ loadNumbers (loadOf answer) ⌝ }
+{
+    let refusal = load_number(answer);
+    match answer {
+        LoadAnswer::Held { ports, flows } => numbered(refusal, ports as u64, flows as u64),
+        LoadAnswer::Refused { fault: _, offset } => numbered(refusal, offset as u64, 0),
+    }
+}
+
+// A load's answer as numbers, beside the planner that it leaves.
+pub(crate) fn outcome_numbers(outcome: LoadOutcome) -> LoadOutcomeNumbers
+    ensures { λ r. ⌜ (planOf (r .planner) ≡ planOf (outcome .planner)) × (r .answer ≡ loadNumbers (loadOf (outcome .answer))) ⌝ }
+{
+    let planner = outcome.planner;
+    let answer = outcome.answer;
+    let numbers = load_numbers(answer);
+    LoadOutcomeNumbers {
+        planner,
+        answer: numbers,
+    }
+}
+
+pub(crate) fn check_numbers(answer: CheckAnswer) -> AnswerNumbers
+    ensures { λ r. ⌜ r ≡ checkNumbers (checkOf answer) ⌝ }
+{
+    let refusal = check_number(answer);
+    match answer {
+        CheckAnswer::Admissible => numbered(refusal, 0, 0),
+        CheckAnswer::NoPlan => numbered(refusal, 0, 0),
+        CheckAnswer::BadDuration => numbered(refusal, 0, 0),
+        CheckAnswer::Failing { port, count } => numbered(refusal, port as u64, count as u64),
+    }
+}
+
+pub(crate) fn slack_numbers(answer: SlackAnswer) -> SlackAnswerNumbers
+    ensures { λ r. ⌜ r ≡ slackNumbers (slackOf answer) ⌝ }
+{
+    let refusal = slack_number(answer);
+    match answer {
+        SlackAnswer::Slack(slack) => SlackAnswerNumbers { refusal, slack },
+        SlackAnswer::NoPlan => SlackAnswerNumbers { refusal, slack: 0 },
+        SlackAnswer::BadDuration => SlackAnswerNumbers { refusal, slack: 0 },
+        SlackAnswer::NotCrossed => SlackAnswerNumbers { refusal, slack: 0 },
+    }
+}
+
+// For the search whose answer has this number.
+fn search_numbers(refusal: u32, answer: SearchAnswer) -> AnswerNumbers
+    ensures { λ r. ⌜ ((failing : ℕ) → refusal ≡ numberOf (searchOf failing answer) → r ≡ searchNumbers (searchOf failing answer)) ⌝ }
+{
+    match answer {
+        SearchAnswer::Duration(duration) => numbered(refusal, duration, 0),
+        SearchAnswer::NoPlan => numbered(refusal, 0, 0),
+        SearchAnswer::ShortScratch => numbered(refusal, 0, 0),
+        SearchAnswer::Failing { port, count } => numbered(refusal, port as u64, count as u64),
+    }
+}
+
+pub(crate) fn least_numbers(answer: SearchAnswer) -> AnswerNumbers
+    ensures { λ r. ⌜ r ≡ searchNumbers (leastOf answer) ⌝ }
+{
+    search_numbers(least_number(answer), answer)
+}
+
+pub(crate) fn margin_safe_numbers(answer: SearchAnswer) -> AnswerNumbers
+    ensures { λ r. ⌜ r ≡ searchNumbers (marginSafeOf answer) ⌝ }
+{
+    search_numbers(margin_safe_number(answer), answer)
+}
+
+fn stepped(refusal: u32, first: u64, second: u64, steps: u64) -> FixedPointAnswerNumbers
+    ensures { λ r. ⌜ r ≡ (record { refusal = refusal; first = first; second = second; steps = steps }) ⌝ }
+{
+    FixedPointAnswerNumbers {
+        refusal,
+        first,
+        second,
+        steps,
+    }
+}
+
+pub(crate) fn fixed_point_numbers(answer: FixedPointAnswer) -> FixedPointAnswerNumbers
+    ensures { λ r. ⌜ r ≡ stepsNumbers (fixedPointOf answer) ⌝ }
+{
+    let refusal = fixed_point_number(answer);
+    match answer {
+        FixedPointAnswer::Duration { duration, steps } => stepped(refusal, duration, 0, steps),
+        FixedPointAnswer::NoPlan => stepped(refusal, 0, 0, 0),
+        FixedPointAnswer::BadStart => stepped(refusal, 0, 0, 0),
+        FixedPointAnswer::Failing { port, count, steps } => {
+            stepped(refusal, port as u64, count as u64, steps)
+        }
+        FixedPointAnswer::Unfinished { duration, steps } => stepped(refusal, duration, 0, steps),
+    }
+}
+
+pub(crate) fn field_numbers(reading: FieldRead) -> FieldReadNumbers
+    ensures { λ r. ⌜ r ≡ fieldNumbers (fieldReadOf reading) ⌝ }
+{
+    match reading {
+        FieldRead::Refused { fault, offset } => FieldReadNumbers {
+            refusal: plan::fault_number(fault) as u32,
+            tag: 0,
+            offset: offset as u64,
+            numbers: [0, 0, 0, 0, 0],
+        },
+        FieldRead::Field { field, next } => match field {
+            Field::Header(h) => FieldReadNumbers {
+                refusal: 0,
+                tag: HEADER,
+                offset: next as u64,
+                numbers: [h.guard as u64, h.top as u64, 0, 0, 0],
+            },
+            Field::Port(p) => FieldReadNumbers {
+                refusal: 0,
+                tag: PORT,
+                offset: next as u64,
+                numbers: [p.number as u64, p.rate as u64, p.blocking as u64, 0, 0],
+            },
+            Field::Flow(f) => FieldReadNumbers {
+                refusal: 0,
+                tag: FLOW,
+                offset: next as u64,
+                numbers: [
+                    f.number as u64,
+                    f.period as u64,
+                    f.count as u64,
+                    f.length as u64,
+                    f.hops as u64,
+                ],
+            },
+            Field::Extra(e) => FieldReadNumbers {
+                refusal: 0,
+                tag: EXTRA,
+                offset: next as u64,
+                numbers: [e.number as u64, e.extra as u64, 0, 0, 0],
+            },
+            Field::Jitter(j) => FieldReadNumbers {
+                refusal: 0,
+                tag: JITTER,
+                offset: next as u64,
+                numbers: [j.number as u64, j.jitter as u64, 0, 0, 0],
+            },
+            Field::Clock(k) => FieldReadNumbers {
+                refusal: 0,
+                tag: CLOCK,
+                offset: next as u64,
+                numbers: [
+                    k.drift as u64,
+                    k.timing_jitter as u64,
+                    k.sync_error as u64,
+                    0,
+                    0,
+                ],
+            },
+        },
+    }
+}

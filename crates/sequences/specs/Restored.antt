@@ -1,0 +1,26 @@
+-- What saving is for: the bytes that it wrote are a plan that either load accepts, and that holds the same.
+use mathlib.Core.Path.{_≡_}
+use mathlib.Core.List.{List}
+use Prim.Native.Nat.{ℕ, _≤_}
+use lib.ListN.{take, drop}
+use Rattle.cqf.specs.Plan.{Plan}
+use Rattle.plan_reading.specs.Reading.{Mode, maxBytes}
+use Rattle.answers.specs.Answer.{result}
+use Rattle.loading.specs.Outcome.{loadAnswer, loadLeaves}
+use Rattle.saving.specs.Save.{saveAnswer, saveLeaves}
+use Rattle.sequences.specs.Reply.{SameAnswers}
+
+-- A buffer as it was and as it is left, with n bytes written. They are no more than a plan may have; either load accepts them and
+-- then holds the plan p, whatever was held before, so that every question is answered as by p; and the bytes behind them remain.
+pub record Restores (p : Plan) (buffer exit : List ℕ) (n : ℕ) : Type 0 where
+  pub most : n ≤ maxBytes
+  pub ports : ℕ
+  pub flows : ℕ
+  pub accepted : (mode : Mode) → loadAnswer mode (take n exit) ≡ result (record { ports = ports; flows = flows })
+  pub holds : (mode : Mode) (held : Plan) → loadLeaves mode held (take n exit) ≡ p
+  pub alike : (mode : Mode) (held : Plan) → SameAnswers (loadLeaves mode held (take n exit)) p
+  pub rest : drop n exit ≡ drop n buffer
+
+-- so it is in every buffer into which the planner's tables are saved with the answer n
+abbrev pub SavedAs : (tables p : Plan) → Type 0
+SavedAs tables p = (buffer : List ℕ) (n : ℕ) → saveAnswer tables buffer ≡ result n → Restores p buffer (saveLeaves tables buffer) n

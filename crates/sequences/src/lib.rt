@@ -1,0 +1,1 @@
+// Sequences of calls, as definitions, and the theorems over them, in specs/.
