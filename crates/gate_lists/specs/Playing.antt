@@ -3,7 +3,7 @@ use Prim.Native.Nat.{ℕ, zero, suc, _+_, _-_, _*_, _/_, _%_, _<_}
 use mathlib.Core.Path.{_≡_}
 use mathlib.Core.List.{List}
 use mathlib.Core.Option.{Option, some, none}
-use mathlib.Core.Bool.{Bool, true, false, _&&_}
+use mathlib.Core.Bool.{Bool, true, false, _&&_, _||_}
 use lib.Dec.{leb, ltb, eqb}
 use lib.ListN.{length, drop}
 use Rattle.plan.specs.Bytes.{byteAt, number4, headSize, tagAt, sizeAt, wholeAt}
@@ -57,6 +57,30 @@ unfoldable pub counted : List ℕ → ℕ
 unfolding countFor
 counted s = countFor (length s) s
 
+-- whether each of its intervals is above 0
+unfoldable pub lastsFor : ℕ → List ℕ → Bool
+unfolding wholeAt sizeAt number4
+lastsFor zero s = true
+lastsFor (suc n) s = elim (begins s) [ true ↦ ltb 0 (firstInterval s) && lastsFor n (others s) | false ↦ true ]
+
+unfoldable pub eachLasts : List ℕ → Bool
+unfolding lastsFor
+eachLasts s = lastsFor (length s) s
+
+-- whether a field ends t ns after the start of the list
+unfoldable pub endsFor : ℕ → List ℕ → (t : ℕ) → Bool
+unfolding wholeAt sizeAt number4
+endsFor zero s t = false
+endsFor (suc n) s t =
+    elim (begins s) [
+      | true ↦ eqb t (firstInterval s) || (ltb (firstInterval s) t && endsFor n (others s) (t - firstInterval s))
+      | false ↦ false
+    ]
+
+unfoldable pub fieldEnds : List ℕ → (t : ℕ) → Bool
+unfolding endsFor
+fieldEnds s t = endsFor (length s) s t
+
 -- whether queue q is open in these states
 unfoldable pub isOpen : (states q : ℕ) → Bool
 unfolding bit
@@ -70,8 +94,11 @@ pub record Opens (S T even odd t states : ℕ) : Type 0 where
   pub never-both : isOpen states even && isOpen states odd ≡ false
   pub six-open : (q : ℕ) → q < 8 → (q ≡ even → ⊥) → (q ≡ odd → ⊥) → isOpen states q ≡ true
 
--- The list is fields and nothing else; it plays two cycles, and at each of their instants the gates are as `Opens` says.
+-- The list is fields and nothing else, and no interval is 0; it plays two cycles, the second begins with a field of its own, and
+-- at each of their instants the gates are as `Opens` says.
 pub record PlaysTwoCycles (S T even odd : ℕ) (s : List ℕ) : Type 0 where
   pub whole : length s ≡ (headSize + gateSize) * counted s
+  pub lasts : eachLasts s ≡ true
   pub total : played s ≡ 2 * T
+  pub cycle-ends : fieldEnds s T ≡ true
   pub instants : (t : ℕ) → t < 2 * T → (states : ℕ) × (playedAt s t ≡ some states) × Opens S T even odd t states

@@ -13,9 +13,9 @@ use Rattle.cqf.specs.laws.Longer.{longer}
 use Rattle.cqf.specs.laws.Ranges.{top-most}
 use Rattle.plan.specs.Bytes.{headSize}
 use Rattle.gate_lists.specs.GateList.{Gates, gateSize, listBytes, bothClosed, oneOpen, lasting, gateCycle, gateList, gateListBytes}
-use Rattle.gate_lists.specs.Playing.{PlaysTwoCycles, playedAt, played, counted}
-use Rattle.gate_lists.specs.laws.Played.{plays, totals, counts}
-use Rattle.gate_lists.specs.laws.TwoCycles.{intervals, intervals-fit, intervals-total, intervals-at}
+use Rattle.gate_lists.specs.Playing.{PlaysTwoCycles, playedAt, played, counted, eachLasts, fieldEnds}
+use Rattle.gate_lists.specs.laws.Played.{plays, totals, counts, each-lasts, field-ends}
+use Rattle.gate_lists.specs.laws.TwoCycles.{intervals, intervals-fit, intervals-total, intervals-last, intervals-end, intervals-at}
 
 -- two rows of three, one behind the other
 in-row : (a b c d : List Gates) → (a ++ (b ++ c)) ++ (a ++ (d ++ c)) ≡ a ++ (b ++ (c ++ (a ++ (d ++ (c ++ [])))))
@@ -74,7 +74,9 @@ module _ (p : Plan) (valid : validPlan p ≡ true) (T : ℕ) (first : 1 ≤ T) (
         let two : PlaysTwoCycles S (S + (W + S)) even odd (listBytes (gateList p T even odd)) =
         record {
           whole = ap (λ (gs : List Gates). length (listBytes gs)) same ∙ counts _ fit ∙ ap (λ (gs : List Gates). (headSize + gateSize) * counted (listBytes gs)) (sym same);
+          lasts = ap (λ (gs : List Gates). eachLasts (listBytes gs)) same ∙ each-lasts _ fit ∙ intervals-last S W even odd below under apart;
           total = ap (λ (gs : List Gates). played (listBytes gs)) same ∙ totals _ fit ∙ intervals-total S W even odd below under apart;
+          cycle-ends = ap (λ (gs : List Gates). fieldEnds (listBytes gs) (S + (W + S))) same ∙ field-ends _ fit _ ∙ intervals-end S W even odd below under apart window-positive;
           instants = λ t less.
               let h = intervals-at S W even odd below under apart t less in
               (h .0, ap (λ (gs : List Gates). playedAt (listBytes gs) t) same ∙ plays _ fit t ∙ h .1, h .2);

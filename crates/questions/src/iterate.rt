@@ -22,6 +22,13 @@ pub(crate) enum Iterated {
     Unfinished { duration: u64 },
 }
 
+// How the loop of steps was left.
+const UNFINISHED: u8 = 0;
+
+const FOUND: u8 = 1;
+
+const NONE: u8 = 2;
+
 // At most so many steps. Where no port fails at t, it is found; otherwise the next step is at the most that a port needs at t.
 // Where a duration is found, out is left with the demands at it.
 pub(crate) fn iterate<'a>(
@@ -46,11 +53,12 @@ pub(crate) fn iterate<'a>(
     ensures { λ r. ⌜ Iterates (planBy guard top (clockOf clock) (now (rates .entry)) (now (blockings .entry)) (now (extras .entry)) (now (periods .entry)) (now (counts .entry)) (now (lengths .entry)) (now (jitters .entry)) (now (hops .entry)) (now (routes .entry))) start steps (iteratedOf r) (now (out .exit)) ⌝ }
 {
     let limit = top as u64;
-    let mut t = start;
+    let mut state = UNFINISHED;
     let mut used: u64 = 0;
-    let found = loop {
+    let mut t = start;
+    let duration = loop {
         if steps <= used {
-            break Iterated::Unfinished { duration: t };
+            break t;
         }
         used += 1;
         demands(
@@ -74,16 +82,24 @@ pub(crate) fn iterate<'a>(
             q += 1;
         }
         if PORTS <= q {
-            break Iterated::Found {
-                duration: t,
-                steps: used,
-            };
+            state = FOUND;
+            break t;
         }
         let next = largest_need(guard, rates, blockings, extras, &out[..]);
         if limit < next {
-            break Iterated::None { steps: used };
+            state = NONE;
+            break t;
         }
         t = next;
     };
-    found
+    if state == FOUND {
+        return Iterated::Found {
+            duration,
+            steps: used,
+        };
+    }
+    if state == NONE {
+        return Iterated::None { steps: used };
+    }
+    Iterated::Unfinished { duration }
 }

@@ -16,8 +16,8 @@ abbrev pub listSize : Plan → ℕ
 listSize p = cond (ltb 0 (p .guard)) 48 16
 
 -- A buffer as it was and as it is left, with n bytes written. They play two cycles of T ns with the guard bands of the plan p: the
--- intervals total 2T, each of the two queues is open in the window of its own cycle alone, so never both, and the other six always.
--- The bytes behind them remain.
+-- intervals total 2T, none is 0 and one ends at T, each of the two queues is open in the window of its own cycle alone, so never
+-- both, and the other six always. With their number it follows that each cycle is S, window, S. The bytes behind them remain.
 pub record Schedules (p : Plan) (T even odd : ℕ) (buffer exit : List ℕ) (n : ℕ) : Type 0 where
   pub plays : PlaysTwoCycles (p .guard) T even odd (take n exit)
   pub size : n ≡ listSize p

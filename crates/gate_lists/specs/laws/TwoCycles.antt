@@ -10,7 +10,7 @@ use lib.Dec.{leb, ltb, eqb}
 use Rattle.gate_lists.specs.GateList.{Gates, bothClosed, oneOpen, lasting}
 use Rattle.gate_lists.specs.Playing.{isOpen, Opens}
 use Rattle.gate_lists.specs.laws.States.{both-closed, even-only, odd-only}
-use Rattle.gate_lists.specs.laws.Played.{AllFit, all, playList, totalList, play-lasting, total-lasting, fit-lasting}
+use Rattle.gate_lists.specs.laws.Played.{AllFit, all, playList, totalList, lastsList, endsList, play-lasting, total-lasting, lasts-lasting, ends-lasting, fit-lasting}
 
 module _ (S W even odd : ℕ) (below : even < 8) (under : odd < 8) (apart : even ≡ odd → ⊥) where
   abbrev T : ℕ
@@ -99,6 +99,38 @@ module _ (S W even odd : ℕ) (below : even < 8) (under : odd < 8) (apart : even
       let f = total-lasting (oneOpen even odd even) W from-guard in
       let g = total-lasting c S from-even in
       omega arith
+
+  pub intervals-last : lastsList intervals ≡ true
+  unfolding lastsList
+  intervals-last =
+      let c = bothClosed even odd in
+      lasts-lasting c S from-even
+      ∙ lasts-lasting (oneOpen even odd even) W from-guard
+      ∙ lasts-lasting c S second
+      ∙ lasts-lasting c S from-odd
+      ∙ lasts-lasting (oneOpen even odd odd) W last
+      ∙ lasts-lasting c S []
+
+  -- an interval ends at t, or one behind it does
+  ends-here : (t m : ℕ) (gs : List Gates) → 0 < t → endsList (lasting m t ++ gs) t ≡ true
+  ends-here t m gs later = ends-lasting m t gs t later ∙ rw (eq-eqb t t refl)
+
+  ends-later : (t u m i : ℕ) (gs : List Gates) → t ≡ i + u → 0 < u → endsList (lasting m i ++ gs) t ≡ endsList gs u
+  ends-later t u m i gs sum later =
+      let left : t - i ≡ u = omega (arith, sum) in
+      ends-lasting m i gs t (omega (arith, sum)) ∙ rw (ne-eqb t i (λ h. absurd (omega (arith, sum))), lt-ltb i t (omega (arith, sum)), left)
+
+  -- the first cycle ends where a field does: that of its last guard band, or without one that of its window
+  pub intervals-end : 0 < W → endsList intervals T ≡ true
+  intervals-end long = ends-later T (W + S) (bothClosed even odd) S from-even refl (omega arith) ∙ go (ltb 0 S) refl
+    where
+      go : (b : Bool) → ltb 0 S ≡ b → endsList from-even (W + S) ≡ true
+      go true e =
+          let some-guard = ltb-true 0 S e in
+          ends-later (W + S) S (oneOpen even odd even) W from-guard refl some-guard ∙ ends-here S (bothClosed even odd) second some-guard
+      go false e =
+          let alone : W + S ≡ W = omega (arith, ltb-false 0 S e) in
+          rw alone (ends-here W (oneOpen even odd even) from-guard long)
 
   -- the gate states at an instant
   abbrev At : ℕ → Option ℕ → Type 0

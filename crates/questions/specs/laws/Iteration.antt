@@ -5,6 +5,7 @@ use mathlib.Core.List.{List}
 use Prim.Native.Nat.{ℕ, _+_, _≤_, _<_}
 use native.Mathlib.Nat.{le-trans}
 use native.Mathlib.Omega.{arith}
+use lib.ListN.{length}
 use borrow.Author.Tests.{lt-leb, lt-ltb, le-ltb}
 use Rattle.cqf.specs.Bounded.{tabulate}
 use Rattle.cqf.specs.Limits.{portSlots}
@@ -69,6 +70,52 @@ module _ {p : Plan} {start steps used t : ℕ} (s : Stepped p start steps used t
             some = omega arith;
             stopped = then-rises p start used (s .stopped) (lt-leb _ _ more) (le-ltb _ _ upto);
           }
+
+-- how the loop was left, by its flag
+pub data Halted (p : Plan) (start steps state used t : ℕ) (out : List ℕ) : Type 0 where
+  stopped : length out ≡ portSlots → state ≡ 0 → unfinished t ≡ iterate p start steps → Halted p start steps state used t out
+  settled
+      : length out ≡ portSlots
+      → state ≡ 1
+      → found t used ≡ iterate p start steps
+      → out ≡ tabulate portSlots (λ q. demand p q t)
+      → Halted p start steps state used t out
+  exceeded : length out ≡ portSlots → state ≡ 2 → none used ≡ iterate p start steps → Halted p start steps state used t out
+
+module _ {p : Plan} {start steps state used t : ℕ} {out : List ℕ} where
+  pub halted-same
+      : {state' used' t' : ℕ} {out' : List ℕ}
+      → Halted p start steps state used t out
+      → state' ≡ state
+      → used' ≡ used
+      → t' ≡ t
+      → out' ≡ out
+      → Halted p start steps state' used' t' out'
+  halted-same h s u d o = rw s (rw u (rw d (rw o h)))
+
+  pub halted-length : Halted p start steps state used t out → length out ≡ portSlots
+  halted-length (stopped l s i) = l
+  halted-length (settled l s i d) = l
+  halted-length (exceeded l s i) = l
+
+  pub halted-found : Halted p start steps state used t out → state ≡ 1 → Iterates p start steps (found t used) out
+  halted-found (stopped l s i) e = absurd (omega arith)
+  halted-found (settled l s i d) e = iterates-found p start steps i d
+  halted-found (exceeded l s i) e = absurd (omega arith)
+
+  pub halted-none : Halted p start steps state used t out → state ≡ 2 → Iterates p start steps (none used) out
+  halted-none (stopped l s i) e = absurd (omega arith)
+  halted-none (settled l s i d) e = absurd (omega arith)
+  halted-none (exceeded l s i) e = iterates-none p start steps i
+
+  pub halted-unfinished
+      : Halted p start steps state used t out
+      → (state ≡ 1 → ⊥)
+      → (state ≡ 2 → ⊥)
+      → Iterates p start steps (unfinished t) out
+  halted-unfinished (stopped l s i) a b = iterates-unfinished p start steps i
+  halted-unfinished (settled l s i d) a b = absurd (a s)
+  halted-unfinished (exceeded l s i) a b = absurd (b s)
 
 -- from 1 ns on and with steps enough, a duration found is the least, and where none is found that is above top
 module _ (p : Plan) (valid : validPlan p ≡ true) (steps : ℕ) (enough : p .top ≤ steps) where

@@ -1,13 +1,14 @@
 -- `questions::iterate::iterate` meets its contract. Round the outer loop so many of the steps were made and t is reached; in the loop
 -- over the ports those below q do not fail at t.
-use mathlib.Core.Path.{_≡_, sym, subst, _∙_}
+use mathlib.Core.Path.{_≡_, refl, sym, ap, subst, _∙_}
 use mathlib.Core.Logic.{⊎-elim}
-use Prim.Native.Nat.{_-_, _<_}
+use Prim.Native.Nat.{_+_, _-_, _<_}
 use native.Mathlib.Omega.{arith}
 use lib.ListN.{length}
 use Rattle.cqf.specs.Limits.{portSlots}
 use Rattle.cqf.specs.Plan.{Plan}
 use Rattle.cqf.specs.Condition.{windowOf, largestNeed}
+use Rattle.cqf.specs.FixedPoint.{found, none, iterate}
 use Rattle.cqf.specs.laws.Ranges.{extra-most}
 use Rattle.numbers.specs.Clock.{clockOf}
 use Rattle.tables.specs.Columns.{planBy}
@@ -15,23 +16,23 @@ use Rattle.questions.specs.laws.Sums.{slot-in-range}
 use Rattle.questions.specs.laws.Stretched.{stretch-fits}
 use Rattle.questions.specs.laws.Scratch.{filled-by, filled-length, filled-short, filled-most, filled-served, filled-largest}
 use Rattle.questions.specs.laws.PortTest.{Passed, Left, passed-start, passed-all, port-tested, passed-until, passed-next, left-settles, left-more}
-use Rattle.questions.specs.laws.Iteration.{Stepped, stepped-start, steps-end, step-settles, step-exceeds, step-rises, iterates-found, iterates-none, iterates-unfinished}
+use Rattle.questions.specs.laws.Iteration.{Stepped, Halted, stepped-start, stopped, settled, exceeded, steps-end, step-settles, step-exceeds, step-rises, halted-same, halted-length, halted-found, halted-none, halted-unfinished}
 use Rattle.questions.proofs.iterate.iterate.Statement.{statement}
 use Rattle.questions.proofs.iterate.iterate.Tie as tie
 
 abbrev Inv-ports : tie.InvT-ports
-Inv-ports guard top clock rates blockings extras periods counts lengths jitters hops routes start steps out limit t used available q₀ q =
+Inv-ports guard top clock rates blockings extras periods counts lengths jitters hops routes start steps out limit state used t available q₀ q =
     Passed (planBy guard top (clockOf clock) rates blockings extras periods counts lengths jitters hops routes) out t q × (available ≡ windowOf guard t)
 
 abbrev μ-ports : tie.MeasureT-ports
-μ-ports guard top clock rates blockings extras periods counts lengths jitters hops routes start steps out limit t used available q₀ q = portSlots - q
+μ-ports guard top clock rates blockings extras periods counts lengths jitters hops routes start steps out limit state used t available q₀ q = portSlots - q
 
 abbrev Inv-loop : tie.InvT-loop
-Inv-loop guard top clock rates blockings extras periods counts lengths jitters hops routes start steps out₀ limit t₀ used₀ out t used =
-    (length out ≡ portSlots) × Stepped (planBy guard top (clockOf clock) rates blockings extras periods counts lengths jitters hops routes) start steps used t
+Inv-loop guard top clock rates blockings extras periods counts lengths jitters hops routes start steps out₀ limit state₀ used₀ t₀ out state used t =
+    (length out ≡ portSlots) × Stepped (planBy guard top (clockOf clock) rates blockings extras periods counts lengths jitters hops routes) start steps used t × (state ≡ 0)
 
 abbrev μ-loop : tie.MeasureT-loop
-μ-loop guard top clock rates blockings extras periods counts lengths jitters hops routes start steps out₀ limit t₀ used₀ out t used = steps - used
+μ-loop guard top clock rates blockings extras periods counts lengths jitters hops routes start steps out₀ limit state₀ used₀ t₀ out state used t = steps - used
 
 -- the plan of the tables
 abbrev plan : tie.Start Inv-ports μ-ports Inv-loop μ-loop → Plan
@@ -80,7 +81,7 @@ module _ (c : tie.After-largest-need Inv-ports μ-ports Inv-loop μ-loop) where
 loop-holds : tie.Need-loop-holds Inv-ports μ-ports Inv-loop μ-loop
 loop-holds c =
     let s = c .before in
-    (s .pre .0 .1, stepped-start (plan s) _ _ (s .pre .1 .0) (s .pre .1 .1))
+    (s .pre .0 .1, stepped-start (plan s) _ _ (s .pre .1 .0) (s .pre .1 .1), refl)
 
 add-used : tie.Need-add-used Inv-ports μ-ports Inv-loop μ-loop
 add-used c = omega (arith, c .if1 .left)
@@ -158,37 +159,68 @@ loop-again c =
       filled-length (at .ports .inv .0 .filled),
       subst (Stepped p _ _ _) (sym (next (c .before)))
           (step-rises (step at .loop .inv .1) (making at .if1 .left) (more (c .before)) (omega (arith, next (c .before), c .if4 .left))),
+      step at .loop .inv .2,
     )
 
+-- no port fails at t
+found-here
+    : (c : tie.Then3 Inv-ports μ-ports Inv-loop μ-loop)
+    → let l = step (c .before .before) in
+    found (l .loop .t) (l .loop .used + 1) ≡ iterate (plan (start l)) (start l .args .start) (start l .args .steps)
+found-here c =
+    let at = c .before .before in
+    step-settles (step at .loop .inv .1) (making at .if1 .left) (left-settles (at .ports .inv .0) (left-ports (c .before)) (c .if3 .taken))
+
+-- the most that a port needs is above top
+none-here
+    : (c : tie.Then4 Inv-ports μ-ports Inv-loop μ-loop)
+    → let l = step (ports (c .before)) in
+    none (l .loop .used + 1) ≡ iterate (plan (start l)) (start l .args .start) (start l .args .steps)
+none-here c =
+    let at = ports (c .before) in
+    step-exceeds (step at .loop .inv .1) (making at .if1 .left) (more (c .before)) (omega (arith, next (c .before), c .if4 .taken))
+
+-- how the loop of steps was left
+ended
+    : (c : tie.Joined1 Inv-ports μ-ports Inv-loop μ-loop)
+    → Halted (plan (start (c .before))) (start (c .before) .args .start) (start (c .before) .args .steps) (c .if1 .state) (c .if1 .used) (c .if1 .duration) (c .if1 .out)
+ended c =
+    let l = c .before in
+    let v = l .loop .inv in
+    ⊎-elim
+    (λ w. halted-same (stopped (v .0) (v .2) (steps-end (v .1) (w .0 .taken))) (w .2) (w .3) (w .4) (w .1))
+    (⊎-elim
+    (λ w.
+    let f = w .6 .inv .0 .filled in
+    halted-same
+    (settled (filled-length f) refl
+    (found-here (record { before = record { before = record { before = record { before = record { before = record { before = record { before = record { before = record { before = l; if1 = w .0 }; demands-arg = w .1 }; demands = w .2 }; out = w .3 }; slice-known2 = w .4 }; window = w .5 }; ports = w .6 }; ports-test = w .7 }; if3 = w .8 }))
+    (f .demands))
+    (w .10) (w .11) (w .12) (w .9))
+    (λ w.
+    halted-same
+    (exceeded (filled-length (w .6 .inv .0 .filled)) refl
+    (none-here (record { before = record { before = record { before = record { before = record { before = record { before = record { before = record { before = record { before = record { before = record { before = record { before = l; if1 = w .0 }; demands-arg = w .1 }; demands = w .2 }; out = w .3 }; slice-known2 = w .4 }; window = w .5 }; ports = w .6 }; ports-test = w .7 }; if3 = w .8 }; largest-need-arg = w .9 }; largest-need = w .10 }; if4 = w .11 })))
+    (w .13) (w .14) (w .15) (w .12)))
+    (c .if1 .came)
+
 same-length : tie.Need-same-length Inv-ports μ-ports Inv-loop μ-loop
-same-length c = c .before .loop .inv .0 ∙ sym (start (c .before) .pre .0 .1)
+same-length c = halted-length (ended (c .before)) ∙ sym (start (c .before .before) .pre .0 .1)
 
 returns : tie.Need-returns Inv-ports μ-ports Inv-loop μ-loop
-returns c = iterates-unfinished (plan (start (c .before))) _ _ (steps-end (c .before .loop .inv .1) (c .if1 .taken))
+returns c = halted-found (ended (c .before)) (c .if5 .taken)
 
 same-length-2 : tie.Need-same-length-2 Inv-ports μ-ports Inv-loop μ-loop
-same-length-2 c =
-    let at = c .before .before in
-    filled-length (at .ports .inv .0 .filled) ∙ sym (start (step at) .pre .0 .1)
+same-length-2 c = halted-length (ended (c .before .before)) ∙ sym (start (c .before .before .before) .pre .0 .1)
 
 returns-2 : tie.Need-returns-2 Inv-ports μ-ports Inv-loop μ-loop
-returns-2 c =
-    let at = c .before .before in
-    let v = at .ports .inv .0 in
-    iterates-found (plan (start (step at))) _ _
-    (step-settles (step at .loop .inv .1) (making at .if1 .left) (left-settles v (left-ports (c .before)) (c .if3 .taken)))
-    (v .filled .demands)
+returns-2 c = halted-none (ended (c .before .before)) (c .if6 .taken)
 
 same-length-3 : tie.Need-same-length-3 Inv-ports μ-ports Inv-loop μ-loop
-same-length-3 c =
-    let at = ports (c .before) in
-    filled-length (at .ports .inv .0 .filled) ∙ sym (start (step at) .pre .0 .1)
+same-length-3 c = halted-length (ended (c .before .before)) ∙ sym (start (c .before .before .before) .pre .0 .1)
 
 returns-3 : tie.Need-returns-3 Inv-ports μ-ports Inv-loop μ-loop
-returns-3 c =
-    let at = ports (c .before) in
-    iterates-none (plan (begin (c .before))) _ _
-    (step-exceeds (step at .loop .inv .1) (making at .if1 .left) (more (c .before)) (omega (arith, next (c .before), c .if4 .taken)))
+returns-3 c = halted-unfinished (ended (c .before .before)) (c .before .if5 .left) (c .if6 .left)
 
 pub iterate-spec : {M : Type 1} → statement M
 iterate-spec =
