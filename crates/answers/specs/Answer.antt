@@ -8,6 +8,6 @@ pub data Answer (A : Type 0) : Type 0 where
   refusal : (number : ℕ) → (values : List ℕ) → Answer A
 
 -- its number: 0 for a result
-abbrev pub numberOf : {A : Type 0} → Answer A → ℕ
-numberOf (result x) = 0
-numberOf (refusal number values) = number
+abbrev pub refusalNumber : {A : Type 0} → Answer A → ℕ
+refusalNumber (result x) = 0
+refusalNumber (refusal number values) = number

@@ -22,7 +22,7 @@ ghost use mathlib.Core.Path.{_≡_};
 ghost use Prim.Native.Nat.{ℕ};
 ghost use Rattle.plan.specs.Answer.{fieldReadOf};
 ghost use Rattle.tables.specs.Tables.{planOf};
-ghost use Rattle.answers.specs.Answer.{numberOf};
+ghost use Rattle.answers.specs.Answer.{refusalNumber};
 ghost use Rattle.loading.specs.Answer.{loadOf};
 ghost use Rattle.questions.specs.Answer.{checkOf, slackOf, searchOf, leastOf, marginSafeOf, fixedPointOf};
 ghost use Rattle.capi.specs.Numbers.{loadNumbers, checkNumbers, slackNumbers, searchNumbers, stepsNumbers, fieldNumbers};
@@ -50,7 +50,7 @@ pub(crate) fn numbered(refusal: u32, first: u64, second: u64) -> AnswerNumbers
     }
 }
 
-fn load_numbers(answer: LoadAnswer) -> AnswerNumbers
+fn load_in_c(answer: LoadAnswer) -> AnswerNumbers
     ensures { λ r. ⌜ r ≡ loadNumbers (loadOf answer) ⌝ }
 {
     let refusal = load_number(answer);
@@ -66,14 +66,14 @@ pub(crate) fn outcome_numbers(outcome: LoadOutcome) -> LoadOutcomeNumbers
 {
     let planner = outcome.planner;
     let answer = outcome.answer;
-    let numbers = load_numbers(answer);
+    let numbers = load_in_c(answer);
     LoadOutcomeNumbers {
         planner,
         answer: numbers,
     }
 }
 
-pub(crate) fn check_numbers(answer: CheckAnswer) -> AnswerNumbers
+pub(crate) fn check_in_c(answer: CheckAnswer) -> AnswerNumbers
     ensures { λ r. ⌜ r ≡ checkNumbers (checkOf answer) ⌝ }
 {
     let refusal = check_number(answer);
@@ -85,7 +85,7 @@ pub(crate) fn check_numbers(answer: CheckAnswer) -> AnswerNumbers
     }
 }
 
-pub(crate) fn slack_numbers(answer: SlackAnswer) -> SlackAnswerNumbers
+pub(crate) fn slack_in_c(answer: SlackAnswer) -> SlackAnswerNumbers
     ensures { λ r. ⌜ r ≡ slackNumbers (slackOf answer) ⌝ }
 {
     let refusal = slack_number(answer);
@@ -98,8 +98,8 @@ pub(crate) fn slack_numbers(answer: SlackAnswer) -> SlackAnswerNumbers
 }
 
 // For the search whose answer has this number.
-fn search_numbers(refusal: u32, answer: SearchAnswer) -> AnswerNumbers
-    ensures { λ r. ⌜ ((failing : ℕ) → refusal ≡ numberOf (searchOf failing answer) → r ≡ searchNumbers (searchOf failing answer)) ⌝ }
+fn search_in_c(refusal: u32, answer: SearchAnswer) -> AnswerNumbers
+    ensures { λ r. ⌜ ((failing : ℕ) → refusal ≡ refusalNumber (searchOf failing answer) → r ≡ searchNumbers (searchOf failing answer)) ⌝ }
 {
     match answer {
         SearchAnswer::Duration(duration) => numbered(refusal, duration, 0),
@@ -109,16 +109,16 @@ fn search_numbers(refusal: u32, answer: SearchAnswer) -> AnswerNumbers
     }
 }
 
-pub(crate) fn least_numbers(answer: SearchAnswer) -> AnswerNumbers
+pub(crate) fn least_in_c(answer: SearchAnswer) -> AnswerNumbers
     ensures { λ r. ⌜ r ≡ searchNumbers (leastOf answer) ⌝ }
 {
-    search_numbers(least_number(answer), answer)
+    search_in_c(least_number(answer), answer)
 }
 
-pub(crate) fn margin_safe_numbers(answer: SearchAnswer) -> AnswerNumbers
+pub(crate) fn margin_safe_in_c(answer: SearchAnswer) -> AnswerNumbers
     ensures { λ r. ⌜ r ≡ searchNumbers (marginSafeOf answer) ⌝ }
 {
-    search_numbers(margin_safe_number(answer), answer)
+    search_in_c(margin_safe_number(answer), answer)
 }
 
 fn stepped(refusal: u32, first: u64, second: u64, steps: u64) -> FixedPointAnswerNumbers
@@ -132,7 +132,7 @@ fn stepped(refusal: u32, first: u64, second: u64, steps: u64) -> FixedPointAnswe
     }
 }
 
-pub(crate) fn fixed_point_numbers(answer: FixedPointAnswer) -> FixedPointAnswerNumbers
+pub(crate) fn fixed_point_in_c(answer: FixedPointAnswer) -> FixedPointAnswerNumbers
     ensures { λ r. ⌜ r ≡ stepsNumbers (fixedPointOf answer) ⌝ }
 {
     let refusal = fixed_point_number(answer);
@@ -147,7 +147,7 @@ pub(crate) fn fixed_point_numbers(answer: FixedPointAnswer) -> FixedPointAnswerN
     }
 }
 
-pub(crate) fn field_numbers(reading: FieldRead) -> FieldReadNumbers
+pub(crate) fn field_in_c(reading: FieldRead) -> FieldReadNumbers
     ensures { λ r. ⌜ r ≡ fieldNumbers (fieldReadOf reading) ⌝ }
 {
     match reading {

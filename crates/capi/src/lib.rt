@@ -1,13 +1,13 @@
 // The planner for C and Rust: the calls with their answers as numbers (include/cycle_planner.h).
-use crate::answer_numbers::check_numbers;
-use crate::answer_numbers::field_numbers;
-use crate::answer_numbers::fixed_point_numbers;
-use crate::answer_numbers::least_numbers;
-use crate::answer_numbers::margin_safe_numbers;
+use crate::answer_numbers::check_in_c;
+use crate::answer_numbers::field_in_c;
+use crate::answer_numbers::fixed_point_in_c;
+use crate::answer_numbers::least_in_c;
+use crate::answer_numbers::margin_safe_in_c;
 use crate::answer_numbers::outcome_numbers;
-use crate::answer_numbers::slack_numbers;
-use crate::written::gates_numbers;
-use crate::written::save_numbers;
+use crate::answer_numbers::slack_in_c;
+use crate::written::gates_in_c;
+use crate::written::save_in_c;
 use planner::Planner;
 ghost use mathlib.Core.Path.{_≡_};
 ghost use Rattle.cqf.specs.Plan.{noPlan};
@@ -18,7 +18,7 @@ ghost use Rattle.loading.specs.Outcome.{loadAnswer, loadLeaves};
 ghost use Rattle.questions.specs.Outcome.{checkAnswer, slackAnswer, leastAnswer, leastLeaves, marginSafeAnswer, marginSafeLeaves};
 ghost use Rattle.questions.specs.FixedPoint.{fixedPointAnswer};
 ghost use Rattle.saving.specs.Save.{saveAnswer, saveLeaves};
-ghost use Rattle.gating.specs.Gates.{gatesAnswer, gatesLeaves};
+ghost use Rattle.gate_writing.specs.Gates.{gatesAnswer, gatesLeaves};
 ghost use Rattle.capi.specs.Meaning.{CheckNumbersMean};
 ghost use Rattle.capi.specs.Numbers.{loadNumbers, checkNumbers, slackNumbers, searchNumbers, stepsNumbers, writtenNumbers, fieldNumbers};
 
@@ -71,7 +71,7 @@ pub extern "C" fn cp_empty() -> Planner
 pub extern "C" fn cp_field(plan: &[u8], offset: usize) -> FieldReadNumbers
     ensures { λ r. ⌜ r ≡ fieldNumbers (fieldAt (now (plan .entry)) offset) ⌝ }
 {
-    field_numbers(plan::read_field(plan, offset))
+    field_in_c(plan::read_field(plan, offset))
 }
 
 #[no_mangle]
@@ -101,28 +101,28 @@ pub extern "C" fn cp_check(planner: Planner, duration: u64) -> AnswerNumbers
     ensures answers { λ r. ⌜ r ≡ checkNumbers (checkAnswer (planOf planner) duration) ⌝ }
     ensures means { λ r. ⌜ CheckNumbersMean (planOf planner) duration r ⌝ }
 {
-    check_numbers(planner::check(planner, duration))
+    check_in_c(planner::check(planner, duration))
 }
 
 #[no_mangle]
 pub extern "C" fn cp_slack(planner: Planner, port: u64, duration: u64) -> SlackAnswerNumbers
     ensures { λ r. ⌜ r ≡ slackNumbers (slackAnswer (planOf planner) port duration) ⌝ }
 {
-    slack_numbers(planner::slack(planner, port, duration))
+    slack_in_c(planner::slack(planner, port, duration))
 }
 
 #[no_mangle]
 pub extern "C" fn cp_least(planner: Planner, scratch: &mut [u64]) -> AnswerNumbers
     ensures { λ r. ⌜ (r ≡ searchNumbers (leastAnswer (planOf planner) (now (scratch .entry)))) × (now (scratch .exit) ≡ leastLeaves (planOf planner) (now (scratch .entry))) ⌝ }
 {
-    least_numbers(planner::least(planner, scratch))
+    least_in_c(planner::least(planner, scratch))
 }
 
 #[no_mangle]
 pub extern "C" fn cp_margin_safe(planner: Planner, scratch: &mut [u64]) -> AnswerNumbers
     ensures { λ r. ⌜ (r ≡ searchNumbers (marginSafeAnswer (planOf planner) (now (scratch .entry)))) × (now (scratch .exit) ≡ marginSafeLeaves (planOf planner) (now (scratch .entry))) ⌝ }
 {
-    margin_safe_numbers(planner::margin_safe(planner, scratch))
+    margin_safe_in_c(planner::margin_safe(planner, scratch))
 }
 
 #[no_mangle]
@@ -133,14 +133,14 @@ pub extern "C" fn cp_fixed_point(
 ) -> FixedPointAnswerNumbers
     ensures { λ r. ⌜ r ≡ stepsNumbers (fixedPointAnswer (planOf planner) start steps) ⌝ }
 {
-    fixed_point_numbers(planner::fixed_point(planner, start, steps))
+    fixed_point_in_c(planner::fixed_point(planner, start, steps))
 }
 
 #[no_mangle]
 pub extern "C" fn cp_save(planner: Planner, buffer: &mut [u8]) -> AnswerNumbers
     ensures { λ r. ⌜ (r ≡ writtenNumbers (saveAnswer (planOf planner) (now (buffer .entry)))) × (now (buffer .exit) ≡ saveLeaves (planOf planner) (now (buffer .entry))) ⌝ }
 {
-    save_numbers(planner::save(planner, buffer))
+    save_in_c(planner::save(planner, buffer))
 }
 
 #[no_mangle]
@@ -153,5 +153,5 @@ pub extern "C" fn cp_gates(
 ) -> AnswerNumbers
     ensures { λ r. ⌜ (r ≡ writtenNumbers (gatesAnswer (planOf planner) duration even odd (now (buffer .entry)))) × (now (buffer .exit) ≡ gatesLeaves (planOf planner) duration even odd (now (buffer .entry))) ⌝ }
 {
-    gates_numbers(planner::gates(planner, duration, even, odd, buffer))
+    gates_in_c(planner::gates(planner, duration, even, odd, buffer))
 }

@@ -7,10 +7,10 @@ use planner::gates_number;
 use planner::save_number;
 ghost use mathlib.Core.Path.{_≡_};
 ghost use Rattle.saving.specs.Answer.{saveOf};
-ghost use Rattle.gating.specs.Answer.{gatesOf};
+ghost use Rattle.gate_writing.specs.Answer.{gatesOf};
 ghost use Rattle.capi.specs.Numbers.{writtenNumbers};
 
-pub(crate) fn save_numbers(answer: SaveAnswer) -> AnswerNumbers
+pub(crate) fn save_in_c(answer: SaveAnswer) -> AnswerNumbers
     ensures { λ r. ⌜ r ≡ writtenNumbers (saveOf answer) ⌝ }
 {
     let refusal = save_number(answer);
@@ -22,7 +22,7 @@ pub(crate) fn save_numbers(answer: SaveAnswer) -> AnswerNumbers
 }
 
 // 21 has the lowest failing port and how many fail.
-pub(crate) fn gates_numbers(answer: GatesAnswer) -> AnswerNumbers
+pub(crate) fn gates_in_c(answer: GatesAnswer) -> AnswerNumbers
     ensures { λ r. ⌜ r ≡ writtenNumbers (gatesOf answer) ⌝ }
 {
     let refusal = gates_number(answer);

@@ -14,6 +14,6 @@ Within room (Input.Bytes n) = n ≤ room
 Within room Input.Failed = Unit {0}
 
 -- some bytes, loaded loosely into the empty planner; no contract can say which bytes an input has
-pub record Loaded (outcome : LoadOutcome) : Type 0 where
+pub record LoadedInput (outcome : LoadOutcome) : Type 0 where
   pub bytes : List ℕ
   pub loads : Loads loose noPlan bytes outcome

@@ -1,7 +1,7 @@
 // The programs' input and output: the plan on standard input, loaded into the empty planner, and what they print of a refusal.
 ghost use Prim.Native.Nat.{_≤_};
 ghost use lib.ListN.{length};
-ghost use Rattle.console.specs.{Within, Loaded};
+ghost use Rattle.console.specs.{Within, LoadedInput};
 use libc::STDERR_FILENO;
 use libc::STDIN_FILENO;
 use libc::STDOUT_FILENO;
@@ -94,14 +94,14 @@ fn read_input(buffer: &mut [u8]) -> Input
 }
 
 fn load_bytes(readable: bool, bytes: &[u8]) -> Given
-    ensures { λ r. ⌜ Loaded (r .outcome) ⌝ }
+    ensures { λ r. ⌜ LoadedInput (r .outcome) ⌝ }
 {
     let outcome = planner::load(planner::empty(), bytes);
     Given { readable, outcome }
 }
 
 fn load_input(buffer: &mut [u8]) -> Given
-    ensures { λ r. ⌜ Loaded (r .outcome) ⌝ }
+    ensures { λ r. ⌜ LoadedInput (r .outcome) ⌝ }
 {
     let input = read_input(buffer);
     match input {
@@ -112,7 +112,7 @@ fn load_input(buffer: &mut [u8]) -> Given
 
 // The planner is the one that a load of the bytes read leaves, and the answer is that load's.
 pub fn given_plan() -> Given
-    ensures { λ r. ⌜ Loaded (r .outcome) ⌝ }
+    ensures { λ r. ⌜ LoadedInput (r .outcome) ⌝ }
 {
     let mut buffer = [0u8; ROOM];
     load_input(&mut buffer)

@@ -4,8 +4,8 @@ use mathlib.Core.List.{List, map}
 use mathlib.Core.Bool.{true, false}
 use Prim.Native.Nat.{ℕ, suc, _+_, _/_, _≤_, _<_}
 use lib.ListN.{length, getD}
-use Rattle.cqf.specs.Plan.{Plan, synchronized}
-use Rattle.cqf.specs.Condition.{stretch}
+use Rattle.cqf.specs.Plan.{Plan, clocksEqual}
+use Rattle.cqf.specs.Widened.{widened}
 use Rattle.cqf.specs.Emission.{Emission}
 
 -- for the flow of each slot, the cycle of each of its frames
@@ -27,9 +27,9 @@ pub record Partition (p : Plan) (T : ℕ) (e : Emission) (cycles : Cycles) : Typ
       → i ≤ j
       → j < length (e f)
       → getD (cycles f) i 0 ≡ getD (cycles f) j 0
-      → getD (e f) j 0 < getD (e f) i 0 + stretch p T
+      → getD (e f) j 0 < getD (e f) i 0 + widened p T
 
 -- the cycles that a run may have: the aligned ones where clocks are taken as equal, and else those of any partition
 pub data Permitted (p : Plan) (T : ℕ) (e : Emission) (cycles : Cycles) : Type 0 where
-  aligned : synchronized p ≡ true → ((f : ℕ) → cycles f ≡ cyclesOf T e f) → Permitted p T e cycles
-  parted : synchronized p ≡ false → Partition p T e cycles → Permitted p T e cycles
+  aligned : clocksEqual p ≡ true → ((f : ℕ) → cycles f ≡ cyclesOf T e f) → Permitted p T e cycles
+  parted : clocksEqual p ≡ false → Partition p T e cycles → Permitted p T e cycles

@@ -32,5 +32,5 @@ pub record KeepsNominal (p : Plan) (e : Emission) : Type 0 where
   pub spaced : (f k : ℕ) → k + countOf p f < length (e f) → getD (e f) k 0 + periodOf p f ≤ getD (e f) (k + countOf p f) 0
 
 -- the nominal instants never fall, which the contract does not ask
-abbrev pub InOrder : {p : Plan} {e : Emission} → Keeps p e → Type 0
-InOrder {p} {e} keeps = (f k : ℕ) → suc k < length (e f) → keeps .nominal f k ≤ keeps .nominal f (suc k)
+abbrev pub NominalsInOrder : {p : Plan} {e : Emission} → Keeps p e → Type 0
+NominalsInOrder {p} {e} keeps = (f k : ℕ) → suc k < length (e f) → keeps .nominal f k ≤ keeps .nominal f (suc k)

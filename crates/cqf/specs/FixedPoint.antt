@@ -11,7 +11,10 @@ use lib.Dec.{leb, ltb}
 use Rattle.cqf.specs.Bounded.{sumTo}
 use Rattle.cqf.specs.Limits.{flowSlots}
 use Rattle.cqf.specs.Plan.{Plan, periodOf, jitterOf, present}
-use Rattle.cqf.specs.Condition.{ceilDiv, stretch, largestNeed, admissible, leastFrom}
+use Rattle.cqf.specs.Ceil.{ceilDiv}
+use Rattle.cqf.specs.Widened.{widened}
+use Rattle.cqf.specs.Condition.{admissible}
+use Rattle.cqf.specs.Need.{largestNeed, leastFrom}
 
 -- the two ways in which a step at t is the last
 abbrev pub settles : Plan → ℕ → Bool
@@ -42,10 +45,10 @@ pub data Outcome : Type 0 where
   unfinished : (duration : ℕ) → Outcome
 
 -- the same with so many steps before it
-abbrev pub after : ℕ → Outcome → Outcome
-after k (found t n) = found t (k + n)
-after k (none n) = none (k + n)
-after k (unfinished t) = unfinished t
+abbrev pub afterSteps : ℕ → Outcome → Outcome
+afterSteps k (found t n) = found t (k + n)
+afterSteps k (none n) = none (k + n)
+afterSteps k (unfinished t) = unfinished t
 
 -- at most so many steps from t
 unfoldable pub iterate : Plan → (t steps : ℕ) → Outcome
@@ -53,7 +56,7 @@ iterate p t zero = unfinished t
 iterate p t (suc n) =
     elim (settles p t) [
       | true ↦ found t 1
-      | false ↦ elim (passesTop p t) [ true ↦ none 1 | false ↦ after 1 (iterate p (largestNeed p t) n) ]
+      | false ↦ elim (passesTop p t) [ true ↦ none 1 | false ↦ afterSteps 1 (iterate p (largestNeed p t) n) ]
     ]
 
 -- a duration up to top found in so many steps, or one above top for none
@@ -62,8 +65,8 @@ ended p t n = cond (leb t (p .top)) (found t n) (none n)
 
 -- the periods of flow f that begin after the first one, in what is counted at t
 unfoldable pub later : Plan → ℕ → ℕ → ℕ
-unfolding ceilDiv stretch
-later p f t = cond (present p f) (ceilDiv (stretch p t + jitterOf p f) (periodOf p f) - 1) 0
+unfolding ceilDiv widened
+later p f t = cond (present p f) (ceilDiv (widened p t + jitterOf p f) (periodOf p f) - 1) 0
 
 -- no iteration takes more steps: two, and one for each period after the first in what is counted at top
 unfoldable pub mostSteps : Plan → ℕ
@@ -90,5 +93,5 @@ pub record Converges (p : Plan) (t : ℕ) : Type 0 where
   pub stops : (n : ℕ) → n < stepsFrom p t → iterate p t n ≡ unfinished (getD (visited p t) n 0)
   pub reached : (n u : ℕ) → iterate p t n ≡ unfinished u → (t ≤ u) × (u ≤ p .top)
   -- and going on from there gives what a single one gives, whatever the split
-  pub resumes : (a b u : ℕ) → iterate p t a ≡ unfinished u → iterate p t (a + b) ≡ after a (iterate p u b)
+  pub resumes : (a b u : ℕ) → iterate p t a ≡ unfinished u → iterate p t (a + b) ≡ afterSteps a (iterate p u b)
   pub bounded : stepsFrom p t ≤ mostSteps p

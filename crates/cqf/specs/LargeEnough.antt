@@ -4,7 +4,7 @@ use mathlib.Core.Logic.{_↔_}
 use mathlib.Core.Bool.{true, false}
 use Prim.Native.Nat.{ℕ, suc, _+_, _*_, _≤_, _<_}
 use lib.ListN.{length, getD}
-use Rattle.cqf.specs.Plan.{Plan, routeOf, synchronized}
+use Rattle.cqf.specs.Plan.{Plan, routeOf, clocksEqual}
 use Rattle.cqf.specs.Condition.{admissible}
 use Rattle.cqf.specs.Emission.{Emission, Keeps}
 use Rattle.cqf.specs.Cycles.{Cycles, Permitted}
@@ -25,7 +25,7 @@ pub record OnTime (p : Plan) (T : ℕ) (cycles : Cycles) (f k t own h : ℕ) : T
   pub leaves : Leaves p T cycles f k (own + h)
   pub once : (c : ℕ) → Leaves p T cycles f k c → c ≡ own + h
   pub delay
-      : synchronized p ≡ true
+      : clocksEqual p ≡ true
       → (c end : ℕ)
       → Leaves p T cycles f k c
       → MayEnd p T c end

@@ -2,7 +2,12 @@
 pub mod Bounded
 pub mod Limits
 pub mod Plan
+pub mod Ceil
+pub mod Port
+pub mod Widened
 pub mod Condition
+pub mod Need
+pub mod Overflow
 pub mod FixedPoint
 pub mod Emission
 pub mod Cycles
@@ -10,12 +15,6 @@ pub mod Run
 pub mod LargeEnough
 pub mod Lighter
 pub mod NoWorse
-pub mod Worked
-pub mod WorkedJitter
-pub mod WorkedClock
-pub mod WorkedCycles
-pub mod WorkedFixedPoint
 pub mod laws
-pub mod Theorem
-pub mod LighterTheorem
-pub mod WorkedLighter
+pub mod results
+pub mod worked

@@ -1,5 +1,5 @@
 -- The numbers of a plan and their ranges (document 01, "The plan's bytes").
-use Prim.Native.Nat.{ℕ, pred, _+_, _*_, _/_}
+use Prim.Native.Nat.{ℕ}
 use mathlib.Core.Bool.{Bool, _||_}
 use lib.Dec.{eqb}
 use Rattle.cqf.specs.Bounded.{within}
@@ -51,13 +51,6 @@ maxSyncError = 1000000
 -- parts of one
 abbrev pub million : ℕ
 million = 1000000
-
--- the longest stretch over which frames are counted, and the most periods that begin in it and the jitter before it
-abbrev pub mostStretch : ℕ
-mostStretch = maxTop + (maxTop * maxDrift + pred million) / million + maxTimingJitter
-
-abbrev pub mostBegun : ℕ
-mostBegun = (mostStretch + maxJitter + pred minPeriod) / minPeriod
 
 -- guard band S in ns
 abbrev pub guardOk : ℕ → Bool

@@ -52,8 +52,8 @@ noPlan =
     }
 
 -- whether the clocks of sources and ports are taken as equal: all three of their numbers are 0
-abbrev pub synchronized : Plan → Bool
-synchronized p = eqb (p .clock .drift) 0 && eqb (p .clock .timingJitter) 0 && eqb (p .clock .syncError) 0
+abbrev pub clocksEqual : Plan → Bool
+clocksEqual p = eqb (p .clock .drift) 0 && eqb (p .clock .timingJitter) 0 && eqb (p .clock .syncError) 0
 
 -- the numbers of the port in slot q
 abbrev pub rateOf : Plan → ℕ → ℕ

@@ -8,7 +8,7 @@ use lib.Dec.{eqb, ltb}
 use Rattle.cqf.specs.Bounded.{sumTo, countTo, anyTo}
 use Rattle.cqf.specs.Limits.{portSlots, flowSlots}
 use Rattle.cqf.specs.Plan.{Plan, rateOf, blockingOf, extraOf, routeOf}
-use Rattle.cqf.specs.Condition.{wireBits, window, failsBy}
+use Rattle.cqf.specs.Port.{wireBits, window, failsBy}
 use Rattle.cqf.specs.Cycles.{Cycles}
 
 -- where a frame is when a cycle starts: not yet emitted; received by a port in the cycle before, with the ports that it meets

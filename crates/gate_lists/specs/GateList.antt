@@ -5,7 +5,7 @@ use mathlib.Core.List.{List, [], _∷_, _++_}
 use mathlib.Core.Bool.{cond}
 use lib.Dec.{ltb}
 use Rattle.cqf.specs.Plan.{Plan}
-use Rattle.cqf.specs.Condition.{window}
+use Rattle.cqf.specs.Port.{window}
 use Rattle.plan_reading.specs.FieldBytes.{bytes2, bytes4}
 
 abbrev pub gateTag : ℕ

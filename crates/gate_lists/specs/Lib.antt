@@ -2,4 +2,4 @@
 pub mod GateList
 pub mod Playing
 pub mod laws
-pub mod Theorem
+pub mod results

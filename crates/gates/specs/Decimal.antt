@@ -18,9 +18,9 @@ valueFrom value [] = some value
 valueFrom value (d ∷ ds) = cond (isDigit d) (valueFrom (10 * value + (d - zeroDigit)) ds) none
 
 -- the number of a text, which has one digit at least
-abbrev pub valueOf : List ℕ → Option ℕ
-valueOf [] = none
-valueOf (d ∷ ds) = valueFrom 0 (d ∷ ds)
+abbrev pub digitsValue : List ℕ → Option ℕ
+digitsValue [] = none
+digitsValue (d ∷ ds) = valueFrom 0 (d ∷ ds)
 
 -- the largest number of 64 bits, for any that is larger
 abbrev pub largest : ℕ
@@ -35,7 +35,7 @@ cappedOption none = none
 
 unfoldable pub decimalValue : List ℕ → Option ℕ
 unfolding valueFrom capped
-decimalValue text = cappedOption (valueOf text)
+decimalValue text = cappedOption (digitsValue text)
 
 abbrev pub parsedOf : Parsed → Option ℕ
 parsedOf (Parsed.Number n) = some n

@@ -54,8 +54,8 @@ answerOf p (LoadAnswer.Held ports flows) = accepted p ports flows
 answerOf p (LoadAnswer.Refused fault offset) = rejected (faultNumber fault) offset
 
 -- the answer of the tests 8 and 9, for any tables with these rates and periods
-abbrev pub Closes : (bytes rates periods seen : List ℕ) (ports flows : ℕ) → LoadAnswer → Type 0
-Closes bytes rates periods seen ports flows answer =
+abbrev pub ClosesWith : (bytes rates periods seen : List ℕ) (ports flows : ℕ) → LoadAnswer → Type 0
+ClosesWith bytes rates periods seen ports flows answer =
     (p : Plan)
     → p .rates ≡ rates
     → p .periods ≡ periods

@@ -18,7 +18,7 @@ ghost use Rattle.cqf.specs.Bounded.{within};
 ghost use Rattle.plan_reading.specs.Reading.{loose, strict, maxBytes};
 ghost use Rattle.tables.specs.Tables.{planOf};
 ghost use Rattle.loading.specs.Answer.{Loads, modeOf};
-ghost use Rattle.loading.specs.Loading.{Closes};
+ghost use Rattle.loading.specs.Loading.{ClosesWith};
 
 // All fields are read: the tests 8 and 9.
 fn close(
@@ -29,7 +29,7 @@ fn close(
     periods: &[u32; 256],
     seen: &[u8; KEYS],
 ) -> LoadAnswer
-    ensures { λ r. ⌜ Closes (now (plan .entry)) (now (rates .entry)) (now (periods .entry)) (now (seen .entry)) ports flows r ⌝ }
+    ensures { λ r. ⌜ ClosesWith (now (plan .entry)) (now (rates .entry)) (now (periods .entry)) (now (seen .entry)) ports flows r ⌝ }
 {
     if seen[HEADER_KEY] == 0 {
         return LoadAnswer::Refused {
@@ -46,7 +46,7 @@ fn close(
     let offset = first_absent(plan, rates, periods);
     if offset < plan.len() {
         return LoadAnswer::Refused {
-            fault: Fault::UnknownPort,
+            fault: Fault::NotInPlan,
             offset,
         };
     }

@@ -4,7 +4,8 @@ ghost use mathlib.Core.Path.{_≡_};
 ghost use Prim.Native.Nat.{_*_};
 ghost use Rattle.cqf.specs.Limits.{million, driftOk, timingJitterOk, syncErrorOk};
 ghost use Rattle.cqf.specs.Plan.{clockOk};
-ghost use Rattle.cqf.specs.Condition.{ceilDiv, stretchBy};
+ghost use Rattle.cqf.specs.Ceil.{ceilDiv};
+ghost use Rattle.cqf.specs.Widened.{widenedBy};
 ghost use Rattle.numbers.specs.Clock.{clockOf};
 
 // Drift in parts per million, timing jitter and synchronization error in ns.
@@ -61,13 +62,13 @@ fn drifted(duration: u32, drift: u32) -> u64
 }
 
 // The smaller of what drift and timing jitter make of a duration, and what the synchronization error at its two ends does.
-pub fn stretch(clock: Clock, duration: u32) -> u64
-    ensures { λ r. ⌜ r ≡ stretchBy (clockOf clock) duration ⌝ }
+pub fn widened(clock: Clock, duration: u32) -> u64
+    ensures { λ r. ⌜ r ≡ widenedBy (clockOf clock) duration ⌝ }
 {
     let apart = duration as u64 + drifted(duration, clock.drift) + clock.timing_jitter as u64;
-    let synchronized = duration as u64 + 2 * (clock.sync_error as u64);
-    if apart < synchronized {
+    let clocksEqual = duration as u64 + 2 * (clock.sync_error as u64);
+    if apart < clocksEqual {
         return apart;
     }
-    synchronized
+    clocksEqual
 }

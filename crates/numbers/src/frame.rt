@@ -1,6 +1,6 @@
 // A frame's bits on the wire.
 ghost use mathlib.Core.Path.{_≡_};
-ghost use Rattle.cqf.specs.Condition.{bitsOf, blockingBitsOf};
+ghost use Rattle.cqf.specs.Port.{bitsOf, blockingBitsOf};
 
 // Preamble and start delimiter 8 bytes, gap 12.
 const OVERHEAD: u64 = 20;

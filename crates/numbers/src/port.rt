@@ -2,7 +2,7 @@
 ghost use mathlib.Core.Path.{_≡_};
 ghost use Prim.Native.Nat.{suc};
 ghost use lib.Count.{ones, trailingZeros};
-ghost use Rattle.cqf.specs.Condition.{windowOf};
+ghost use Rattle.cqf.specs.Port.{windowOf};
 
 // The part of a cycle in which a port sends.
 pub fn window(guard: u32, duration: u64) -> u64

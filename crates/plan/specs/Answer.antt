@@ -2,7 +2,7 @@
 use Prim.Native.Nat.{ℕ}
 use Rattle.numbers.specs.Clock.{clockOf}
 use Rattle.plan.specs.declared.Fault.{Fault}
-use Rattle.plan.specs.declared.Fault.the-variants.{Size, Truncated, UnknownTag, WrongLength, OutOfRange, Duplicate, OutOfOrder, RepeatedPort, Incomplete, UnknownPort}
+use Rattle.plan.specs.declared.Fault.the-variants.{Size, Truncated, UnknownTag, WrongLength, OutOfRange, Duplicate, OutOfOrder, RepeatedPort, Incomplete, NotInPlan}
 use Rattle.plan.specs.declared.Head.{Head}
 use Rattle.plan.specs.declared.Head.the-variants.{Whole, Cut}
 use Rattle.plan.specs.declared.Field as declaredField
@@ -19,7 +19,7 @@ faultNumber Duplicate = 6
 faultNumber OutOfOrder = 12
 faultNumber RepeatedPort = 7
 faultNumber Incomplete = 8
-faultNumber UnknownPort = 9
+faultNumber NotInPlan = 9
 
 abbrev pub headOf : Head → HeadRead
 headOf (Whole tag size) = head tag size

@@ -32,7 +32,7 @@ pub enum Fault {
     OutOfOrder,
     RepeatedPort,
     Incomplete,
-    UnknownPort,
+    NotInPlan,
 }
 
 pub enum Head {
@@ -99,7 +99,7 @@ pub fn fault_number(fault: Fault) -> u8
         Fault::OutOfOrder => 12,
         Fault::RepeatedPort => 7,
         Fault::Incomplete => 8,
-        Fault::UnknownPort => 9,
+        Fault::NotInPlan => 9,
     }
 }
 

@@ -5,8 +5,11 @@ use Prim.Native.Nat.{ℕ}
 use lib.IntN.{pos, negsuc}
 use Rattle.cqf.specs.Bounded.{sumTo, countTo, anyTo, allTo, lowest, elem, distinct, every, sublist}
 use Rattle.cqf.specs.Plan.{noPlan, validPlan, validPort, validFlow}
-use Rattle.cqf.specs.Condition.{wireBits, ceilDiv, stretch, begun, frames, demand, window, capacity, workload, slack, crossed, fails, failing, lowestFailing, admissible}
-use Rattle.cqf.specs.Worked.{planK}
+use Rattle.cqf.specs.Ceil.{ceilDiv}
+use Rattle.cqf.specs.Port.{wireBits, window, capacity, workload}
+use Rattle.cqf.specs.Widened.{widened}
+use Rattle.cqf.specs.Condition.{begun, frames, demand, slack, crossed, fails, failing, lowestFailing, admissible}
+use Rattle.cqf.specs.worked.K.{planK}
 use Rattle.plan.specs.Bytes.{number2, number4, sizeAt, wholeAt, valueAt, numbers2}
 use Rattle.plan.specs.Field.{routePorts, routeIn, headerIn, portInValue, flowIn, extraIn, jitterIn, clockIn, fieldIn, fieldAt, repeats}
 use Rattle.plan_reading.specs.Store.{store}
@@ -39,7 +42,7 @@ table32 =
     ∷ []
 
 tableOf32 : linesOf (after (load loose (extra 1 32 ++ bytesK) ∷ [])) table32 ≡ table32
-unfolding extra bytesK _++_ table32 after afterFrom loadLeaves noPlan readPlan readAs readFrom blank stepAt fieldAt fieldIn headerIn portInValue flowIn extraIn jitterIn clockIn number2 number4 sizeAt wholeAt valueAt numbers2 routePorts routeIn repeats every distinct elem store added closing firstFrom firstAbsent namesAbsent jitterAbsent extraAbsent checkAnswer slackAnswer validPlan validPort validFlow allTo anyTo sublist admissible failing lowestFailing lowest countTo fails crossed capacity window workload demand sumTo frames begun stretch ceilDiv wireBits slack
+unfolding extra bytesK _++_ table32 after afterFrom loadLeaves noPlan readPlan readAs readFrom blank stepAt fieldAt fieldIn headerIn portInValue flowIn extraIn jitterIn clockIn number2 number4 sizeAt wholeAt valueAt numbers2 routePorts routeIn repeats every distinct elem store added closing firstFrom firstAbsent namesAbsent jitterAbsent extraAbsent checkAnswer slackAnswer validPlan validPort validFlow allTo anyTo sublist admissible failing lowestFailing lowest countTo fails crossed capacity window workload demand sumTo frames begun widened ceilDiv wireBits slack
 tableOf32 = refl
 
 -- flow 3 over port 3, which K does not have

@@ -4,7 +4,11 @@ use mathlib.Core.List.{List, [], _∷_, map}
 use Prim.Native.Nat.{ℕ}
 use Rattle.cqf.specs.Bounded.{maxTo, elem, distinct, every, allTo, anyTo, sumTo, countTo, lowest, sublist}
 use Rattle.cqf.specs.Plan.{noPlan, validPort, validFlow, validPlan}
-use Rattle.cqf.specs.Condition.{wireBits, ceilDiv, stretch, begun, frames, demand, window, capacity, workload, need, largestNeed, crossed, fails, failing, lowestFailing}
+use Rattle.cqf.specs.Ceil.{ceilDiv}
+use Rattle.cqf.specs.Port.{wireBits, window, capacity, workload}
+use Rattle.cqf.specs.Widened.{widened}
+use Rattle.cqf.specs.Condition.{begun, frames, demand, crossed, fails, failing, lowestFailing}
+use Rattle.cqf.specs.Need.{need, largestNeed}
 use Rattle.cqf.specs.FixedPoint.{iterate}
 use Rattle.plan.specs.Bytes.{number2, number4, sizeAt, wholeAt, valueAt, numbers2}
 use Rattle.plan.specs.Field.{routePorts, routeIn, headerIn, portInValue, flowIn, extraIn, jitterIn, clockIn, fieldIn, fieldAt, repeats}
@@ -25,7 +29,7 @@ byStepsK
     ∷ result (record { duration = 72000; steps = 2 })
     ∷ result (record { duration = 72000; steps = 2 })
     ∷ []
-unfolding bytesK after afterFrom loadLeaves noPlan readPlan readAs readFrom blank stepAt fieldAt fieldIn headerIn portInValue flowIn extraIn jitterIn clockIn number2 number4 sizeAt wholeAt valueAt numbers2 routePorts routeIn repeats every distinct elem store added closing firstFrom firstAbsent namesAbsent jitterAbsent extraAbsent fixedPointAnswer validPlan validPort validFlow allTo anyTo sublist iterate largestNeed maxTo need failing lowestFailing lowest countTo fails crossed capacity window workload demand sumTo frames begun stretch ceilDiv wireBits
+unfolding bytesK after afterFrom loadLeaves noPlan readPlan readAs readFrom blank stepAt fieldAt fieldIn headerIn portInValue flowIn extraIn jitterIn clockIn number2 number4 sizeAt wholeAt valueAt numbers2 routePorts routeIn repeats every distinct elem store added closing firstFrom firstAbsent namesAbsent jitterAbsent extraAbsent fixedPointAnswer validPlan validPort validFlow allTo anyTo sublist iterate largestNeed maxTo need failing lowestFailing lowest countTo fails crossed capacity window workload demand sumTo frames begun widened ceilDiv wireBits
 byStepsK = refl
 
 -- from an admissible duration, from the ends of the gap, and from starts outside 1 to top
@@ -38,5 +42,5 @@ fromStartsK
     ∷ refusal 10 (0 ∷ [])
     ∷ refusal 10 (0 ∷ [])
     ∷ []
-unfolding bytesK after afterFrom loadLeaves noPlan readPlan readAs readFrom blank stepAt fieldAt fieldIn headerIn portInValue flowIn extraIn jitterIn clockIn number2 number4 sizeAt wholeAt valueAt numbers2 routePorts routeIn repeats every distinct elem store added closing firstFrom firstAbsent namesAbsent jitterAbsent extraAbsent fixedPointAnswer validPlan validPort validFlow allTo anyTo sublist iterate largestNeed maxTo need failing lowestFailing lowest countTo fails crossed capacity window workload demand sumTo frames begun stretch ceilDiv wireBits
+unfolding bytesK after afterFrom loadLeaves noPlan readPlan readAs readFrom blank stepAt fieldAt fieldIn headerIn portInValue flowIn extraIn jitterIn clockIn number2 number4 sizeAt wholeAt valueAt numbers2 routePorts routeIn repeats every distinct elem store added closing firstFrom firstAbsent namesAbsent jitterAbsent extraAbsent fixedPointAnswer validPlan validPort validFlow allTo anyTo sublist iterate largestNeed maxTo need failing lowestFailing lowest countTo fails crossed capacity window workload demand sumTo frames begun widened ceilDiv wireBits
 fromStartsK = refl

@@ -4,7 +4,10 @@ use mathlib.Core.List.{List, [], _∷_, _++_, map}
 use Prim.Native.Nat.{ℕ}
 use Rattle.cqf.specs.Bounded.{sumTo, countTo, anyTo, allTo, lowest, elem, distinct, every, sublist, tabulate}
 use Rattle.cqf.specs.Plan.{noPlan, validPlan, validPort, validFlow}
-use Rattle.cqf.specs.Condition.{wireBits, ceilDiv, stretch, begun, frames, demand, window, capacity, workload, crossed, fails, failing, lowestFailing, admissible}
+use Rattle.cqf.specs.Ceil.{ceilDiv}
+use Rattle.cqf.specs.Port.{wireBits, window, capacity, workload}
+use Rattle.cqf.specs.Widened.{widened}
+use Rattle.cqf.specs.Condition.{begun, frames, demand, crossed, fails, failing, lowestFailing, admissible}
 use Rattle.plan.specs.Bytes.{number2, number4, sizeAt, wholeAt, valueAt, numbers2}
 use Rattle.plan.specs.Field.{routePorts, routeIn, headerIn, portInValue, flowIn, extraIn, jitterIn, clockIn, fieldIn, fieldAt, repeats}
 use Rattle.plan_reading.specs.Store.{store}
@@ -13,7 +16,7 @@ use Rattle.plan_reading.specs.Reading.{stepAt, namesAbsent, jitterAbsent, extra
 use Rattle.gate_lists.specs.GateList.{bit, bothClosed, oneOpen, gateCycle, gateList, gateListBytes, listBytes}
 use Rattle.answers.specs.Answer.{Answer, result, refusal}
 use Rattle.loading.specs.Outcome.{loadLeaves}
-use Rattle.gating.specs.Gates.{gatesAnswer, gatesLeaves}
+use Rattle.gate_writing.specs.Gates.{gatesAnswer, gatesLeaves}
 use Rattle.sequences.specs.Calls.{Call, load, afterFrom, after}
 use Rattle.plan_k.specs.PlanK.{bytesK}
 
@@ -37,7 +40,7 @@ room n = tabulate n (λ i. 0xaa)
 
 -- what is left in a buffer of 50 bytes: the last two remain
 gatesK : gatesLeaves (after (load loose bytesK ∷ [])) 100000 2 3 (room 50) ≡ listK ++ (0xaa ∷ 0xaa ∷ [])
-unfolding bytesK entry listK room tabulate gatesLeaves gatesAnswer gateListBytes gateList gateCycle oneOpen bothClosed bit listBytes after afterFrom loadLeaves noPlan readPlan readAs readFrom blank stepAt fieldAt fieldIn headerIn portInValue flowIn extraIn jitterIn clockIn number2 number4 sizeAt wholeAt valueAt numbers2 routePorts routeIn repeats every distinct elem store added closing firstFrom firstAbsent namesAbsent jitterAbsent extraAbsent validPlan validPort validFlow allTo anyTo sublist admissible failing lowestFailing lowest countTo fails crossed capacity window workload demand sumTo frames begun stretch ceilDiv wireBits
+unfolding bytesK entry listK room tabulate gatesLeaves gatesAnswer gateListBytes gateList gateCycle oneOpen bothClosed bit listBytes after afterFrom loadLeaves noPlan readPlan readAs readFrom blank stepAt fieldAt fieldIn headerIn portInValue flowIn extraIn jitterIn clockIn number2 number4 sizeAt wholeAt valueAt numbers2 routePorts routeIn repeats every distinct elem store added closing firstFrom firstAbsent namesAbsent jitterAbsent extraAbsent validPlan validPort validFlow allTo anyTo sublist admissible failing lowestFailing lowest countTo fails crossed capacity window workload demand sumTo frames begun widened ceilDiv wireBits
 gatesK = refl
 
 -- what is asked after some calls, for a buffer of so many bytes
@@ -78,5 +81,5 @@ ordered
     ∷ refusal 13 (48 ∷ [])
     ∷ result 48
     ∷ []
-unfolding bytesK room tabulate gatesAnswer gateListBytes gateList gateCycle oneOpen bothClosed bit listBytes after afterFrom loadLeaves noPlan readPlan readAs readFrom blank stepAt fieldAt fieldIn headerIn portInValue flowIn extraIn jitterIn clockIn number2 number4 sizeAt wholeAt valueAt numbers2 routePorts routeIn repeats every distinct elem store added closing firstFrom firstAbsent namesAbsent jitterAbsent extraAbsent validPlan validPort validFlow allTo anyTo sublist admissible failing lowestFailing lowest countTo fails crossed capacity window workload demand sumTo frames begun stretch ceilDiv wireBits
+unfolding bytesK room tabulate gatesAnswer gateListBytes gateList gateCycle oneOpen bothClosed bit listBytes after afterFrom loadLeaves noPlan readPlan readAs readFrom blank stepAt fieldAt fieldIn headerIn portInValue flowIn extraIn jitterIn clockIn number2 number4 sizeAt wholeAt valueAt numbers2 routePorts routeIn repeats every distinct elem store added closing firstFrom firstAbsent namesAbsent jitterAbsent extraAbsent validPlan validPort validFlow allTo anyTo sublist admissible failing lowestFailing lowest countTo fails crossed capacity window workload demand sumTo frames begun widened ceilDiv wireBits
 ordered = refl

@@ -11,8 +11,8 @@ use Rattle.cqf.specs.Bounded.{elem, distinct, every}
 use Rattle.cqf.specs.Limits.{portSlots}
 use Rattle.cqf.specs.Plan.{Plan, noPlan, validPlan}
 use Rattle.cqf.specs.Condition.{least, marginSafe}
-use Rattle.cqf.specs.Worked.{planK}
-use Rattle.cqf.specs.WorkedLighter.{planHeavy, planLight, valid-heavy, valid-light, lighter-K, least-heavy, least-light, margin-safe-heavy, margin-safe-light}
+use Rattle.cqf.specs.worked.K.{planK}
+use Rattle.cqf.specs.worked.Lighter.{planHeavy, planLight, valid-heavy, valid-light, lighter-K, least-heavy, least-light, margin-safe-heavy, margin-safe-light}
 use Rattle.plan.specs.Bytes.{number2, number4, sizeAt, wholeAt, valueAt, numbers2}
 use Rattle.plan.specs.Field.{routePorts, routeIn, headerIn, portInValue, flowIn, extraIn, jitterIn, clockIn, fieldIn, fieldAt, repeats}
 use Rattle.plan_reading.specs.Store.{store}
@@ -22,7 +22,7 @@ use Rattle.answers.specs.Answer.{result}
 use Rattle.questions.specs.Outcome.{leastAnswer, marginSafeAnswer}
 use Rattle.sequences.specs.Calls.{load, after, heldFrom, heldBytes}
 use Rattle.sequences.specs.NoWorse.{AnswersNoWorse}
-use Rattle.sequences.specs.LighterTheorem.{lighter-answers}
+use Rattle.sequences.specs.results.LighterTheorem.{lighter-answers}
 use Rattle.sequences.specs.laws.Calls.{after-held}
 use Rattle.questions.specs.laws.Searched.{least-gives, margin-safe-gives}
 

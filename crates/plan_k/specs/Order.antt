@@ -15,7 +15,7 @@ use Rattle.plan_reading.specs.Reading.{stepAt, namesAbsent, jitterAbsent, extra
 use Rattle.plan_reading.specs.FieldOrder.{IsField, AllFields, none, more, SameFields}
 use Rattle.sequences.specs.Calls.{load, after, heldFrom, heldBytes}
 use Rattle.sequences.specs.Reply.{SameAnswers}
-use Rattle.sequences.specs.Theorem.{order-free}
+use Rattle.sequences.specs.results.Theorem.{order-free}
 use Rattle.plan_k.specs.PlanK.{bytesK, heldK}
 
 -- the four fields of K

@@ -6,8 +6,11 @@ use Prim.Native.Nat.{ℕ}
 use lib.IntN.{ℤ, pos, negsuc}
 use Rattle.cqf.specs.Bounded.{sumTo, countTo, anyTo, allTo, lowest, elem, distinct, every, sublist}
 use Rattle.cqf.specs.Plan.{Plan, noPlan, validPlan, validPort, validFlow}
-use Rattle.cqf.specs.Condition.{bitsOf, wireBits, ceilDiv, stretch, begun, frames, demand, window, capacity, workload, slack, crossed, fails, failing, lowestFailing, admissible}
-use Rattle.cqf.specs.Worked.{planK}
+use Rattle.cqf.specs.Ceil.{ceilDiv}
+use Rattle.cqf.specs.Port.{bitsOf, wireBits, window, capacity, workload}
+use Rattle.cqf.specs.Widened.{widened}
+use Rattle.cqf.specs.Condition.{begun, frames, demand, slack, crossed, fails, failing, lowestFailing, admissible}
+use Rattle.cqf.specs.worked.K.{planK}
 use Rattle.plan.specs.Bytes.{number2, number4, sizeAt, wholeAt, valueAt, numbers2}
 use Rattle.plan.specs.Field.{routePorts, routeIn, headerIn, portInValue, flowIn, extraIn, jitterIn, clockIn, fieldIn, fieldAt, repeats}
 use Rattle.plan_reading.specs.Store.{store}
@@ -69,7 +72,7 @@ heldK = refl
 
 -- every line of the table, of the planner that holds the plan in K's bytes
 tableOfK : linesOf (after (load loose bytesK ∷ [])) table ≡ table
-unfolding bytesK table after afterFrom loadLeaves noPlan readPlan readAs readFrom blank stepAt fieldAt fieldIn headerIn portInValue flowIn extraIn jitterIn clockIn number2 number4 sizeAt wholeAt valueAt numbers2 routePorts routeIn repeats every distinct elem store added closing firstFrom firstAbsent namesAbsent jitterAbsent extraAbsent checkAnswer slackAnswer validPlan validPort validFlow allTo anyTo sublist admissible failing lowestFailing lowest countTo fails crossed capacity window workload demand sumTo frames begun stretch ceilDiv wireBits slack
+unfolding bytesK table after afterFrom loadLeaves noPlan readPlan readAs readFrom blank stepAt fieldAt fieldIn headerIn portInValue flowIn extraIn jitterIn clockIn number2 number4 sizeAt wholeAt valueAt numbers2 routePorts routeIn repeats every distinct elem store added closing firstFrom firstAbsent namesAbsent jitterAbsent extraAbsent checkAnswer slackAnswer validPlan validPort validFlow allTo anyTo sublist admissible failing lowestFailing lowest countTo fails crossed capacity window workload demand sumTo frames begun widened ceilDiv wireBits slack
 tableOfK = refl
 
 -- a field cut short is 2 at its tag and not 3, whether its tag is known or not

@@ -2,7 +2,7 @@
 use mathlib.Core.Path.{_≡_, refl}
 use Rattle.cqf.specs.Bounded.{sublist}
 use Rattle.cqf.specs.Plan.{noPlan}
-use Rattle.cqf.specs.Worked.{planK}
+use Rattle.cqf.specs.worked.K.{planK}
 use Rattle.plan_reading.specs.FieldBytes.{bytes2s, valueOf, bytesOf, rowBytes}
 use Rattle.plan_reading.specs.Saved.{collect, savedFields, savedBytes}
 use Rattle.plan_k.specs.PlanK.{bytesK}

@@ -15,4 +15,4 @@ pub mod Sized
 pub mod Tidy
 pub mod Ranges
 pub mod laws
-pub mod StrictTheorem
+pub mod results

@@ -5,7 +5,7 @@ use mathlib.Core.List.{List, [], _∷_, _++_, List·Memᴰ}
 use mathlib.Core.Bool.{Bool, cond, not}
 use lib.Dec.{ltb}
 use Rattle.cqf.specs.Limits.{portSlots, flowSlots}
-use Rattle.cqf.specs.Plan.{Plan, synchronized, rateOf, blockingOf, extraOf, periodOf, countOf, lengthOf, jitterOf, hopsOf, routeOf}
+use Rattle.cqf.specs.Plan.{Plan, clocksEqual, rateOf, blockingOf, extraOf, periodOf, countOf, lengthOf, jitterOf, hopsOf, routeOf}
 use Rattle.plan.specs.Field.{header, port, flow, extra, jitter, clock}
 use Rattle.plan_reading.specs.FieldOrder.{SaysNothing}
 use Rattle.plan_reading.specs.Strict.{Entry, fieldsIn}
@@ -53,7 +53,7 @@ abbrev pub jitterFields : Plan → ℕ → List Entry
 jitterFields p f = when (ltb 0 (jitterOf p f)) (jitterField p f)
 
 abbrev pub clockFields : Plan → List Entry
-clockFields p = when (not (synchronized p)) (clockField p)
+clockFields p = when (not (clocksEqual p)) (clockField p)
 
 -- all of them, in strict order
 unfoldable pub savedFields : Plan → List Entry

@@ -1,6 +1,6 @@
 // The calls: the planner by value, its tables lent column by column.
-use gating::GatesAnswer;
-use gating::gates_tables;
+use gate_writing::GatesAnswer;
+use gate_writing::gates_tables;
 use questions::CheckAnswer;
 use questions::FixedPointAnswer;
 use questions::Goal;
@@ -20,9 +20,9 @@ ghost use Rattle.sequences.specs.Meaning.{CheckMeans};
 ghost use Rattle.questions.specs.Outcome.{checkAnswer, slackAnswer, leastAnswer, leastLeaves, marginSafeAnswer, marginSafeLeaves};
 ghost use Rattle.questions.specs.FixedPoint.{fixedPointAnswer};
 ghost use Rattle.saving.specs.Save.{saveAnswer, saveLeaves};
-ghost use Rattle.gating.specs.Gates.{gatesAnswer, gatesLeaves};
+ghost use Rattle.gate_writing.specs.Gates.{gatesAnswer, gatesLeaves};
 ghost use Rattle.saving.specs.Answer.{saveOf};
-ghost use Rattle.gating.specs.Answer.{gatesOf};
+ghost use Rattle.gate_writing.specs.Answer.{gatesOf};
 
 // Is this duration admissible? What the answer means is demand 3: after every sequence of calls that leads to this planner.
 pub fn check(planner: Planner, duration: u64) -> CheckAnswer

@@ -9,7 +9,7 @@ pub use calls::least;
 pub use calls::margin_safe;
 pub use calls::save;
 pub use calls::slack;
-pub use gating::GatesAnswer;
+pub use gate_writing::GatesAnswer;
 pub use loading::LoadAnswer;
 pub use loading::LoadOutcome;
 pub use loading::load;

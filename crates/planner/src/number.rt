@@ -1,5 +1,5 @@
 // The papers' number of each answer, 0 for a result.
-use gating::GatesAnswer;
+use gate_writing::GatesAnswer;
 use loading::LoadAnswer;
 use plan::fault_number;
 use questions::CheckAnswer;
@@ -8,11 +8,11 @@ use questions::SearchAnswer;
 use questions::SlackAnswer;
 use saving::SaveAnswer;
 ghost use mathlib.Core.Path.{_≡_};
-ghost use Rattle.answers.specs.Answer.{numberOf};
+ghost use Rattle.answers.specs.Answer.{refusalNumber};
 ghost use Rattle.loading.specs.Answer.{loadOf};
 ghost use Rattle.questions.specs.Answer.{checkOf, slackOf, searchOf, leastOf, marginSafeOf, fixedPointOf};
 ghost use Rattle.saving.specs.Answer.{saveOf};
-ghost use Rattle.gating.specs.Answer.{gatesOf};
+ghost use Rattle.gate_writing.specs.Answer.{gatesOf};
 
 const BAD_DURATION: u32 = 10;
 
@@ -35,7 +35,7 @@ const NOT_CROSSED: u32 = 24;
 const UNFINISHED: u32 = 26;
 
 pub fn load_number(answer: LoadAnswer) -> u32
-    ensures { λ r. ⌜ r ≡ numberOf (loadOf answer) ⌝ }
+    ensures { λ r. ⌜ r ≡ refusalNumber (loadOf answer) ⌝ }
 {
     match answer {
         LoadAnswer::Held { ports: _, flows: _ } => 0,
@@ -44,7 +44,7 @@ pub fn load_number(answer: LoadAnswer) -> u32
 }
 
 pub fn check_number(answer: CheckAnswer) -> u32
-    ensures { λ r. ⌜ r ≡ numberOf (checkOf answer) ⌝ }
+    ensures { λ r. ⌜ r ≡ refusalNumber (checkOf answer) ⌝ }
 {
     match answer {
         CheckAnswer::Admissible => 0,
@@ -55,7 +55,7 @@ pub fn check_number(answer: CheckAnswer) -> u32
 }
 
 pub fn slack_number(answer: SlackAnswer) -> u32
-    ensures { λ r. ⌜ r ≡ numberOf (slackOf answer) ⌝ }
+    ensures { λ r. ⌜ r ≡ refusalNumber (slackOf answer) ⌝ }
 {
     match answer {
         SlackAnswer::Slack(_) => 0,
@@ -67,7 +67,7 @@ pub fn slack_number(answer: SlackAnswer) -> u32
 
 // Where the failing ports at top come with this refusal.
 fn search_number(failing: u32, answer: SearchAnswer) -> u32
-    ensures { λ r. ⌜ r ≡ numberOf (searchOf failing answer) ⌝ }
+    ensures { λ r. ⌜ r ≡ refusalNumber (searchOf failing answer) ⌝ }
 {
     match answer {
         SearchAnswer::Duration(_) => 0,
@@ -78,19 +78,19 @@ fn search_number(failing: u32, answer: SearchAnswer) -> u32
 }
 
 pub fn least_number(answer: SearchAnswer) -> u32
-    ensures { λ r. ⌜ r ≡ numberOf (leastOf answer) ⌝ }
+    ensures { λ r. ⌜ r ≡ refusalNumber (leastOf answer) ⌝ }
 {
     search_number(NO_LEAST, answer)
 }
 
 pub fn margin_safe_number(answer: SearchAnswer) -> u32
-    ensures { λ r. ⌜ r ≡ numberOf (marginSafeOf answer) ⌝ }
+    ensures { λ r. ⌜ r ≡ refusalNumber (marginSafeOf answer) ⌝ }
 {
     search_number(NO_MARGIN_SAFE, answer)
 }
 
 pub fn fixed_point_number(answer: FixedPointAnswer) -> u32
-    ensures { λ r. ⌜ r ≡ numberOf (fixedPointOf answer) ⌝ }
+    ensures { λ r. ⌜ r ≡ refusalNumber (fixedPointOf answer) ⌝ }
 {
     match answer {
         FixedPointAnswer::Duration {
@@ -112,7 +112,7 @@ pub fn fixed_point_number(answer: FixedPointAnswer) -> u32
 }
 
 pub fn save_number(answer: SaveAnswer) -> u32
-    ensures { λ r. ⌜ r ≡ numberOf (saveOf answer) ⌝ }
+    ensures { λ r. ⌜ r ≡ refusalNumber (saveOf answer) ⌝ }
 {
     match answer {
         SaveAnswer::Written(_) => 0,
@@ -122,7 +122,7 @@ pub fn save_number(answer: SaveAnswer) -> u32
 }
 
 pub fn gates_number(answer: GatesAnswer) -> u32
-    ensures { λ r. ⌜ r ≡ numberOf (gatesOf answer) ⌝ }
+    ensures { λ r. ⌜ r ≡ refusalNumber (gatesOf answer) ⌝ }
 {
     match answer {
         GatesAnswer::Written(_) => 0,

@@ -7,7 +7,8 @@ use lib.ListN.{getD}
 use Rattle.cqf.specs.Bounded.{sumTo, tabulate}
 use Rattle.cqf.specs.Limits.{portSlots}
 use Rattle.cqf.specs.Plan.{Plan}
-use Rattle.cqf.specs.Condition.{failsBy, demand, failing, lowestFailing}
+use Rattle.cqf.specs.Port.{failsBy}
+use Rattle.cqf.specs.Condition.{demand, failing, lowestFailing}
 
 -- bit q stands for the port in slot q
 unfoldable pub setTo : ℕ → (ℕ → Bool) → ℕ

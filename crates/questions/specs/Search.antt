@@ -30,6 +30,6 @@ abbrev pub Answers : (number : ℕ) (sought : Plan → ℕ) (p : Plan) → Answe
 Answers number sought p answer out = (answer ≡ foundAnswer number p (sought p)) × (out ≡ foundDemands p (sought p))
 
 -- the answer of a search, and the scratch as it leaves it
-abbrev pub Ends : (number : ℕ) (sought : Plan → ℕ) (p : Plan) (scratch : List ℕ) → Answer ℕ → List ℕ → Type 0
-Ends number sought p scratch answer exit =
+abbrev pub SearchEnds : (number : ℕ) (sought : Plan → ℕ) (p : Plan) (scratch : List ℕ) → Answer ℕ → List ℕ → Type 0
+SearchEnds number sought p scratch answer exit =
     (answer ≡ searched number p (sought p) scratch) × (exit ≡ searchLeaves p (sought p) scratch)

@@ -1,6 +1,6 @@
 -- Laws of the questions.
 pub mod Sums
-pub mod Stretched
+pub mod Widened
 pub mod Sets
 pub mod Fails
 pub mod Topped

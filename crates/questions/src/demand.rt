@@ -1,6 +1,6 @@
 // Each port's demand at a duration, in bits: one pass over the flows and the ports of their routes.
 use numbers::clock::Clock;
-use numbers::clock::stretch;
+use numbers::clock::widened;
 use numbers::frame::wire_bits;
 use tables::FLOWS;
 use tables::STRIDE;
@@ -10,25 +10,28 @@ ghost use mathlib.Core.List.{[]};
 ghost use Prim.Native.Nat.{ℕ, _+_, _*_, _^_, _≤_, _<_};
 ghost use lib.ListN.{length, getD};
 ghost use Rattle.cqf.specs.Bounded.{distinct, every, sublist, tabulate};
-ghost use Rattle.cqf.specs.Limits.{portSlots, flowSlots, routeStride, portOk, minPeriod, maxPeriod, maxCount, maxJitter, mostStretch};
-ghost use Rattle.cqf.specs.Condition.{bitsOf, begunBy, framesBy, stretchBy, demand};
+ghost use Rattle.cqf.specs.Limits.{portSlots, flowSlots, routeStride, portOk, minPeriod, maxPeriod, maxCount, maxJitter};
+ghost use Rattle.cqf.specs.Overflow.{mostWidened};
+ghost use Rattle.cqf.specs.Port.{bitsOf};
+ghost use Rattle.cqf.specs.Widened.{widenedBy};
+ghost use Rattle.cqf.specs.Condition.{begunBy, framesBy, demand};
 ghost use Rattle.numbers.specs.Clock.{clockOf};
 ghost use Rattle.tables.specs.Columns.{columns, FlowsInRange, ExtrasInRange, Marked};
 
 // The periods that begin in a stretch or within the jitter before it: the quotient rounded up.
-fn periods_begun(stretch: u32, jitter: u32, period: u32) -> u32
-    requires { ⌜ (minPeriod ≤ period) × (period ≤ maxPeriod) × (jitter ≤ maxJitter) × (stretch ≤ mostStretch) ⌝ }
-    ensures { λ r. ⌜ r ≡ begunBy stretch jitter period ⌝ }
+fn periods_begun(widened: u32, jitter: u32, period: u32) -> u32
+    requires { ⌜ (minPeriod ≤ period) × (period ≤ maxPeriod) × (jitter ≤ maxJitter) × (widened ≤ mostWidened) ⌝ }
+    ensures { λ r. ⌜ r ≡ begunBy widened jitter period ⌝ }
 {
-    (stretch + jitter + (period - 1)) / period
+    (widened + jitter + (period - 1)) / period
 }
 
 // The frames that a flow brings in a stretch.
-pub(crate) fn flow_frames(period: u32, count: u16, jitter: u32, stretch: u32) -> u64
-    requires { ⌜ (minPeriod ≤ period) × (period ≤ maxPeriod) × (count ≤ maxCount) × (jitter ≤ maxJitter) × (stretch ≤ mostStretch) ⌝ }
-    ensures { λ r. ⌜ r ≡ framesBy count stretch jitter period ⌝ }
+pub(crate) fn flow_frames(period: u32, count: u16, jitter: u32, widened: u32) -> u64
+    requires { ⌜ (minPeriod ≤ period) × (period ≤ maxPeriod) × (count ≤ maxCount) × (jitter ≤ maxJitter) × (widened ≤ mostWidened) ⌝ }
+    ensures { λ r. ⌜ r ≡ framesBy count widened jitter period ⌝ }
 {
-    let begun = periods_begun(stretch, jitter, period);
+    let begun = periods_begun(widened, jitter, period);
     (count as u64) * (begun as u64)
 }
 
@@ -80,12 +83,12 @@ pub(crate) fn demands<'a>(
     out: &mut [u64],
 )
     requires { ⌜ FlowsInRange (now periods) (now counts) (now lengths) (now jitters) (now hops) (now routes) × ExtrasInRange (now extras) ⌝ }
-    requires { ⌜ (stretchBy (clockOf clock) duration ≤ mostStretch) × (length (now out) ≡ portSlots) ⌝ }
+    requires { ⌜ (widenedBy (clockOf clock) duration ≤ mostWidened) × (length (now out) ≡ portSlots) ⌝ }
     ensures { λ r. ⌜ now (out .exit) ≡ tabulate portSlots (λ q. demand (columns (clockOf clock) [] [] (now (extras .entry)) (now (periods .entry)) (now (counts .entry)) (now (lengths .entry)) (now (jitters .entry)) (now (hops .entry)) (now (routes .entry))) q duration) ⌝ }
 {
     clear(out);
     let at = duration as u32;
-    let over = stretch(clock, at) as u32;
+    let over = widened(clock, at) as u32;
     let mut f: usize = 0;
     while f < FLOWS {
         let period = periods[f];

@@ -1,5 +1,6 @@
 // The questions, over the tables lent column by column.
 mod ascend;
+mod check;
 mod demand;
 mod descend;
 mod failing;
@@ -8,13 +9,12 @@ mod iteration;
 mod need;
 mod port_demand;
 mod port_slack;
-mod question;
 mod search;
 mod seek;
 
+pub use check::check_tables;
 pub use iteration::fixed_point_tables;
 pub use port_slack::slack_tables;
-pub use question::check_tables;
 pub use search::search_tables;
 pub use seek::Goal;
 

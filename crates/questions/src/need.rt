@@ -6,7 +6,8 @@ ghost use Prim.Native.Nat.{ℕ, max, _≤_, _<_};
 ghost use lib.ListN.{length, getD};
 ghost use Rattle.cqf.specs.Bounded.{maxTo};
 ghost use Rattle.cqf.specs.Limits.{portSlots};
-ghost use Rattle.cqf.specs.Condition.{needBy, mostDemand};
+ghost use Rattle.cqf.specs.Need.{needBy};
+ghost use Rattle.cqf.specs.Overflow.{mostDemand};
 
 // The least duration in which a port can send these bits outside the guard bands; 0 where there are none. A port with a demand
 // has a rate.

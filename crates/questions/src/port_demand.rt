@@ -1,7 +1,7 @@
 // The demand of one port at a duration, in bits.
 use super::demand::flow_frames;
 use numbers::clock::Clock;
-use numbers::clock::stretch;
+use numbers::clock::widened;
 use numbers::frame::wire_bits;
 use tables::FLOWS;
 use tables::STRIDE;
@@ -9,17 +9,20 @@ ghost use mathlib.Core.Path.{_≡_};
 ghost use mathlib.Core.List.{[]};
 ghost use Prim.Native.Nat.{suc, _+_, _*_, _≤_, _<_};
 ghost use Rattle.cqf.specs.Bounded.{elem, sublist};
-ghost use Rattle.cqf.specs.Limits.{portSlots, flowSlots, routeStride, minPeriod, maxPeriod, maxCount, maxLength, maxJitter, maxExtra, mostStretch};
-ghost use Rattle.cqf.specs.Condition.{bitsOf, framesBy, stretchBy, demand};
+ghost use Rattle.cqf.specs.Limits.{portSlots, flowSlots, routeStride, minPeriod, maxPeriod, maxCount, maxLength, maxJitter, maxExtra};
+ghost use Rattle.cqf.specs.Overflow.{mostWidened};
+ghost use Rattle.cqf.specs.Port.{bitsOf};
+ghost use Rattle.cqf.specs.Widened.{widenedBy};
+ghost use Rattle.cqf.specs.Condition.{framesBy, demand};
 ghost use Rattle.numbers.specs.Clock.{clockOf};
 ghost use Rattle.tables.specs.Columns.{columns, FlowsInRange, ExtrasInRange};
 
 // The wire bits of the frames that a flow brings to a port.
-fn flow_bits(period: u32, count: u16, bytes: u16, jitter: u32, extra: u8, stretch: u32) -> u64
-    requires { ⌜ (minPeriod ≤ period) × (period ≤ maxPeriod) × (count ≤ maxCount) × (bytes ≤ maxLength) × (jitter ≤ maxJitter) × (extra ≤ maxExtra) × (stretch ≤ mostStretch) ⌝ }
-    ensures { λ r. ⌜ r ≡ framesBy count stretch jitter period * bitsOf bytes extra ⌝ }
+fn flow_bits(period: u32, count: u16, bytes: u16, jitter: u32, extra: u8, widened: u32) -> u64
+    requires { ⌜ (minPeriod ≤ period) × (period ≤ maxPeriod) × (count ≤ maxCount) × (bytes ≤ maxLength) × (jitter ≤ maxJitter) × (extra ≤ maxExtra) × (widened ≤ mostWidened) ⌝ }
+    ensures { λ r. ⌜ r ≡ framesBy count widened jitter period * bitsOf bytes extra ⌝ }
 {
-    flow_frames(period, count, jitter, stretch) * wire_bits(bytes, extra)
+    flow_frames(period, count, jitter, widened) * wire_bits(bytes, extra)
 }
 
 // Whether a route holds the port in slot q.
@@ -52,11 +55,11 @@ pub(crate) fn port_demand<'a>(
     q: usize,
 ) -> u64
     requires { ⌜ FlowsInRange (now periods) (now counts) (now lengths) (now jitters) (now hops) (now routes) × ExtrasInRange (now extras) ⌝ }
-    requires { ⌜ (stretchBy (clockOf clock) duration ≤ mostStretch) × (q < portSlots) ⌝ }
+    requires { ⌜ (widenedBy (clockOf clock) duration ≤ mostWidened) × (q < portSlots) ⌝ }
     ensures { λ r. ⌜ r ≡ demand (columns (clockOf clock) [] [] (now (extras .entry)) (now (periods .entry)) (now (counts .entry)) (now (lengths .entry)) (now (jitters .entry)) (now (hops .entry)) (now (routes .entry))) q duration ⌝ }
 {
     let at = duration as u32;
-    let over = stretch(clock, at) as u32;
+    let over = widened(clock, at) as u32;
     let mut bits: u64 = 0;
     let mut f: usize = 0;
     while f < FLOWS {

@@ -14,7 +14,7 @@ ghost use Rattle.cqf.specs.Plan.{validPlan};
 ghost use Rattle.numbers.specs.Clock.{clockOf};
 ghost use Rattle.tables.specs.Columns.{planBy};
 ghost use Rattle.questions.specs.Answer.{searchOf};
-ghost use Rattle.questions.specs.Search.{Answers, Ends, wanted, noneNumber};
+ghost use Rattle.questions.specs.Search.{Answers, SearchEnds, wanted, noneNumber};
 
 // The answer over 64 numbers, which are left with the demands at the duration found, or at top where there is none.
 fn answer<'a>(
@@ -94,7 +94,7 @@ pub fn search_tables<'a>(
     routes: &'a [u8; 4096],
     scratch: &mut [u64],
 ) -> SearchAnswer
-    ensures { λ r. ⌜ Ends (noneNumber goal) (wanted goal) (planBy guard top (clockOf clock) (now (rates .entry)) (now (blockings .entry)) (now (extras .entry)) (now (periods .entry)) (now (counts .entry)) (now (lengths .entry)) (now (jitters .entry)) (now (hops .entry)) (now (routes .entry))) (now (scratch .entry)) (searchOf (noneNumber goal) r) (now (scratch .exit)) ⌝ }
+    ensures { λ r. ⌜ SearchEnds (noneNumber goal) (wanted goal) (planBy guard top (clockOf clock) (now (rates .entry)) (now (blockings .entry)) (now (extras .entry)) (now (periods .entry)) (now (counts .entry)) (now (lengths .entry)) (now (jitters .entry)) (now (hops .entry)) (now (routes .entry))) (now (scratch .entry)) (searchOf (noneNumber goal) r) (now (scratch .exit)) ⌝ }
 {
     if !valid_tables(
         guard,

@@ -6,7 +6,7 @@ use lib.Dec.{ltb}
 use lib.ListN.{getD}
 use Rattle.cqf.specs.Bounded.{sumTo}
 use Rattle.cqf.specs.Limits.{portSlots, flowSlots, maxExtra, maxHops}
-use Rattle.cqf.specs.Plan.{Plan, synchronized, rateOf, extraOf, periodOf, jitterOf, hopsOf}
+use Rattle.cqf.specs.Plan.{Plan, clocksEqual, rateOf, extraOf, periodOf, jitterOf, hopsOf}
 use Rattle.plan.specs.Bytes.{headSize}
 use Rattle.plan.specs.Field.{headerSize, portSize, flowSize, extraSize, jitterSize, clockSize}
 use Rattle.plan_reading.specs.Strict.{Entry}
@@ -61,7 +61,7 @@ kindsBytes (suc k) p = kindsBytes k p ++ kindBytes (kindAt k) p
 
 -- how many bytes the clocks' field is, which is left out where the clocks are equal, and all fields of a plan
 abbrev pub clocksSize : Plan → ℕ
-clocksSize p = cond (not (synchronized p)) (headSize + clockSize) 0
+clocksSize p = cond (not (clocksEqual p)) (headSize + clockSize) 0
 
 abbrev pub savedSize : Plan → ℕ
 savedSize p = headSize + headerSize + sumTo kinds (λ k. kindSize (kindAt k) p) + clocksSize p

@@ -5,7 +5,7 @@ use plan::split::HEAD_SIZE;
 use writing::field::put_clock;
 ghost use mathlib.Core.Path.{_≡_};
 ghost use mathlib.Core.List.{[]};
-ghost use Rattle.cqf.specs.Plan.{synchronized};
+ghost use Rattle.cqf.specs.Plan.{clocksEqual};
 ghost use Rattle.numbers.specs.Clock.{clockOf};
 ghost use Rattle.plan_reading.specs.FieldBytes.{rowBytes};
 ghost use Rattle.plan_reading.specs.Saved.{clockFields};
@@ -15,7 +15,7 @@ ghost use Rattle.saving.specs.Slots.{clocksSize};
 
 // Whether all three numbers are 0.
 fn clocks_equal(clock: Clock) -> bool
-    ensures { λ r. ⌜ r ≡ synchronized (columns (clockOf clock) [] [] [] [] [] [] [] [] []) ⌝ }
+    ensures { λ r. ⌜ r ≡ clocksEqual (columns (clockOf clock) [] [] [] [] [] [] [] [] []) ⌝ }
 {
     if clock.drift != 0 {
         return false;

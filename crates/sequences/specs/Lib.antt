@@ -7,9 +7,4 @@ pub mod Scheduled
 pub mod NoWorse
 pub mod Iterations
 pub mod laws
-pub mod NoPlan
-pub mod Theorem
-pub mod LighterTheorem
-pub mod IterationsTheorem
-pub mod SaveTheorem
-pub mod GatesTheorem
+pub mod results

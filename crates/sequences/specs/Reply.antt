@@ -9,7 +9,7 @@ use Rattle.answers.specs.Refusals.{noPlanHeld}
 use Rattle.questions.specs.Outcome.{checkAnswer, slackAnswer, leastAnswer, leastLeaves, marginSafeAnswer, marginSafeLeaves}
 use Rattle.questions.specs.FixedPoint.{FixedPoint, fixedPointAnswer}
 use Rattle.saving.specs.Save.{saveAnswer, saveLeaves}
-use Rattle.gating.specs.Gates.{gatesAnswer, gatesLeaves}
+use Rattle.gate_writing.specs.Gates.{gatesAnswer, gatesLeaves}
 use Rattle.sequences.specs.Calls.{Question, check, slack, least, marginSafe, fixedPoint, save, gates}
 
 pub data Reply : Type 0 where

@@ -9,7 +9,7 @@ use Rattle.cqf.specs.Plan.{Plan}
 use Rattle.gate_lists.specs.Playing.{PlaysTwoCycles}
 use Rattle.answers.specs.Answer.{result}
 use Rattle.questions.specs.Outcome.{checkAnswer}
-use Rattle.gating.specs.Gates.{queuesOk}
+use Rattle.gate_writing.specs.Gates.{queuesOk}
 
 -- how many bytes a list has: six fields of 8 where there is a guard band, two where there is none
 abbrev pub listSize : Plan → ℕ

@@ -8,14 +8,14 @@ use Rattle.capi.proofs.cp_gates.Tie as tie
 gates-requires : tie.Need-gates-requires
 gates-requires c κs = search needs
 
-gates-numbers-requires : tie.Need-gates-numbers-requires
-gates-numbers-requires c κs = search needs
+gates-in-c-requires : tie.Need-gates-in-c-requires
+gates-in-c-requires c κs = search needs
 
 same-length : tie.Need-same-length
 same-length c = search needs
 
 returns : tie.Need-returns
-returns c = (c .gates-numbers .ensures ∙ ap writtenNumbers (c .before .before .before .gates .ensures .0), c .before .before .before .gates .ensures .1)
+returns c = (c .gates-in-c .ensures ∙ ap writtenNumbers (c .before .before .before .gates .ensures .0), c .before .before .before .gates .ensures .1)
 
 pub cp-gates-spec : {M : Type 1} → statement M
-cp-gates-spec = tie.close (tie.spec gates-requires gates-numbers-requires same-length returns)
+cp-gates-spec = tie.close (tie.spec gates-requires gates-in-c-requires same-length returns)

@@ -5,7 +5,7 @@ use mathlib.Core.List.{List, [], _∷_}
 use Prim.Native.Nat.{ℕ}
 use native.Mathlib.Omega.{arith}
 use Rattle.cqf.specs.Plan.{Plan}
-use Rattle.answers.specs.Answer.{Answer, result, refusal, numberOf}
+use Rattle.answers.specs.Answer.{Answer, result, refusal, refusalNumber}
 use Rattle.answers.specs.Refusals.{notAdmissible}
 use Rattle.questions.specs.Answer.{checkOf}
 use Rattle.sequences.specs.Meaning.{Refuses, Means, CheckMeans}
@@ -20,18 +20,18 @@ refused-number number [] = refl
 refused-number number (a ∷ []) = refl
 refused-number number (a ∷ b ∷ rest) = refl
 
-check-number : (answer : Answer (Unit {0})) → checkNumbers answer .refusal ≡ numberOf answer
+check-number : (answer : Answer (Unit {0})) → checkNumbers answer .refusal ≡ refusalNumber answer
 check-number (result tt) = refl
 check-number (refusal number values) = refused-number number values
 
 -- of what the plain question answers, 21 is the refusal with the lowest failing port and their count, and 0 the result
-refuses : (answer : CheckAnswer) → numberOf (checkOf answer) ≡ notAdmissible → Refuses (checkOf answer)
+refuses : (answer : CheckAnswer) → refusalNumber (checkOf answer) ≡ notAdmissible → Refuses (checkOf answer)
 refuses CheckAnswer.Admissible e = absurd (omega arith)
 refuses CheckAnswer.NoPlan e = absurd (omega arith)
 refuses CheckAnswer.BadDuration e = absurd (omega arith)
 refuses (CheckAnswer.Failing port count) e = record { lowest = port; count = count; is = refl }
 
-accepts : (answer : CheckAnswer) → numberOf (checkOf answer) ≡ 0 → checkOf answer ≡ result tt
+accepts : (answer : CheckAnswer) → refusalNumber (checkOf answer) ≡ 0 → checkOf answer ≡ result tt
 accepts CheckAnswer.Admissible e = refl
 accepts CheckAnswer.NoPlan e = absurd (omega arith)
 accepts CheckAnswer.BadDuration e = absurd (omega arith)
@@ -52,14 +52,14 @@ means-iff refused accepted m =
     }
 
 module _ (answer : CheckAnswer) (numbers : AnswerNumbers) (is : numbers ≡ checkNumbers (checkOf answer)) where
-  number : numbers .refusal ≡ numberOf (checkOf answer)
+  number : numbers .refusal ≡ refusalNumber (checkOf answer)
   number = ap (λ (n : AnswerNumbers). n .refusal) is ∙ check-number (checkOf answer)
 
   refusing : Refuses (checkOf answer) ↔ (numbers .refusal ≡ notAdmissible)
-  refusing = (λ r. number ∙ ap numberOf (r .is), λ e. refuses answer (sym number ∙ e))
+  refusing = (λ r. number ∙ ap refusalNumber (r .is), λ e. refuses answer (sym number ∙ e))
 
   accepting : (checkOf answer ≡ result tt) ↔ (numbers .refusal ≡ 0)
-  accepting = (λ e. number ∙ ap numberOf e, λ e. accepts answer (sym number ∙ e))
+  accepting = (λ e. number ∙ ap refusalNumber e, λ e. accepts answer (sym number ∙ e))
 
   pub check-numbers-mean : (p : Plan) (T : ℕ) → CheckMeans p T (checkOf answer) → CheckNumbersMean p T numbers
   check-numbers-mean p T means calls mode bytes q ports flows left held read low high =

@@ -5,7 +5,7 @@ use Prim.Native.Nat.{ℕ}
 use native.Mathlib.Omega.{arith}
 use Rattle.cqf.specs.Plan.{noPlan, validPlan}
 use Rattle.plan_reading.specs.Reading.{PlanRead, accepted, rejected, loose, readAs}
-use Rattle.plan_reading.specs.StrictTheorem.{read-loosely}
+use Rattle.plan_reading.specs.results.StrictTheorem.{read-loosely}
 use Rattle.plan_reading.specs.laws.validity.Valid.{accepted-valid}
 use Rattle.tables.specs.Tables.{planOf}
 use Rattle.answers.specs.Answer.{result}
@@ -13,9 +13,9 @@ use Rattle.loading.specs.Outcome.{Fields}
 use Rattle.loading.specs.Answer.{loadOf}
 use Rattle.loading.specs.declared.LoadOutcome.{LoadOutcome}
 use Rattle.loading.specs.laws.Load.{accepted-leaves, refused-answer}
-use Rattle.console.specs.{Loaded}
+use Rattle.console.specs.{LoadedInput}
 
-pub held-valid : (outcome : LoadOutcome) {fields : Fields} → Loaded outcome → loadOf (outcome .answer) ≡ result fields → validPlan (planOf (outcome .planner)) ≡ true
+pub held-valid : (outcome : LoadOutcome) {fields : Fields} → LoadedInput outcome → loadOf (outcome .answer) ≡ result fields → validPlan (planOf (outcome .planner)) ≡ true
 held-valid outcome l held = go (readAs loose (l .bytes)) refl
   where
     go : (r : PlanRead) → readAs loose (l .bytes) ≡ r → validPlan (planOf (outcome .planner)) ≡ true

@@ -7,7 +7,7 @@ use native.Mathlib.Nat.{div-add-mod', mod-lt, add-mul, suc-mul}
 use native.Mathlib.Omega.{arith}
 use lib.ListN.{length, getD}
 use Rattle.cqf.specs.Limits.{portSlots}
-use Rattle.cqf.specs.Plan.{Plan, routeOf, synchronized, validPlan}
+use Rattle.cqf.specs.Plan.{Plan, routeOf, clocksEqual, validPlan}
 use Rattle.cqf.specs.Condition.{frames, admissible}
 use Rattle.cqf.specs.Emission.{Emission, Keeps}
 use Rattle.cqf.specs.Cycles.{Cycles, Permitted, aligned, parted}
@@ -99,7 +99,7 @@ module _ (p : Plan) (valid : validPlan p ≡ true) (T : ℕ) (long : 0 < T) (goo
             (sym (l .left) ∙ ap isGone (place (suc c) (l .after) (l .ends)) ∙ track-there own (routeOf p f) (suc c) h)
 
     -- where clocks are taken as equal its cycle is the aligned one
-    own-aligned : synchronized p ≡ true → own ≡ getD (e f) k 0 / T
+    own-aligned : clocksEqual p ≡ true → own ≡ getD (e f) k 0 / T
     own-aligned same = go permitted
       where
         go : Permitted p T e cycles → own ≡ getD (e f) k 0 / T
@@ -108,7 +108,7 @@ module _ (p : Plan) (valid : validPlan p ≡ true) (T : ℕ) (long : 0 < T) (goo
 
     -- whichever cycle that is, and wherever in it its sending ends
     delay
-        : synchronized p ≡ true
+        : clocksEqual p ≡ true
         → (c end : ℕ)
         → Leaves p T cycles f k c
         → MayEnd p T c end

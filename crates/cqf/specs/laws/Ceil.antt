@@ -2,7 +2,7 @@
 use Prim.Native.Nat.{ℕ, zero, suc, pred, _+_, _*_, _≤_, _<_}
 use native.Mathlib.Nat.{suc-mul, div-zero, lt-div-mul-add, le-div-iff-mul-le, div-lt-iff-lt-mul, mul-le-mul-left, le-trans, le-of-suc-le-suc}
 use native.Mathlib.Omega.{arith}
-use Rattle.cqf.specs.Condition.{ceilDiv}
+use Rattle.cqf.specs.Ceil.{ceilDiv}
 
 -- so many periods last at least T
 pub ceil-covers : (T : ℕ) {P : ℕ} → 0 < P → T ≤ ceilDiv T P * P

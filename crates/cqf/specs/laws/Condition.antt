@@ -9,7 +9,8 @@ use borrow.Author.Tests.{eqb-true, eqb-false, ne-eqb, ltb-true, ltb-false, lt-lt
 use Rattle.cqf.specs.Bounded.{countTo}
 use Rattle.cqf.specs.Limits.{portSlots, flowSlots}
 use Rattle.cqf.specs.Plan.{Plan, crosses, validPlan}
-use Rattle.cqf.specs.Condition.{bitsOf, blockingBitsOf, workloadOf, wireBits, frames, demand, capacity, workload, crossed, fails, failing, admissible}
+use Rattle.cqf.specs.Port.{bitsOf, blockingBitsOf, workloadOf, wireBits, capacity, workload}
+use Rattle.cqf.specs.Condition.{frames, demand, crossed, fails, failing, admissible}
 use Rattle.cqf.specs.Run.{overrunAt}
 use Rattle.cqf.specs.laws.Bounded.{cond-some, countTo-zero, countTo-pos, sumTo-term, sumTo-pos, anyTo-true, anyTo-some}
 use Rattle.cqf.specs.laws.Valid.{Held, held-period, crosses-held}

@@ -6,7 +6,8 @@ use Prim.Native.Nat.{ℕ, _≤_}
 use native.Mathlib.Nat.{le-refl}
 use native.Mathlib.Omega.{arith}
 use Rattle.cqf.specs.Plan.{Plan, validPlan}
-use Rattle.cqf.specs.Condition.{admissible, least, leastFrom}
+use Rattle.cqf.specs.Condition.{admissible, least}
+use Rattle.cqf.specs.Need.{leastFrom}
 use Rattle.cqf.specs.FixedPoint.{visited, stepsFrom, found, none, iterate, ended, LeastAdmissible, Converges}
 use Rattle.cqf.specs.laws.LeastFrom.{least-from-none, least-from-above, least-from-admissible, least-from-only, least-from-first}
 use Rattle.cqf.specs.laws.Ranges.{top-positive}

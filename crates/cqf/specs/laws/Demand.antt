@@ -6,13 +6,16 @@ use native.Mathlib.Nat.{mul-le-mul}
 use native.Mathlib.Numerals.{add-one}
 use native.Mathlib.Omega.{arith}
 use Rattle.cqf.specs.Bounded.{sumTo, elem, sublist}
-use Rattle.cqf.specs.Limits.{flowSlots, minPeriod, maxCount, maxLength, maxExtra, maxJitter, mostStretch, mostBegun}
+use Rattle.cqf.specs.Limits.{flowSlots, minPeriod, maxCount, maxLength, maxExtra, maxJitter}
+use Rattle.cqf.specs.Overflow.{mostWidened, mostBegun, mostBits}
 use Rattle.cqf.specs.Plan.{Plan, periodOf, countOf, jitterOf, hopsOf, crosses}
-use Rattle.cqf.specs.Condition.{bitsOf, framesBy, wireBits, stretch, begun, frames, demand, mostBits}
+use Rattle.cqf.specs.Port.{bitsOf, wireBits}
+use Rattle.cqf.specs.Widened.{widened}
+use Rattle.cqf.specs.Condition.{framesBy, begun, frames, demand}
 use Rattle.cqf.specs.laws.Begun.{begun-most}
 
 -- the frames of flow f, from its numbers
-pub frames-by : (p : Plan) (f T : ℕ) → frames p f T ≡ framesBy (countOf p f) (stretch p T) (jitterOf p f) (periodOf p f)
+pub frames-by : (p : Plan) (f T : ℕ) → frames p f T ≡ framesBy (countOf p f) (widened p T) (jitterOf p f) (periodOf p f)
 unfolding frames begun
 frames-by p f T = refl
 
@@ -27,7 +30,7 @@ demand-sum p q T = refl
 -- one flow brings at most its most bits
 pub flow-bits-most
     : (L : ℕ) {period count bytes jitter extra : ℕ}
-    → L ≤ mostStretch
+    → L ≤ mostWidened
     → minPeriod ≤ period
     → count ≤ maxCount
     → bytes ≤ maxLength
@@ -45,6 +48,6 @@ unfolding elem sublist
 share-none p q T f e = rw e
 
 -- the sum with one flow more
-pub sum-next : (p : Plan) (q T f : ℕ) → sumTo (f + 1) (share p q T) ≡ sumTo f (share p q T) + share p q T f
+pub demand-next : (p : Plan) (q T f : ℕ) → sumTo (f + 1) (share p q T) ≡ sumTo f (share p q T) + share p q T f
 unfolding sumTo
-sum-next p q T f = ap (λ (n : ℕ). sumTo n (share p q T)) (add-one f)
+demand-next p q T f = ap (λ (n : ℕ). sumTo n (share p q T)) (add-one f)

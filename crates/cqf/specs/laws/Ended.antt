@@ -8,7 +8,7 @@ use native.Mathlib.Omega.{arith}
 use lib.Dec.{leb}
 use borrow.Author.Tests.{le-leb, lt-leb}
 use Rattle.cqf.specs.Plan.{Plan}
-use Rattle.cqf.specs.FixedPoint.{found, none, unfinished, after, ended}
+use Rattle.cqf.specs.FixedPoint.{found, none, unfinished, afterSteps, ended}
 
 module _ (p : Plan) where
   pub ended-within : {best t : ℕ} (n : ℕ) → best ≡ t → t ≤ p .top → ended p best n ≡ found t n
@@ -17,10 +17,10 @@ module _ (p : Plan) where
   pub ended-above : {best : ℕ} (n : ℕ) → best ≡ suc (p .top) → ended p best n ≡ none n
   ended-above n e = rw (e, lt-leb (suc (p .top)) (p .top) (le-refl _))
 
-  pub after-ended : (t n : ℕ) → after 1 (ended p t n) ≡ ended p t (suc n)
+  pub after-ended : (t n : ℕ) → afterSteps 1 (ended p t n) ≡ ended p t (suc n)
   after-ended t n = go (leb t (p .top))
     where
-      go : (x : Bool) → after 1 (cond x (found t n) (none n)) ≡ cond x (found t (suc n)) (none (suc n))
+      go : (x : Bool) → afterSteps 1 (cond x (found t n) (none n)) ≡ cond x (found t (suc n)) (none (suc n))
       go true = ap (found t) (omega arith)
       go false = ap none (omega arith)
 

@@ -9,7 +9,8 @@ use native.Mathlib.Omega.{arith}
 use lib.Dec.{leb}
 use borrow.Author.Tests.{le-leb, leb-true}
 use Rattle.cqf.specs.Plan.{Plan}
-use Rattle.cqf.specs.Condition.{admissible, smallest, least, leastFrom}
+use Rattle.cqf.specs.Condition.{admissible, smallest, least}
+use Rattle.cqf.specs.Need.{leastFrom}
 use Rattle.cqf.specs.FixedPoint.{LeastAdmissible}
 use Rattle.cqf.specs.laws.Smallest.{smallest-positive, smallest-le, smallest-passes, smallest-below, smallest-is, smallest-none, least-of}
 

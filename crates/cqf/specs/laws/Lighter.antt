@@ -7,11 +7,13 @@ use native.Mathlib.Nat.{mul-le-mul, le-refl, le-trans}
 use native.Mathlib.Omega.{arith}
 use Rattle.cqf.specs.Limits.{portSlots, flowSlots}
 use Rattle.cqf.specs.Plan.{Plan, blockingOf, extraOf, periodOf, countOf, jitterOf, crosses, validPlan}
-use Rattle.cqf.specs.Condition.{wireBits, stretch, begun, frames, demand, window, capacity, workload, crossed, admissible}
+use Rattle.cqf.specs.Port.{wireBits, window, capacity, workload}
+use Rattle.cqf.specs.Widened.{widened}
+use Rattle.cqf.specs.Condition.{begun, frames, demand, crossed, admissible}
 use Rattle.cqf.specs.Lighter.{LighterPort, LighterFlow, Lighter}
 use Rattle.cqf.specs.laws.Bounded.{sumTo-le, anyTo-true, anyTo-some}
 use Rattle.cqf.specs.laws.Valid.{present-period, crosses-held, held-present}
-use Rattle.cqf.specs.laws.Begun.{stretch-clocks, begun-easier}
+use Rattle.cqf.specs.laws.Begun.{widened-clocks, begun-easier}
 use Rattle.cqf.specs.laws.Condition.{none-fails, workload-easier}
 use Rattle.cqf.specs.laws.Demand.{share, demand-sum}
 use Rattle.cqf.specs.laws.Need.{fails-not, fits, admissible-none}
@@ -38,9 +40,9 @@ lighter-self p =
 
 module _ (second first : Plan) (lighter : Lighter second first) where
   -- frames are counted over a length that is no longer
-  stretch-lighter : (T : ℕ) → stretch second T ≤ stretch first T
-  unfolding stretch
-  stretch-lighter T = stretch-clocks T (omega arith) (omega arith) (omega arith)
+  widened-lighter : (T : ℕ) → widened second T ≤ widened first T
+  unfolding widened
+  widened-lighter T = widened-clocks T (omega arith) (omega arith) (omega arith)
 
   -- a flow brings no more frames, since its period is above 0 in the first plan too
   frames-lighter : (f T : ℕ) → LighterFlow second first f → frames second f T ≤ frames first f T
@@ -50,7 +52,7 @@ module _ (second first : Plan) (lighter : Lighter second first) where
       let fewer : countOf second f ≤ countOf first f = omega arith in
       let less : jitterOf second f ≤ jitterOf first f = omega arith in
       let longer : periodOf first f ≤ periodOf second f = omega arith in
-      mul-le-mul fewer (begun-easier (stretch-lighter T) less some longer)
+      mul-le-mul fewer (begun-easier (widened-lighter T) less some longer)
 
 -- nor are they larger on the wire
 bits-lighter : (second first : Plan) (f q : ℕ) → LighterFlow second first f → LighterPort second first q → wireBits second f q ≤ wireBits first f q

@@ -12,7 +12,8 @@ use borrow.Author.Tests.{leb-true, lt-ltb}
 use Rattle.cqf.specs.Bounded.{elem}
 use Rattle.cqf.specs.Limits.{portSlots, flowSlots, portOk, maxHops}
 use Rattle.cqf.specs.Plan.{Plan, hopsOf, routeOf, present, crosses, portIn, validPlan}
-use Rattle.cqf.specs.Condition.{window, capacity, workload, demand, crossed, fails, admissible}
+use Rattle.cqf.specs.Port.{window, capacity, workload}
+use Rattle.cqf.specs.Condition.{demand, crossed, fails, admissible}
 use Rattle.cqf.specs.Run.{MayEnd}
 use Rattle.cqf.specs.laws.Bounded.{anyTo-true, anyTo-some}
 use Rattle.cqf.specs.laws.Lists.{elem-at, every-at, sublist-length}

@@ -5,7 +5,8 @@ use Prim.Native.Nat.{ℕ, _*_, _≤_, _<_, zero-le}
 use native.Mathlib.Nat.{mul-le-mul-left, mul-le-mul-right}
 use Rattle.cqf.specs.Limits.{flowSlots}
 use Rattle.cqf.specs.Plan.{Plan, countOf, crosses}
-use Rattle.cqf.specs.Condition.{wireBits, begun, frames, demand}
+use Rattle.cqf.specs.Port.{wireBits}
+use Rattle.cqf.specs.Condition.{begun, frames, demand}
 use Rattle.cqf.specs.laws.Bounded.{sumTo-le}
 use Rattle.cqf.specs.laws.Begun.{begun-mono}
 

@@ -10,14 +10,15 @@ use lib.ListN.{length}
 use Rattle.cqf.specs.Bounded.{sumTo}
 use Rattle.cqf.specs.Limits.{portSlots, flowSlots}
 use Rattle.cqf.specs.Plan.{Plan, rateOf, blockingOf, extraOf, present, crosses, validPlan}
-use Rattle.cqf.specs.Condition.{needBy, begun, demand, need, largestNeed}
+use Rattle.cqf.specs.Condition.{begun, demand}
+use Rattle.cqf.specs.Need.{needBy, need, largestNeed}
 use Rattle.cqf.specs.FixedPoint.{visitedIn, visited, stepsFrom, later, mostSteps}
 use Rattle.cqf.specs.laws.Bounded.{sumTo-le, sumTo-equal}
 use Rattle.cqf.specs.laws.Bounds.{maxTo-same}
 use Rattle.cqf.specs.laws.Valid.{held-period, held-present, crosses-held}
 use Rattle.cqf.specs.laws.Begun.{begun-positive, begun-mono}
 use Rattle.cqf.specs.laws.Monotone.{demand-le, demand-mono}
-use Rattle.cqf.specs.laws.FixedPoint.{Step, settled, over, rises, step-at, visited-settled, visited-over, visited-rises}
+use Rattle.cqf.specs.laws.FixedPoint.{StepCase, settled, over, rises, step-at, visited-settled, visited-over, visited-rises}
 
 -- the periods after the first, of all flows
 abbrev laters : Plan → ℕ → ℕ
@@ -86,7 +87,7 @@ module _ (p : Plan) where
             → largestNeed p u ≡ largestNeed p u
             → largestNeed p u ≤ p .top
             → length (visitedIn p m (largestNeed p u)) + laters p u ≤ suc (laters p (p .top)))
-            → Step p u
+            → StepCase p u
             → length (visitedIn p (suc m) u) + laters p t ≤ suc (laters p (p .top))
         go more (settled d _) = last (visited-settled p m u d)
         go more (over d h _ _) = last (visited-over p m u d h)
@@ -99,7 +100,7 @@ module _ (p : Plan) where
     steps-in zero t long = omega arith
     steps-in (suc m) t long = go (step-at p t)
       where
-        go : Step p t → length (visitedIn p (suc m) t) ≤ 2 + laters p (p .top)
+        go : StepCase p t → length (visitedIn p (suc m) t) ≤ 2 + laters p (p .top)
         go (settled d _) = omega (arith, ap length (visited-settled p m t d))
         go (over d h _ _) = omega (arith, ap length (visited-over p m t d h))
         go (rises d h less upto) =

@@ -10,7 +10,10 @@ use lib.Dec.{ltb}
 use borrow.Author.Tests.{eq-eqb, ltb-true, lt-ltb}
 use Rattle.cqf.specs.Limits.{portSlots}
 use Rattle.cqf.specs.Plan.{Plan, rateOf}
-use Rattle.cqf.specs.Condition.{ceilDiv, demand, window, capacity, workload, need, crossed, fails, failing, admissible}
+use Rattle.cqf.specs.Ceil.{ceilDiv}
+use Rattle.cqf.specs.Port.{window, capacity, workload}
+use Rattle.cqf.specs.Condition.{demand, crossed, fails, failing, admissible}
+use Rattle.cqf.specs.Need.{need}
 use Rattle.cqf.specs.laws.Bounded.{cond-some, countTo-none}
 use Rattle.cqf.specs.laws.Ceil.{ceil-covers, ceil-least, ceil-positive}
 use Rattle.cqf.specs.laws.Condition.{workload-mono, none-fails}

@@ -6,11 +6,11 @@ use Prim.Native.Nat.{ℕ, suc, _+_, _*_, _/_, _≤_, _<_}
 use native.Mathlib.Nat.{div-mul-le-self, lt-div-mul-add, zero-div, le-div-iff-mul-le, le-trans}
 use native.Mathlib.Omega.{arith}
 use lib.ListN.{length, getD, length-map, List·getD-map}
-use Rattle.cqf.specs.Plan.{Plan, synchronized}
-use Rattle.cqf.specs.Condition.{stretch}
+use Rattle.cqf.specs.Plan.{Plan, clocksEqual}
+use Rattle.cqf.specs.Widened.{widened}
 use Rattle.cqf.specs.Emission.{Emission, Keeps}
 use Rattle.cqf.specs.Cycles.{Cycles, cyclesOf, Partition, Permitted, aligned, parted}
-use Rattle.cqf.specs.laws.Begun.{stretch-covers}
+use Rattle.cqf.specs.laws.Begun.{widened-covers}
 
 -- the aligned cycle of frame k is its instant divided by T
 pub cycle-of : (T : ℕ) (l : List ℕ) (k : ℕ) → getD (map (λ (t : ℕ). t / T) l) k 0 ≡ getD l k 0 / T
@@ -34,7 +34,7 @@ module _ (p : Plan) (T : ℕ) (long : 0 < T) (e : Emission) (keeps : Keeps p e) 
         rising = λ f k l. rw (cycle-of T (e f) k, cycle-of T (e f) (suc k)) (later-cycle (getD (e f) k 0) (getD (e f) (suc k) 0) long (keeps .rising f k l));
         near = λ f i j _ _ same.
             let close = same-cycle (getD (e f) i 0) (getD (e f) j 0) long (sym (cycle-of T (e f) i) ∙ same ∙ cycle-of T (e f) j) in
-            omega (arith, close, stretch-covers p T);
+            omega (arith, close, widened-covers p T);
       }
 
   -- what permitted cycles have in common
@@ -49,8 +49,8 @@ module _ (p : Plan) (T : ℕ) (long : 0 < T) (e : Emission) (keeps : Keeps p e) 
 
   -- aligned cycles are permitted, whatever the clocks
   pub aligned-permitted : Permitted p T e (cyclesOf T e)
-  aligned-permitted = go (synchronized p) refl
+  aligned-permitted = go (clocksEqual p) refl
     where
-      go : (x : Bool) → synchronized p ≡ x → Permitted p T e (cyclesOf T e)
+      go : (x : Bool) → clocksEqual p ≡ x → Permitted p T e (cyclesOf T e)
       go true h = aligned h (λ f. refl)
       go false h = parted h aligned-partition

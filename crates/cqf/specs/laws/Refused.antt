@@ -7,7 +7,7 @@ use native.Mathlib.Omega.{arith}
 use Rattle.cqf.specs.Limits.{portSlots, flowSlots, maxHops, routeStride}
 use Rattle.cqf.specs.Plan.{Plan, hopsOf, crosses, validPlan}
 use Rattle.cqf.specs.Condition.{frames, fails, admissible}
-use Rattle.cqf.specs.Emission.{InOrder}
+use Rattle.cqf.specs.Emission.{NominalsInOrder}
 use Rattle.cqf.specs.Run.{Places, Network, running, stopped, run, overrun, overrunAt, queuedBits, Overruns}
 use Rattle.cqf.specs.LargeEnough.{Counterexample}
 use Rattle.cqf.specs.laws.Bounded.{anyTo-some}
@@ -88,6 +88,6 @@ module _ (p : Plan) (valid : validPlan p ≡ true) (T : ℕ) (long : 0 < T) (bad
         overruns = worst-overruns p valid T long (s .0) (s .1) (s .2);
       }
 
-  pub counterexample-ordered : InOrder (counterexample .keeps)
+  pub counterexample-ordered : NominalsInOrder (counterexample .keeps)
   unfolding counterexample
   counterexample-ordered = worst-ordered p valid T long (some-fails p T bad .0)

@@ -9,7 +9,9 @@ use native.Mathlib.Omega.{arith}
 use Rattle.cqf.specs.Bounded.{maxTo}
 use Rattle.cqf.specs.Limits.{portSlots}
 use Rattle.cqf.specs.Plan.{Plan, rateOf, validPlan}
-use Rattle.cqf.specs.Condition.{demand, capacity, workload, need, largestNeed, fails, admissible, least, leastFrom, marginSafe}
+use Rattle.cqf.specs.Port.{capacity, workload}
+use Rattle.cqf.specs.Condition.{demand, fails, admissible, least, marginSafe}
+use Rattle.cqf.specs.Need.{need, largestNeed, leastFrom}
 use Rattle.cqf.specs.laws.Bounds.{maxTo-most, maxTo-at}
 use Rattle.cqf.specs.laws.Condition.{demand-pos, demand-crossed}
 use Rattle.cqf.specs.laws.Need.{needFor, need-some, need-busy, workload-positive, enough, needed, fails-crossed, fails-over, over-of-fails, admissible-none, not-admissible, jump-up, jump-down}

@@ -12,7 +12,8 @@ use borrow.Author.Tests.{eq-eqb, eqb-true}
 use Rattle.cqf.specs.Bounded.{countTo, distinct}
 use Rattle.cqf.specs.Limits.{flowSlots}
 use Rattle.cqf.specs.Plan.{Plan, routeOf, crosses, validPlan}
-use Rattle.cqf.specs.Condition.{wireBits, frames, demand}
+use Rattle.cqf.specs.Port.{wireBits}
+use Rattle.cqf.specs.Condition.{frames, demand}
 use Rattle.cqf.specs.Cycles.{Cycles}
 use Rattle.cqf.specs.Run.{Places, isQueuedAt, running, run, queuedBits}
 use Rattle.cqf.specs.laws.Bounded.{sumTo-le, countTo-le, countTo-none}

@@ -6,7 +6,8 @@ use lib.IntN.{subℕ}
 use lib.Signed.{nonNeg}
 use lib.Dec.{ltb}
 use Rattle.cqf.specs.Plan.{Plan}
-use Rattle.cqf.specs.Condition.{crossed, capacity, workload, demand, fails, slack}
+use Rattle.cqf.specs.Port.{capacity, workload}
+use Rattle.cqf.specs.Condition.{crossed, demand, fails, slack}
 
 sub-sign : (a b : ℕ) → nonNeg (subℕ a b) ≡ not (ltb a b)
 sub-sign a b = go (ltb a b) refl

@@ -12,14 +12,15 @@ use lib.Dec.{eqb}
 use borrow.Author.Tests.{eqb-true, eqb-false}
 use Rattle.cqf.specs.Bounded.{lowest}
 use Rattle.cqf.specs.Limits.{flowSlots, maxHops}
-use Rattle.cqf.specs.Plan.{Plan, periodOf, countOf, jitterOf, routeOf, present, crosses, synchronized, validPlan}
-use Rattle.cqf.specs.Condition.{stretch, begun, frames}
-use Rattle.cqf.specs.Emission.{Emission, Released, Keeps, InOrder}
+use Rattle.cqf.specs.Plan.{Plan, periodOf, countOf, jitterOf, routeOf, present, crosses, clocksEqual, validPlan}
+use Rattle.cqf.specs.Widened.{widened}
+use Rattle.cqf.specs.Condition.{begun, frames}
+use Rattle.cqf.specs.Emission.{Emission, Released, Keeps, NominalsInOrder}
 use Rattle.cqf.specs.Cycles.{Cycles, cyclesOf, Partition, Permitted, aligned, parted}
 use Rattle.cqf.specs.laws.Bounded.{lowest-passes, lowest-below}
 use Rattle.cqf.specs.laws.Lists.{elem-index}
 use Rattle.cqf.specs.laws.Valid.{Held, held-period, present-held, crosses-held, held-present}
-use Rattle.cqf.specs.laws.Begun.{stretch-covers, stretch-aligned, begun-before}
+use Rattle.cqf.specs.laws.Begun.{widened-covers, widened-aligned, begun-before}
 use Rattle.cqf.specs.laws.Burst.{burst, nominally, all-in, burst-from, burst-early, burst-rising, burst-released, burst-spaced, burst-ordered, burst-count, burst-aligned}
 use Rattle.cqf.specs.laws.Sending.{emittedIn}
 
@@ -66,8 +67,8 @@ chosen p T q f = map (λ (t : ℕ). maxHops - hop p q f) (worst p T q f)
 
 module _ (p : Plan) (valid : validPlan p ≡ true) (T : ℕ) (long : 0 < T) (q : ℕ) where
   -- its periods begin within the stretch and the jitter before it
-  in-stretch : (f : ℕ) → Held p f → (m : ℕ) → m < begun p f T → m * periodOf p f < stretch p T + jitterOf p f
-  in-stretch f flow m l = begun-before p f T m (held-period p f flow) l
+  in-widened : (f : ℕ) → Held p f → (m : ℕ) → m < begun p f T → m * periodOf p f < widened p T + jitterOf p f
+  in-widened f flow m l = begun-before p f T m (held-period p f flow) l
 
   -- what holds of no frames and of the burst of a flow holds of the emission
   worst-cases : (P : List ℕ → Type 0) (f : ℕ) → P [] → (Held p f → P (burstOf p T q f)) → P (worst p T q f)
@@ -124,7 +125,7 @@ module _ (p : Plan) (valid : validPlan p ≡ true) (T : ℕ) (long : 0 < T) (q :
       }
 
   -- and its nominal instants never fall
-  pub worst-ordered : InOrder worst-keeps
+  pub worst-ordered : NominalsInOrder worst-keeps
   unfolding worst-keeps hop
   worst-ordered f k =
       worst-frames (λ l. worst-nominal f k ≤ worst-nominal f (suc k)) f (suc k)
@@ -132,9 +133,9 @@ module _ (p : Plan) (valid : validPlan p ≡ true) (T : ℕ) (long : 0 < T) (q :
       burst-ordered (begins p T q f) (begun p f T) (countOf p f) (periodOf p f) (jitterOf p f) (flow .count-least) k)
 
   -- Each burst may have one cycle for its own. Its frames lie within the stretch from its beginning on.
-  worst-early : (f k : ℕ) → k < length (worst p T q f) → getD (worst p T q f) k 0 < begins p T q f + stretch p T
+  worst-early : (f k : ℕ) → k < length (worst p T q f) → getD (worst p T q f) k 0 < begins p T q f + widened p T
   worst-early f k =
-      worst-frames (λ l. getD l k 0 < begins p T q f + stretch p T) f k
+      worst-frames (λ l. getD l k 0 < begins p T q f + widened p T) f k
       (λ flow.
       burst-early
       (begins p T q f)
@@ -143,9 +144,9 @@ module _ (p : Plan) (valid : validPlan p ≡ true) (T : ℕ) (long : 0 < T) (q :
       (periodOf p f)
       (jitterOf p f)
       (flow .count-least)
-      (stretch p T)
-      (le-trans long (stretch-covers p T))
-      (in-stretch f flow)
+      (widened p T)
+      (le-trans long (widened-covers p T))
+      (in-widened f flow)
       k)
 
   worst-from : (f k : ℕ) → k < length (worst p T q f) → begins p T q f ≤ getD (worst p T q f) k 0
@@ -170,18 +171,18 @@ module _ (p : Plan) (valid : validPlan p ≡ true) (T : ℕ) (long : 0 < T) (q :
       }
 
   -- where clocks are taken as equal, that cycle is the aligned one
-  chosen-aligned : synchronized p ≡ true → (f : ℕ) → chosen p T q f ≡ cyclesOf T (worst p T q) f
+  chosen-aligned : clocksEqual p ≡ true → (f : ℕ) → chosen p T q f ≡ cyclesOf T (worst p T q) f
   unfolding chosen
   chosen-aligned same f =
       worst-cases (λ l. map (λ (t : ℕ). maxHops - hop p q f) l ≡ map (λ (t : ℕ). t / T) l) f refl
       (λ flow.
       burst-aligned T (maxHops - hop p q f) (begun p f T) (countOf p f) (periodOf p f) (jitterOf p f) (flow .count-least) long
-      (λ m l. rw (stretch-aligned p same T) at (in-stretch f flow m l)))
+      (λ m l. rw (widened-aligned p same T) at (in-widened f flow m l)))
 
   pub chosen-permitted : Permitted p T (worst p T q) (chosen p T q)
-  chosen-permitted = go (synchronized p) refl
+  chosen-permitted = go (clocksEqual p) refl
     where
-      go : (x : Bool) → synchronized p ≡ x → Permitted p T (worst p T q) (chosen p T q)
+      go : (x : Bool) → clocksEqual p ≡ x → Permitted p T (worst p T q) (chosen p T q)
       go true h = aligned h (chosen-aligned h)
       go false h = parted h chosen-partition
 

@@ -4,9 +4,9 @@ use Prim.Native.Nat.{_≤_}
 use native.Mathlib.Omega.{arith}
 use lib.Seq.{length-take-le}
 use borrow.Author.Needs.{needs}
-use Rattle.gating.specs.Answer.{gatesOf}
+use Rattle.gate_writing.specs.Answer.{gatesOf}
 use Rattle.tables.specs.Tables.{planOf}
-use Rattle.gating.specs.laws.Gates.{gates-fit}
+use Rattle.gate_writing.specs.laws.Gates.{gates-fit}
 use Rattle.gates.proofs.say_gates.Statement.{statement}
 use Rattle.gates.proofs.say_gates.Tie as tie
 

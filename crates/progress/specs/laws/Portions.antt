@@ -7,12 +7,12 @@ use native.Mathlib.Nat.{le-refl, le-trans}
 use native.Mathlib.Decide.{decLe}
 use native.Mathlib.Omega.{arith}
 use Rattle.cqf.specs.Plan.{Plan, validPlan}
-use Rattle.cqf.specs.Condition.{leastFrom}
+use Rattle.cqf.specs.Need.{leastFrom}
 use Rattle.cqf.specs.FixedPoint.{stepsFrom, Outcome, found, none, unfinished, iterate, Converges}
 use Rattle.cqf.specs.laws.Ranges.{top-positive}
 use Rattle.cqf.specs.laws.Ended.{ended-found, ended-none, ended-finished}
 use Rattle.cqf.specs.laws.Converges.{converges, steps-top}
-use Rattle.answers.specs.Answer.{Answer, result, refusal, numberOf}
+use Rattle.answers.specs.Answer.{Answer, result, refusal, refusalNumber}
 use Rattle.answers.specs.Refusals.{badDuration, noPlanHeld, noLeast, notFinished}
 use Rattle.questions.specs.FixedPoint.{FixedPoint, outcomeAnswer, fixedPointAnswer}
 use Rattle.sequences.specs.Iterations.{plusSteps}
@@ -25,11 +25,11 @@ reached-start p valid = record { valid = valid; stopped = answers p valid 1 0 (l
 
 -- the answer of steps that stopped says how many there were, and none is 20 or 10
 of-stopped : (p : Plan) (n : ℕ) (o : Outcome) (u k : ℕ) → outcomeAnswer p n o ≡ refusal notFinished (u ∷ k ∷ []) → n ≡ k
-of-stopped p n (found t m) u k e = let z : _≡_ {A = ℕ} 0 26 = ap numberOf e in absurd (omega arith)
-of-stopped p n (none m) u k e = let z : _≡_ {A = ℕ} 22 26 = ap numberOf e in absurd (omega arith)
+of-stopped p n (found t m) u k e = let z : _≡_ {A = ℕ} 0 26 = ap refusalNumber e in absurd (omega arith)
+of-stopped p n (none m) u k e = let z : _≡_ {A = ℕ} 22 26 = ap refusalNumber e in absurd (omega arith)
 of-stopped p n (unfinished t) u k e = cc
 
-not-refused : (p : Plan) (n : ℕ) (o : Outcome) → (numberOf (outcomeAnswer p n o) ≡ noPlanHeld → ⊥) × (numberOf (outcomeAnswer p n o) ≡ badDuration → ⊥)
+not-refused : (p : Plan) (n : ℕ) (o : Outcome) → (refusalNumber (outcomeAnswer p n o) ≡ noPlanHeld → ⊥) × (refusalNumber (outcomeAnswer p n o) ≡ badDuration → ⊥)
 not-refused p n (found t m) = (λ e. absurd (omega (arith, e)), λ e. absurd (omega (arith, e)))
 not-refused p n (none m) = (λ e. absurd (omega (arith, e)), λ e. absurd (omega (arith, e)))
 not-refused p n (unfinished t) = (λ e. absurd (omega (arith, e)), λ e. absurd (omega (arith, e)))
@@ -85,10 +85,10 @@ module _ {p : Plan} {at used : ℕ} (r : Reached p at used) where
     stopped-within {u} {k} e = omega (arith, of-stopped p n (iterate p at n) u k (sym (e ∙ gives)))
 
     pub not-20 : refusal noPlanHeld (0 ∷ []) ≡ fixedPointAnswer p at n → ⊥
-    not-20 e = not-refused p n (iterate p at n) .0 (sym (ap numberOf (e ∙ gives)))
+    not-20 e = not-refused p n (iterate p at n) .0 (sym (ap refusalNumber (e ∙ gives)))
 
     pub not-10 : refusal badDuration (0 ∷ []) ≡ fixedPointAnswer p at n → ⊥
-    not-10 e = not-refused p n (iterate p at n) .1 (sym (ap numberOf (e ∙ gives)))
+    not-10 e = not-refused p n (iterate p at n) .1 (sym (ap refusalNumber (e ∙ gives)))
 
   -- the portion came to no end either: further on
   pub reached-next

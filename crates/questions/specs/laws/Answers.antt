@@ -11,7 +11,7 @@ use Rattle.cqf.specs.Limits.{portOk}
 use Rattle.cqf.specs.Plan.{Plan, validPlan}
 use Rattle.cqf.specs.Condition.{slack, crossed, admissible, failing, lowestFailing}
 use Rattle.cqf.specs.FixedPoint.{iterate}
-use Rattle.answers.specs.Answer.{Answer, result, refusal, numberOf}
+use Rattle.answers.specs.Answer.{Answer, result, refusal, refusalNumber}
 use Rattle.answers.specs.Refusals.{badDuration, noPlanHeld, notAdmissible, notCrossed}
 use Rattle.questions.specs.Outcome.{asked, failingAt, checkAnswer, slackAnswer}
 use Rattle.questions.specs.FixedPoint.{outcomeAnswer, fixedPointAnswer}
@@ -57,13 +57,13 @@ module _ (p : Plan) (T : ℕ) where
       good true a r = a
       good false a r =
           let none : failingAt notAdmissible p T ≡ result tt = rw a at (sym (check-within e r) ∙ said) in
-          let z : _≡_ {A = ℕ} 21 0 = ap numberOf none in
+          let z : _≡_ {A = ℕ} 21 0 = ap refusalNumber none in
           absurd (omega arith)
 
       ranged : (b : Bool) → within 1 (p .top) T ≡ b → (within 1 (p .top) T ≡ true) × (admissible p T ≡ true)
       ranged true r = (r, good (admissible p T) refl r)
       ranged false r =
-          let z : _≡_ {A = ℕ} 10 0 = ap numberOf (sym (check-out e r) ∙ said) in
+          let z : _≡_ {A = ℕ} 10 0 = ap refusalNumber (sym (check-out e r) ∙ said) in
           absurd (omega arith)
 
   -- by how many ports fail

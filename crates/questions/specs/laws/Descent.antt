@@ -5,7 +5,8 @@ use Prim.Native.Nat.{ℕ, suc, max, _-_, _≤_, _<_}
 use native.Mathlib.Decide.{ℕ-discrete}
 use native.Mathlib.Omega.{arith}
 use Rattle.cqf.specs.Plan.{Plan}
-use Rattle.cqf.specs.Condition.{largestNeed, marginSafe}
+use Rattle.cqf.specs.Condition.{marginSafe}
+use Rattle.cqf.specs.Need.{largestNeed}
 use Rattle.cqf.specs.laws.Search.{Descended, descent-bottom, descent-stop, descent-next}
 use Rattle.questions.specs.laws.Scratch.{Filled}
 

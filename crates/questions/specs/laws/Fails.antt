@@ -12,7 +12,8 @@ use borrow.Author.Tests.{lt-ltb, le-ltb}
 use Rattle.cqf.specs.Bounded.{tabulate}
 use Rattle.cqf.specs.Limits.{portSlots}
 use Rattle.cqf.specs.Plan.{Plan, rateOf, blockingOf, extraOf, validPlan}
-use Rattle.cqf.specs.Condition.{workloadOf, failsBy, demand, capacity, workload, crossed, slack, fails, failing, lowestFailing}
+use Rattle.cqf.specs.Port.{workloadOf, failsBy, capacity, workload}
+use Rattle.cqf.specs.Condition.{demand, crossed, slack, fails, failing, lowestFailing}
 use Rattle.cqf.specs.laws.Condition.{demand-pos, demand-crossed}
 use Rattle.cqf.specs.laws.Tabulate.{tabulate-at}
 use Rattle.questions.specs.Failing.{setTo, failsIn}

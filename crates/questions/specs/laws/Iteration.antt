@@ -10,7 +10,8 @@ use borrow.Author.Tests.{lt-leb, lt-ltb, le-ltb}
 use Rattle.cqf.specs.Bounded.{tabulate}
 use Rattle.cqf.specs.Limits.{portSlots}
 use Rattle.cqf.specs.Plan.{Plan, validPlan}
-use Rattle.cqf.specs.Condition.{demand, largestNeed, admissible, least}
+use Rattle.cqf.specs.Condition.{demand, admissible, least}
+use Rattle.cqf.specs.Need.{largestNeed}
 use Rattle.cqf.specs.FixedPoint.{settles, stepsFrom, found, none, unfinished, iterate, ended}
 use Rattle.cqf.specs.laws.Smallest.{smallest-le, least-of}
 use Rattle.cqf.specs.laws.Ended.{ended-found, ended-none, ended-finished}

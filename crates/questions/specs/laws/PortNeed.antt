@@ -7,7 +7,10 @@ use native.Mathlib.Numerals.{sub-one}
 use native.Mathlib.Omega.{arith}
 use lib.Dec.{eqb}
 use borrow.Author.Tests.{lt-ltb}
-use Rattle.cqf.specs.Condition.{bitsOf, ceilDiv, blockingBitsOf, workloadOf, needBy, mostDemand}
+use Rattle.cqf.specs.Ceil.{ceilDiv}
+use Rattle.cqf.specs.Port.{bitsOf, blockingBitsOf, workloadOf}
+use Rattle.cqf.specs.Need.{needBy}
+use Rattle.cqf.specs.Overflow.{mostDemand}
 
 -- the bits of a blocking frame, and the work of a demand, are far below 2 ^ 64
 pub blocking-most

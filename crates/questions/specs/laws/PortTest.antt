@@ -9,7 +9,9 @@ use lib.ListN.{getD}
 use borrow.Author.Tests.{le-leb}
 use Rattle.cqf.specs.Limits.{portSlots}
 use Rattle.cqf.specs.Plan.{Plan, rateOf, blockingOf, extraOf}
-use Rattle.cqf.specs.Condition.{windowOf, failsBy, largestNeed, fails}
+use Rattle.cqf.specs.Port.{windowOf, failsBy}
+use Rattle.cqf.specs.Condition.{fails}
+use Rattle.cqf.specs.Need.{largestNeed}
 use Rattle.cqf.specs.FixedPoint.{settles}
 use Rattle.cqf.specs.laws.Search.{fails-largest, none-largest}
 use Rattle.questions.specs.laws.Fails.{fails-by}

@@ -8,13 +8,15 @@ use lib.ListN.{length, getD}
 use Rattle.cqf.specs.Bounded.{maxTo, tabulate}
 use Rattle.cqf.specs.Limits.{portSlots, maxTop}
 use Rattle.cqf.specs.Plan.{Plan, rateOf, blockingOf, extraOf, validPlan}
-use Rattle.cqf.specs.Condition.{needBy, demand, need, largestNeed, mostDemand}
+use Rattle.cqf.specs.Condition.{demand}
+use Rattle.cqf.specs.Need.{needBy, need, largestNeed}
+use Rattle.cqf.specs.Overflow.{mostDemand}
 use Rattle.cqf.specs.laws.Bounds.{maxTo-same}
 use Rattle.cqf.specs.laws.Tabulate.{tabulate-length, tabulate-at}
 use Rattle.cqf.specs.laws.Ranges.{top-most}
 use Rattle.cqf.specs.laws.Search.{busy-rate}
 use Rattle.tables.specs.Columns.{columns}
-use Rattle.questions.specs.laws.Stretched.{demand-fits}
+use Rattle.questions.specs.laws.Widened.{demand-fits}
 use Rattle.questions.specs.laws.Sums.{demand-columns}
 
 -- the demands at t, in a valid plan

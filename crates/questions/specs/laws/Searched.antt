@@ -14,7 +14,7 @@ use Rattle.answers.specs.Answer.{Answer, result, refusal}
 use Rattle.answers.specs.Refusals.{shortScratch, noPlanHeld, noLeast, noMarginSafe}
 use Rattle.questions.specs.Outcome.{failingAt, foundAnswer, searched, leastAnswer, leastLeaves, marginSafeAnswer, marginSafeLeaves}
 use Rattle.questions.specs.Failing.{FailingAt}
-use Rattle.questions.specs.Search.{Found, Answers, Ends}
+use Rattle.questions.specs.Search.{Found, Answers, SearchEnds}
 
 module _ (number : ℕ) (sought : Plan → ℕ) (p : Plan) where
   module _ {found : ℕ} {out : List ℕ} (s : Found sought p found out) where
@@ -35,11 +35,11 @@ module _ (number : ℕ) (sought : Plan → ℕ) (p : Plan) where
         (rw (lt-leb _ _ more, f .lowest, f .many), rw (lt-leb _ _ more, f .demands))
 
   module _ (scratch : List ℕ) where
-    pub ends-no-plan : validPlan p ≡ false → Ends number sought p scratch (refusal noPlanHeld (0 ∷ [])) scratch
+    pub ends-no-plan : validPlan p ≡ false → SearchEnds number sought p scratch (refusal noPlanHeld (0 ∷ [])) scratch
     ends-no-plan e = (rw e, rw e)
 
     module _ (valid : validPlan p ≡ true) where
-      pub ends-short : length scratch < portSlots → Ends number sought p scratch (refusal shortScratch (0 ∷ [])) scratch
+      pub ends-short : length scratch < portSlots → SearchEnds number sought p scratch (refusal shortScratch (0 ∷ [])) scratch
       ends-short l = (rw (valid, lt-leb _ _ l), rw (valid, lt-leb _ _ l))
 
       -- the demands replace the first numbers, and those past them are kept
@@ -47,7 +47,7 @@ module _ (number : ℕ) (sought : Plan → ℕ) (p : Plan) where
           : portSlots ≤ length scratch
           → {answer : Answer ℕ} {out : List ℕ}
           → Answers number sought p answer out
-          → Ends number sought p scratch answer (out ++ drop portSlots scratch)
+          → SearchEnds number sought p scratch answer (out ++ drop portSlots scratch)
       ends-found l h = (rw (valid, le-leb _ _ l) (h .0), rw (valid, le-leb _ _ l, h .1))
 
 -- the answer of a search that gives a duration: it is the one sought, up to top; and it is given where it is up to top
@@ -101,14 +101,14 @@ margin-safe-gives p scratch {T} valid long is most = ap (λ (n : ℕ). searched 
 
 pub least-ends
     : (p : Plan) (scratch : List ℕ) {answer : Answer ℕ} {exit : List ℕ}
-    → Ends noLeast least p scratch answer exit
+    → SearchEnds noLeast least p scratch answer exit
     → (answer ≡ leastAnswer p scratch) × (exit ≡ leastLeaves p scratch)
 unfolding leastAnswer leastLeaves
 least-ends p scratch h = h
 
 pub margin-safe-ends
     : (p : Plan) (scratch : List ℕ) {answer : Answer ℕ} {exit : List ℕ}
-    → Ends noMarginSafe marginSafe p scratch answer exit
+    → SearchEnds noMarginSafe marginSafe p scratch answer exit
     → (answer ≡ marginSafeAnswer p scratch) × (exit ≡ marginSafeLeaves p scratch)
 unfolding marginSafeAnswer marginSafeLeaves
 margin-safe-ends p scratch h = h

@@ -12,15 +12,18 @@ use lib.ListN.{length, getD}
 use lib.Seq.{ext-getD}
 use borrow.Author.Tests.{ne-eqb}
 use Rattle.cqf.specs.Bounded.{sumTo, elem, every, distinct, sublist, tabulate}
-use Rattle.cqf.specs.Limits.{portSlots, flowSlots, minPeriod, portOk, mostStretch}
+use Rattle.cqf.specs.Limits.{portSlots, flowSlots, minPeriod, portOk}
+use Rattle.cqf.specs.Overflow.{mostWidened, mostBits, mostDemand}
 use Rattle.cqf.specs.Plan.{Plan, extraOf, periodOf, countOf, lengthOf, jitterOf, hopsOf, routeOf, crosses, portIn, validPlan}
-use Rattle.cqf.specs.Condition.{bitsOf, framesBy, wireBits, begun, stretch, frames, demand, mostBits, mostDemand}
+use Rattle.cqf.specs.Port.{bitsOf, wireBits}
+use Rattle.cqf.specs.Widened.{widened}
+use Rattle.cqf.specs.Condition.{framesBy, begun, frames, demand}
 use Rattle.cqf.specs.laws.Bounds.{sumTo-most}
 use Rattle.cqf.specs.laws.Valid.{Empty, Held, slot-cases}
 use Rattle.cqf.specs.laws.Lists.{elem-at, sublist-length, sublist-at}
 use Rattle.cqf.specs.laws.Route.{sublist-more, elem-more}
 use Rattle.cqf.specs.laws.Tabulate.{tabulate-length, tabulate-at}
-use Rattle.cqf.specs.laws.Demand.{frames-by, share, demand-sum, flow-bits-most, share-none, sum-next}
+use Rattle.cqf.specs.laws.Demand.{frames-by, share, demand-sum, flow-bits-most, share-none, demand-next}
 use Rattle.tables.specs.Columns.{columns, FlowInRange, ExtrasInRange, Marked}
 
 -- a stronger test that each number of a list passes
@@ -73,7 +76,7 @@ bitsAt p T f q = frames p f T * bitsOf (lengthOf p f) (extraOf p q)
 -- its frames, counted over a number that is the plan's length for it
 pub framed
     : (p : Plan) (T f : ℕ) {over many : ℕ}
-    → over ≡ stretch p T
+    → over ≡ widened p T
     → many ≡ framesBy (countOf p f) over (jitterOf p f) (periodOf p f)
     → many ≡ frames p f T
 framed p T f is e =
@@ -91,7 +94,7 @@ module _ (p : Plan) (T : ℕ) where
   -- a flow without ports adds nothing
   pub sums-skip : (f : ℕ) (l : List ℕ) → hopsOf p f ≡ 0 → Sums p T f l → Sums p T (f + 1) l
   sums-skip f l none sums q h =
-      sums q h ∙ sym (sum-next p q T f ∙ ap (λ (n : ℕ). sumTo f (share p q T) + n) (share-none p q T f none) ∙ add-zero _)
+      sums q h ∙ sym (demand-next p q T f ∙ ap (λ (n : ℕ). sumTo f (share p q T) + n) (share-none p q T f none) ∙ add-zero _)
 
   -- a flow whose bits are added at each port of its route
   pub sums-add
@@ -103,7 +106,7 @@ module _ (p : Plan) (T : ℕ) where
   unfolding wireBits
   sums-add f many l l′ e marked sums q h =
       marked q h
-      ∙ rw (e, sums q h) (sym (sum-next p q T f))
+      ∙ rw (e, sums q h) (sym (demand-next p q T f))
 
   -- after the last flow
   pub sums-all : (l : List ℕ) → length l ≡ portSlots → Sums p T flowSlots l → l ≡ tabulate portSlots (λ q. demand p q T)
@@ -118,22 +121,22 @@ module _ (p : Plan) (q T f : ℕ) {sum : ℕ} (before : sum ≡ sumTo f (share p
   pub sum-crossing
       : {over bits : ℕ}
       → crosses p f q ≡ true
-      → over ≡ stretch p T
+      → over ≡ widened p T
       → bits ≡ framesBy (countOf p f) over (jitterOf p f) (periodOf p f) * bitsOf (lengthOf p f) (extraOf p q)
       → sum + bits ≡ sumTo (f + 1) (share p q T)
   unfolding wireBits
-  sum-crossing e is bits = rw (before, bits, framed p T f is refl) (sym (sum-next p q T f ∙ rw e))
+  sum-crossing e is bits = rw (before, bits, framed p T f is refl) (sym (demand-next p q T f ∙ rw e))
 
   pub sum-apart : crosses p f q ≡ false → sum ≡ sumTo (f + 1) (share p q T)
-  sum-apart e = before ∙ sym (sum-next p q T f ∙ (rw e (add-zero _)))
+  sum-apart e = before ∙ sym (demand-next p q T f ∙ (rw e (add-zero _)))
 
-module _ (p : Plan) (in-range : AllInRange p) (small : ExtrasInRange (p .extras)) (T : ℕ) (fits : stretch p T ≤ mostStretch) where
+module _ (p : Plan) (in-range : AllInRange p) (small : ExtrasInRange (p .extras)) (T : ℕ) (fits : widened p T ≤ mostWidened) where
   -- one flow brings at most its most bits to a port
   pub flow-most : (f : ℕ) → f < flowSlots → (periodOf p f ≡ 0 → ⊥) → (q : ℕ) → q < portSlots → bitsAt p T f q ≤ mostBits
   flow-most f l there q slot =
       let r = in-range f l in
       rw (frames-by p f T)
-      (flow-bits-most (stretch p T) fits (r .period-least there) (r .count-most) (r .bytes-most) (r .jitter-most) (small q slot))
+      (flow-bits-most (widened p T) fits (r .period-least there) (r .count-most) (r .bytes-most) (r .jitter-most) (small q slot))
 
   share-most : (q f : ℕ) → q < portSlots → f < flowSlots → share p q T f ≤ mostBits
   unfolding wireBits
@@ -179,6 +182,6 @@ elem-here l at h i n less e =
 pub demand-columns
     : (p : Plan) (q T : ℕ)
     → demand (columns (p .clock) [] [] (p .extras) (p .periods) (p .counts) (p .lengths) (p .jitters) (p .hops) (p .routes)) q T ≡ demand p q T
-unfolding frames begun stretch wireBits
+unfolding frames begun widened wireBits
 demand-columns p q T =
     demand-sum (columns (p .clock) [] [] (p .extras) (p .periods) (p .counts) (p .lengths) (p .jitters) (p .hops) (p .routes)) q T ∙ sym (demand-sum p q T)

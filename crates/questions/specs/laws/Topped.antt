@@ -7,7 +7,9 @@ use borrow.Author.Tests.{le-leb}
 use Rattle.cqf.specs.Bounded.{countTo, lowest, allTo, anyTo}
 use Rattle.cqf.specs.Limits.{portSlots, flowSlots, maxTop, topOk, guardOk}
 use Rattle.cqf.specs.Plan.{Plan, present, clockOk, validPort, validFlow, validPlan}
-use Rattle.cqf.specs.Condition.{wireBits, stretch, begun, frames, demand, window, capacity, workload, crossed, exceeds, fails, failing, lowestFailing}
+use Rattle.cqf.specs.Port.{wireBits, window, capacity, workload, exceeds}
+use Rattle.cqf.specs.Widened.{widened}
+use Rattle.cqf.specs.Condition.{begun, frames, demand, crossed, fails, failing, lowestFailing}
 use Rattle.cqf.specs.laws.Demand.{demand-sum}
 use Rattle.cqf.specs.laws.Ranges.{top-most}
 use Rattle.cqf.specs.laws.Valid.{valid-by}
@@ -35,7 +37,7 @@ module _ (p : Plan) (T : ℕ) where
       valid-by (topped p T) {top = true} {guard = true} {clock = true} {ports = true} {flows = true} {some = true} (rw (le-leb 1 T low, le-leb T maxTop most)) (a .1) (b .1) (c .1) (d .1) (e .1)
 
   demand-topped : (q t : ℕ) → demand (topped p T) q t ≡ demand p q t
-  unfolding frames begun stretch wireBits
+  unfolding frames begun widened wireBits
   demand-topped q t = demand-sum (topped p T) q t ∙ sym (demand-sum p q t)
 
   fails-topped : (t q : ℕ) → fails (topped p T) t q ≡ fails p t q

@@ -9,7 +9,7 @@ use native.Mathlib.Omega.{arith}
 use lib.ListN.{length, length-append}
 use Rattle.cqf.specs.Bounded.{sumTo}
 use Rattle.cqf.specs.Limits.{portSlots, flowSlots}
-use Rattle.cqf.specs.Plan.{Plan, equalClocks, synchronized, validPlan}
+use Rattle.cqf.specs.Plan.{Plan, equalClocks, clocksEqual, validPlan}
 use Rattle.cqf.specs.laws.Bounds.{sumTo-most}
 use Rattle.cqf.specs.laws.Ranges.{extra-most}
 use Rattle.cqf.specs.laws.Valid.{Empty, Held, slot-cases}
@@ -91,7 +91,7 @@ parts-length p =
 
 clocks-length : (p : Plan) → length (rowBytes (clockFields p)) ≡ clocksSize p
 unfolding bytesOf valueOf
-clocks-length p = when-length (not (synchronized p)) (clockField p) (headSize + clockSize) refl
+clocks-length p = when-length (not (clocksEqual p)) (clockField p) (headSize + clockSize) refl
 
 saved-length : (p : Plan) → length (savedBytes p) ≡ savedSize p
 unfolding bytesOf valueOf
@@ -118,7 +118,7 @@ kind-most kind p k =
     omega (arith, slots-few kind, sumTo-most (slotsOf kind) (slotSize kind p) mostSize (λ i l. slot-most kind p i k l))
 
 pub clocks-most : (p : Plan) → clocksSize p ≤ headSize + clockSize
-clocks-most p = cond-most (not (synchronized p)) (headSize + clockSize) (headSize + clockSize) (omega arith)
+clocks-most p = cond-most (not (clocksEqual p)) (headSize + clockSize) (headSize + clockSize) (omega arith)
 
 -- the tables of a valid plan
 pub valid-range : (p : Plan) → validPlan p ≡ true → SlotsInRange (p .extras) (p .hops)

@@ -8,7 +8,7 @@ use Prim.Native.Nat.{ℕ}
 use native.Mathlib.Omega.{arith}
 use Rattle.cqf.specs.Plan.{Plan, noPlan, validPlan}
 use Rattle.plan_reading.specs.Reading.{PlanRead, accepted, rejected, Mode, readAs, readPlan}
-use Rattle.plan_reading.specs.StrictTheorem.{read-loosely}
+use Rattle.plan_reading.specs.results.StrictTheorem.{read-loosely}
 use Rattle.loading.specs.Outcome.{loadLeaves, readingLeaves}
 use Rattle.sequences.specs.Calls.{Call, load, ask, leaves, afterFrom, after, accepting, keeping, heldFrom, heldBytes}
 

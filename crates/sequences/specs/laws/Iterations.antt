@@ -13,10 +13,10 @@ use Rattle.cqf.specs.Bounded.{within}
 use Rattle.cqf.specs.Limits.{portSlots}
 use Rattle.cqf.specs.Plan.{Plan, validPlan}
 use Rattle.cqf.specs.Condition.{admissible, failing, lowestFailing, least}
-use Rattle.cqf.specs.FixedPoint.{visited, stepsFrom, Outcome, found, none, unfinished, after, iterate, LeastAdmissible, Converges}
+use Rattle.cqf.specs.FixedPoint.{visited, stepsFrom, Outcome, found, none, unfinished, afterSteps, iterate, LeastAdmissible, Converges}
 use Rattle.cqf.specs.laws.Ranges.{top-positive}
 use Rattle.cqf.specs.laws.Converges.{converges, converges-least}
-use Rattle.answers.specs.Answer.{Answer, result, refusal, numberOf}
+use Rattle.answers.specs.Answer.{Answer, result, refusal, refusalNumber}
 use Rattle.answers.specs.Refusals.{noLeast, notFinished}
 use Rattle.questions.specs.Outcome.{failingAt, foundAnswer, leastAnswer}
 use Rattle.questions.specs.FixedPoint.{FixedPoint, outcomeAnswer, fixedPointAnswer}
@@ -41,21 +41,21 @@ module _ (p : Plan) (n : ℕ) where
       let same : t ≡ u = ap durationOf e in
       let used : m ≡ k = ap stepsOf e in
       rw (same, used)
-  of-result (none m) u k e = let z : _≡_ {A = ℕ} 22 0 = ap numberOf e in absurd (omega arith)
-  of-result (unfinished t) u k e = let z : _≡_ {A = ℕ} 26 0 = ap numberOf e in absurd (omega arith)
+  of-result (none m) u k e = let z : _≡_ {A = ℕ} 22 0 = ap refusalNumber e in absurd (omega arith)
+  of-result (unfinished t) u k e = let z : _≡_ {A = ℕ} 26 0 = ap refusalNumber e in absurd (omega arith)
 
   pub of-none : (o : Outcome) (a b k : ℕ) → outcomeAnswer p n o ≡ refusal noLeast (a ∷ b ∷ k ∷ []) → o ≡ none k
-  of-none (found t m) a b k e = let z : _≡_ {A = ℕ} 0 22 = ap numberOf e in absurd (omega arith)
+  of-none (found t m) a b k e = let z : _≡_ {A = ℕ} 0 22 = ap refusalNumber e in absurd (omega arith)
   of-none (none m) a b k e = let same : m ≡ k = cc in ap none same
-  of-none (unfinished t) a b k e = let z : _≡_ {A = ℕ} 26 22 = ap numberOf e in absurd (omega arith)
+  of-none (unfinished t) a b k e = let z : _≡_ {A = ℕ} 26 22 = ap refusalNumber e in absurd (omega arith)
 
   pub of-unfinished : (o : Outcome) (u : ℕ) → outcomeAnswer p n o ≡ refusal notFinished (u ∷ n ∷ []) → o ≡ unfinished u
-  of-unfinished (found t m) u e = let z : _≡_ {A = ℕ} 0 26 = ap numberOf e in absurd (omega arith)
-  of-unfinished (none m) u e = let z : _≡_ {A = ℕ} 22 26 = ap numberOf e in absurd (omega arith)
+  of-unfinished (found t m) u e = let z : _≡_ {A = ℕ} 0 26 = ap refusalNumber e in absurd (omega arith)
+  of-unfinished (none m) u e = let z : _≡_ {A = ℕ} 22 26 = ap refusalNumber e in absurd (omega arith)
   of-unfinished (unfinished t) u e = let same : t ≡ u = cc in ap unfinished same
 
 -- so many steps before those of an outcome
-outcome-after : (p : Plan) (k n : ℕ) (o : Outcome) → outcomeAnswer p (k + n) (after k o) ≡ plusSteps k (outcomeAnswer p n o)
+outcome-after : (p : Plan) (k n : ℕ) (o : Outcome) → outcomeAnswer p (k + n) (afterSteps k o) ≡ plusSteps k (outcomeAnswer p n o)
 unfolding lastPlus
 outcome-after p k n (found t m) = refl
 outcome-after p k n (none m) = refl

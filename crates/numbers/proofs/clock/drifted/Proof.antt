@@ -4,7 +4,7 @@ use Prim.Native.Nat.{_*_, _-_, _^_, _≤_}
 use native.Mathlib.Nat.{mul-le-mul}
 use native.Mathlib.Omega.{arith}
 use borrow.Author.Needs.{needs}
-use Rattle.cqf.specs.Condition.{ceilDiv}
+use Rattle.cqf.specs.Ceil.{ceilDiv}
 use Rattle.numbers.proofs.clock.drifted.Statement.{statement}
 use Rattle.numbers.proofs.clock.drifted.Tie as tie
 

@@ -26,7 +26,7 @@ use Rattle.plan_reading.specs.laws.reading.Onward.{read-end, read-more}
 use Rattle.plan_reading.specs.laws.reading.Walk.{Reads, done, one}
 use Rattle.plan_reading.specs.laws.reading.Closing.{close-accepted}
 use Rattle.plan_reading.specs.laws.reading.PlanLength.{read-sized}
-use Rattle.plan_reading.specs.StrictTheorem.{strict-accepts}
+use Rattle.plan_reading.specs.results.StrictTheorem.{strict-accepts}
 use Rattle.plan_reading.specs.laws.rows.SavedRow.{AllOk, none, more, addedAll}
 use Rattle.plan_reading.specs.laws.rows.EntryRead.{entry-length}
 use Rattle.plan_reading.specs.laws.rows.RowRead.{row-fields, row-in-order, row-reads}

@@ -9,7 +9,7 @@ use native.Mathlib.Decide.{ℕ-discrete}
 use native.Mathlib.Omega.{arith}
 use borrow.Author.Tests.{eqb-true, not-true}
 use Rattle.cqf.specs.Limits.{portOk, flowOk}
-use Rattle.cqf.specs.Plan.{Plan, equalClocks, synchronized, rateOf, blockingOf, extraOf, periodOf, countOf, lengthOf, jitterOf, hopsOf, routeOf}
+use Rattle.cqf.specs.Plan.{Plan, equalClocks, clocksEqual, rateOf, blockingOf, extraOf, periodOf, countOf, lengthOf, jitterOf, hopsOf, routeOf}
 use Rattle.plan.specs.Field.{Field, header, port, flow, extra, jitter, clock}
 use Rattle.plan_reading.specs.Strict.{Entry}
 use Rattle.plan_reading.specs.Saved.{when, collect}
@@ -65,7 +65,7 @@ when-there true h same = List·Memᴰ·head same
 when-there false h same = absurd (true≢false (sym h))
 
 -- clocks of which not all numbers are 0
-pub clocks-equal : (p : Plan) → synchronized p ≡ true → p .clock ≡ equalClocks
+pub clocks-equal : (p : Plan) → clocksEqual p ≡ true → p .clock ≡ equalClocks
 clocks-equal p h =
     let t = simp and-eq-true-iff at h in
     let a = eqb-true (p .clock .drift) 0 (t .0 .0) in
@@ -73,14 +73,14 @@ clocks-equal p h =
     let c = eqb-true (p .clock .syncError) 0 (t .1) in
     λ i. record { drift = a i; timingJitter = b i; syncError = c i }
 
-pub clocks-differ : (p : Plan) → not (synchronized p) ≡ true → p .clock ≡ equalClocks → ⊥
+pub clocks-differ : (p : Plan) → not (clocksEqual p) ≡ true → p .clock ≡ equalClocks → ⊥
 clocks-differ p h same =
-    let e : synchronized p ≡ true = rw same in
-    true≢false (sym e ∙ not-true (synchronized p) h)
+    let e : clocksEqual p ≡ true = rw same in
+    true≢false (sym e ∙ not-true (clocksEqual p) h)
 
-pub differ-clocks : (p : Plan) → (p .clock ≡ equalClocks → ⊥) → not (synchronized p) ≡ true
-differ-clocks p apart = go (synchronized p) refl
+pub differ-clocks : (p : Plan) → (p .clock ≡ equalClocks → ⊥) → not (clocksEqual p) ≡ true
+differ-clocks p apart = go (clocksEqual p) refl
   where
-    go : (b : Bool) → synchronized p ≡ b → not b ≡ true
+    go : (b : Bool) → clocksEqual p ≡ b → not b ≡ true
     go true e = absurd (apart (clocks-equal p e))
     go false e = refl

@@ -23,7 +23,7 @@ use Rattle.plan_reading.specs.laws.fields.Within.{within-low}
 use Rattle.plan_reading.specs.laws.validity.Valid.{accepted-valid}
 use Rattle.plan_reading.specs.laws.order.Rows.{Ascends}
 use Rattle.plan_reading.specs.laws.order.InOrder.{ascends-same}
-use Rattle.plan_reading.specs.StrictTheorem.{read-loosely, keys-ascend, accepted-bytes}
+use Rattle.plan_reading.specs.results.StrictTheorem.{read-loosely, keys-ascend, accepted-bytes}
 use Rattle.plan_reading.specs.laws.saved.Entries.{SaysPart, Says}
 use Rattle.plan_reading.specs.laws.saved.Says.{saved-says, says-saved, said-once}
 use Rattle.plan_reading.specs.laws.saved.SavedOrder.{saved-ascends}

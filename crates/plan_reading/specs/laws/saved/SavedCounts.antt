@@ -7,7 +7,7 @@ use native.Mathlib.Omega.{arith}
 use lib.Dec.{ltb}
 use Rattle.cqf.specs.Bounded.{countTo}
 use Rattle.cqf.specs.Limits.{portSlots, flowSlots}
-use Rattle.cqf.specs.Plan.{Plan, synchronized, rateOf, extraOf, periodOf, jitterOf, validPlan}
+use Rattle.cqf.specs.Plan.{Plan, clocksEqual, rateOf, extraOf, periodOf, jitterOf, validPlan}
 use Rattle.plan.specs.Field.{Field, header}
 use Rattle.plan_reading.specs.Draft.{Draft, blank, portsIn, flowsIn, added}
 use Rattle.plan_reading.specs.Strict.{Entry}
@@ -95,7 +95,7 @@ module _ (p : Plan) where
         tally-none portsIn flowSlots (flowFields p) (λ f. none-when portsIn (ltb 0 (periodOf p f)) (flowField p f) refl),
         tally-none portsIn portSlots (extraFields p) (λ q. none-when portsIn (ltb 0 (extraOf p q)) (extraField p q) refl),
         tally-none portsIn flowSlots (jitterFields p) (λ f. none-when portsIn (ltb 0 (jitterOf p f)) (jitterField p f) refl),
-        none-when portsIn (not (synchronized p)) (clockField p) refl,
+        none-when portsIn (not (clocksEqual p)) (clockField p) refl,
       )
 
   -- as many flows as have a period
@@ -110,7 +110,7 @@ module _ (p : Plan) where
         tally-count flowsIn flowSlots (flowFields p) (λ f. ltb 0 (periodOf p f)) (λ f. tally-when flowsIn (ltb 0 (periodOf p f)) (flowField p f) 1 refl),
         tally-none flowsIn portSlots (extraFields p) (λ q. none-when flowsIn (ltb 0 (extraOf p q)) (extraField p q) refl),
         tally-none flowsIn flowSlots (jitterFields p) (λ f. none-when flowsIn (ltb 0 (jitterOf p f)) (jitterField p f) refl),
-        none-when flowsIn (not (synchronized p)) (clockField p) refl,
+        none-when flowsIn (not (clocksEqual p)) (clockField p) refl,
       )
 
   -- a valid plan has one

@@ -8,7 +8,7 @@ use native.Mathlib.Omega.{arith}
 use lib.Dec.{ltb}
 use lib.ListN.{length, length-append}
 use Rattle.cqf.specs.Limits.{portSlots, flowSlots, maxHops, routeStride}
-use Rattle.cqf.specs.Plan.{Plan, synchronized, rateOf, extraOf, periodOf, jitterOf, hopsOf, routeOf, validPlan}
+use Rattle.cqf.specs.Plan.{Plan, clocksEqual, rateOf, extraOf, periodOf, jitterOf, hopsOf, routeOf, validPlan}
 use Rattle.cqf.specs.laws.Lists.{sublist-length}
 use Rattle.cqf.specs.laws.Valid.{Empty, Held, slot-cases}
 use Rattle.plan.specs.Bytes.{headSize}
@@ -93,7 +93,7 @@ module _ (p : Plan) where
 
   clock-most : length (rowBytes (clockFields p)) ≤ clockMost
   unfolding bytesOf
-  clock-most = when-most (not (synchronized p)) _ clockMost (omega arith)
+  clock-most = when-most (not (clocksEqual p)) _ clockMost (omega arith)
 
   -- part by part
   parts-length

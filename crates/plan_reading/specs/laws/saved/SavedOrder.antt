@@ -6,7 +6,7 @@ use mathlib.Core.Bool.{Bool, true, false, not}
 use native.Mathlib.Omega.{arith}
 use lib.Dec.{ltb}
 use Rattle.cqf.specs.Limits.{portSlots, flowSlots}
-use Rattle.cqf.specs.Plan.{Plan, synchronized, rateOf, extraOf, periodOf, jitterOf}
+use Rattle.cqf.specs.Plan.{Plan, clocksEqual, rateOf, extraOf, periodOf, jitterOf}
 use Rattle.plan_reading.specs.Key.{headerKey, portKeys, flowKeys, extraKeys, jitterKeys, clockKey, keySlots, keyOf}
 use Rattle.plan_reading.specs.Ranges.{NumbersOk}
 use Rattle.plan_reading.specs.Strict.{Entry, rising}
@@ -72,7 +72,7 @@ module _ (p : Plan) (ok : (e : Entry) → Says p e → NumbersOk (e .part)) wher
       (spans-append
       (spans-collect jitterKeys flowSlots (jitterFields p)
       (λ f l. slot (ltb 0 (jitterOf p f)) (jitterField p f) (jitterKeys + f) (jitter-says p f l) (omega arith)))
-      (slot (not (synchronized p)) (clockField p) clockKey (clock-says p) refl)))))
+      (slot (not (clocksEqual p)) (clockField p) clockKey (clock-says p) refl)))))
 
   pub saved-ascends : Ascends 0 (savedFields p)
   saved-ascends = spans-ascends saved-spans

@@ -12,7 +12,7 @@ use Rattle.plan_reading.specs.Saved.{headerField, savedFields, savedByte
 use Rattle.plan_reading.specs.Tidy.{Tidy, tidied}
 use Rattle.plan_reading.specs.Sized.{Sized}
 use Rattle.plan_reading.specs.laws.validity.Valid.{accepted-valid}
-use Rattle.plan_reading.specs.StrictTheorem.{read-loosely}
+use Rattle.plan_reading.specs.results.StrictTheorem.{read-loosely}
 use Rattle.plan_reading.specs.laws.rows.RowAccepted.{Row, row-accepted}
 use Rattle.plan_reading.specs.laws.saved.SavedLength.{saved-length}
 use Rattle.plan_reading.specs.laws.saved.Says.{portsOn}

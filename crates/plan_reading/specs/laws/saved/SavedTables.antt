@@ -11,7 +11,7 @@ use lib.Dec.{ltb}
 use lib.ListN.{getD}
 use Rattle.cqf.specs.Bounded.{tabulate}
 use Rattle.cqf.specs.Limits.{portSlots, flowSlots, routeStride}
-use Rattle.cqf.specs.Plan.{Clock, Plan, noPlan, equalClocks, synchronized, hopsOf, validPlan}
+use Rattle.cqf.specs.Plan.{Clock, Plan, noPlan, equalClocks, clocksEqual, hopsOf, validPlan}
 use Rattle.cqf.specs.laws.Lists.{sublist-at}
 use Rattle.cqf.specs.laws.Tabulate.{tabulate-length, tabulate-at}
 use Rattle.plan.specs.Field.{Field, clock}
@@ -63,7 +63,7 @@ module _ (p : Plan) (valid : validPlan p ≡ true) where
 
   same-clock : q .clock ≡ p .clock
   unfolding store noPlan blank
-  same-clock = go (synchronized p) refl
+  same-clock = go (clocksEqual p) refl
     where
       none : p .clock ≡ equalClocks
           → (q .clock ≡ equalClocks) ⊎ Some (λ e. (k : Clock) × (putsClock (e .part) ≡ some k)) (savedFields p)
@@ -74,7 +74,7 @@ module _ (p : Plan) (valid : validPlan p ≡ true) where
           let h : SaysPart p (clock (u .0)) (s .0 .route) = subst (λ (x : Field). SaysPart p x (s .0 .route)) (u .1) (saved-says p (s .1)) in
           absurd (h .0 (sym (h .1) ∙ same))
 
-      go : (b : Bool) → synchronized p ≡ b → q .clock ≡ p .clock
+      go : (b : Bool) → clocksEqual p ≡ b → q .clock ≡ p .clock
       go true e = none (clocks-equal p e) (alone-source (λ r. r .clock) putsClock (λ r x route. refl) blank (savedFields p))
       go false e = left-says p valid (clockField p) (clock-says p (ap not e)) .1
 

@@ -9,7 +9,7 @@ use borrow.Author.Tests.{le-leb, lt-ltb, ltb-true}
 use lib.Dec.{eqb, ltb}
 use Rattle.cqf.specs.Bounded.{within}
 use Rattle.cqf.specs.Limits.{portSlots, flowSlots}
-use Rattle.cqf.specs.Plan.{Plan, synchronized, rateOf, blockingOf, extraOf, periodOf, countOf, lengthOf, jitterOf, hopsOf, routeOf}
+use Rattle.cqf.specs.Plan.{Plan, clocksEqual, rateOf, blockingOf, extraOf, periodOf, countOf, lengthOf, jitterOf, hopsOf, routeOf}
 use Rattle.plan.specs.Field.{Field, header, port, flow, extra, jitter, clock, headerTag, portTag, flowTag, extraTag, jitterTag}
 use Rattle.plan_reading.specs.Rank.{tagOf, numberOf}
 use Rattle.plan_reading.specs.Strict.{Entry}
@@ -69,7 +69,7 @@ module _ (p : Plan) where
   pub jitter-says : (f : ℕ) → f < flowSlots → ltb 0 (jitterOf p f) ≡ true → Says p (jitterField p f)
   jitter-says f l h = (numbered flowSlots f l, ltb-true 0 (jitterOf p f) h, ap (jitterOf p) (back f), refl)
 
-  pub clock-says : not (synchronized p) ≡ true → Says p (clockField p)
+  pub clock-says : not (clocksEqual p) ≡ true → Says p (clockField p)
   clock-says h = (clocks-differ p h, refl, refl)
 
   -- each field as which it is saved is said
@@ -84,7 +84,7 @@ module _ (p : Plan) where
       jitters (inl m) =
           let s = collect-slot flowSlots (jitterFields p) m in
           own (ltb 0 (jitterOf p (s .0))) (jitterField p (s .0)) (jitter-says (s .0) (s .1)) (s .2)
-      jitters (inr m) = own (not (synchronized p)) (clockField p) clock-says m
+      jitters (inr m) = own (not (clocksEqual p)) (clockField p) clock-says m
 
       extras : List·Memᴰ e (collect portSlots (extraFields p)) ⊎ List·Memᴰ e jittersOn → Says p e
       extras (inl m) =

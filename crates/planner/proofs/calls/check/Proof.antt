@@ -5,7 +5,7 @@ use Rattle.cqf.specs.Plan.{Plan}
 use Rattle.answers.specs.Answer.{Answer}
 use Rattle.questions.specs.Outcome.{checkAnswer}
 use Rattle.sequences.specs.Meaning.{CheckMeans}
-use Rattle.sequences.specs.Theorem.{check-means}
+use Rattle.sequences.specs.results.Theorem.{check-means}
 use Rattle.planner.proofs.calls.check.Statement.{statement}
 use Rattle.planner.proofs.calls.check.Tie as tie
 

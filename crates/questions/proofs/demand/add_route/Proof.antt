@@ -8,7 +8,7 @@ use lib.ListN.{length, getD, length-set}
 use borrow.Author.Needs.{needs}
 use Rattle.cqf.specs.Bounded.{elem, sublist}
 use Rattle.cqf.specs.Limits.{portSlots}
-use Rattle.cqf.specs.Condition.{bitsOf}
+use Rattle.cqf.specs.Port.{bitsOf}
 use Rattle.cqf.specs.laws.Route.{next-port}
 use Rattle.tables.specs.Columns.{Marked}
 use Rattle.tables.specs.laws.Marks.{mark-none, mark-next, unmarked}

@@ -7,12 +7,14 @@ use native.Mathlib.Omega.{arith}
 use lib.ListN.{length}
 use borrow.Author.Needs.{needs}
 use Rattle.cqf.specs.Bounded.{tabulate}
-use Rattle.cqf.specs.Limits.{portSlots, flowSlots, maxJitter, mostStretch}
+use Rattle.cqf.specs.Limits.{portSlots, flowSlots, maxJitter}
+use Rattle.cqf.specs.Overflow.{mostWidened, mostBits}
 use Rattle.cqf.specs.Plan.{Plan, equalClocks, extraOf, periodOf, countOf, lengthOf, jitterOf, hopsOf, routeOf}
-use Rattle.cqf.specs.Condition.{bitsOf, stretchBy, stretch, mostBits}
+use Rattle.cqf.specs.Port.{bitsOf}
+use Rattle.cqf.specs.Widened.{widenedBy, widened}
 use Rattle.numbers.specs.Clock.{clockOf}
 use Rattle.tables.specs.Columns.{columns, FlowInRange}
-use Rattle.questions.specs.laws.Stretched.{aligned-stretch, demand-stretched}
+use Rattle.questions.specs.laws.Widened.{aligned-widened, demand-widened}
 use Rattle.questions.specs.laws.Sums.{Sums, framed, sums-none, sums-skip, sums-add, sums-all, flow-most, sum-most}
 use Rattle.questions.proofs.demand.demands.Statement.{statement}
 use Rattle.questions.proofs.demand.demands.Tie as tie
@@ -41,16 +43,16 @@ plan s =
 -- the length over which frames are counted, which is that plan's duration
 module _ (c : tie.At-loop Inv-loop μ-loop) where
   abbrev over : ℕ
-  over = c .before .stretch .result
+  over = c .before .widened .result
 
-  is : over ≡ stretch (plan (begin c)) over
-  is = sym (aligned-stretch (plan (begin c)) over)
+  is : over ≡ widened (plan (begin c)) over
+  is = sym (aligned-widened (plan (begin c)) over)
 
-  stretched : over ≡ stretchBy (clockOf (begin c .args .clock)) (begin c .args .duration)
-  stretched = c .before .stretch .ensures
+  counted-over : over ≡ widenedBy (clockOf (begin c .args .clock)) (begin c .args .duration)
+  counted-over = c .before .widened .ensures
 
-  fits : stretch (plan (begin c)) over ≤ mostStretch
-  fits = subst (λ (n : ℕ). n ≤ mostStretch) (sym stretched ∙ is) (begin c .pre .1 .0)
+  fits : widened (plan (begin c)) over ≤ mostWidened
+  fits = subst (λ (n : ℕ). n ≤ mostWidened) (sym counted-over ∙ is) (begin c .pre .1 .0)
 
 -- the slot of the flow at hand
 slot : (c : tie.In-loop Inv-loop μ-loop) → (let f = c .before .loop .f in let p = plan (begin (c .before)) in FlowInRange (periodOf p f) (countOf p f) (lengthOf p f) (jitterOf p f) (hopsOf p f) (routeOf p f))
@@ -66,17 +68,17 @@ clear-requires c κs = c .before .before .pre .1 .1
 cast-at : tie.Need-cast-at Inv-loop μ-loop
 cast-at c = omega (arith, start (c .before .before) .pre .1 .0)
 
-stretch-requires : tie.Need-stretch-requires Inv-loop μ-loop
-stretch-requires c κs = tt
+widened-requires : tie.Need-widened-requires Inv-loop μ-loop
+widened-requires c κs = tt
 
 cast-over : tie.Need-cast-over Inv-loop μ-loop
-cast-over c = omega (arith, c .stretch .ensures, start (c .before .before .before) .pre .1 .0)
+cast-over c = omega (arith, c .widened .ensures, start (c .before .before .before) .pre .1 .0)
 
 loop-holds : tie.Need-loop-holds Inv-loop μ-loop
 loop-holds c =
     let clear = c .before .before .before in
     let s = start clear in
-    (omega arith, clear .clear .kept .0 ∙ s .pre .1 .1, sums-none (plan s) (c .stretch .result) (clear .clear .last .0) (clear .clear .ensures))
+    (omega arith, clear .clear .kept .0 ∙ s .pre .1 .1, sums-none (plan s) (c .widened .result) (clear .clear .last .0) (clear .clear .ensures))
 
 mul-period : tie.Need-mul-period Inv-loop μ-loop
 mul-period c = search needs
@@ -100,7 +102,7 @@ flow-frames-requires : tie.Need-flow-frames-requires Inv-loop μ-loop
 flow-frames-requires c κs =
     let at = c .before .before .before .before in
     let r = slot at in
-    (r .period-least (c .before .before .if1 .taken), r .period-most, r .count-most, jitter-within (begin (at .before)) (omega arith), omega (arith, stretched (at .before), begin (at .before) .pre .1 .0))
+    (r .period-least (c .before .before .if1 .taken), r .period-most, r .count-most, jitter-within (begin (at .before)) (omega arith), omega (arith, counted-over (at .before), begin (at .before) .pre .1 .0))
 
 mul-add-route : tie.Need-mul-add-route Inv-loop μ-loop
 mul-add-route c = search needs
@@ -170,7 +172,7 @@ returns c =
     let all : c .before .loop .f ≡ flowSlots = omega arith in
     let p = columns (clockOf (s .args .clock)) [] [] (s .args .extras .now) (s .args .periods .now) (s .args .counts .now) (s .args .lengths .now) (s .args .jitters .now) (s .args .hops .now) (s .args .routes .now) in
     sums-all (plan s) (over (c .before)) (c .before .loop .out) (c .before .loop .inv .1) (rw all at (c .before .loop .inv .2))
-    ∙ ap (tabulate portSlots) (fun-ext (demand-stretched p (s .args .duration) (stretched (c .before))))
+    ∙ ap (tabulate portSlots) (fun-ext (demand-widened p (s .args .duration) (counted-over (c .before))))
 
 pub demands-spec : {M : Type 1} → statement M
 demands-spec =
@@ -180,7 +182,7 @@ demands-spec =
     μ-loop
     clear-requires
     cast-at
-    stretch-requires
+    widened-requires
     cast-over
     loop-holds
     mul-period

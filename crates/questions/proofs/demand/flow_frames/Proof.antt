@@ -4,7 +4,7 @@ use Prim.Native.Nat.{ℕ, _*_, _≤_}
 use native.Mathlib.Nat.{mul-le-mul}
 use native.Mathlib.Omega.{arith}
 use borrow.Author.Needs.{needs}
-use Rattle.cqf.specs.Limits.{mostBegun}
+use Rattle.cqf.specs.Overflow.{mostBegun}
 use Rattle.cqf.specs.laws.Begun.{begun-most}
 use Rattle.questions.proofs.demand.flow_frames.Statement.{statement}
 use Rattle.questions.proofs.demand.flow_frames.Tie as tie
@@ -19,7 +19,7 @@ mul-result : tie.Need-mul-result
 mul-result c =
     let s = c .before in
     let few : c .periods-begun .result ≤ mostBegun =
-    rw (c .periods-begun .ensures) (begun-most (s .args .stretch) (s .args .jitter) (s .pre .4) (s .pre .3) (s .pre .0)) in
+    rw (c .periods-begun .ensures) (begun-most (s .args .widened) (s .args .jitter) (s .pre .4) (s .pre .3) (s .pre .0)) in
     omega (arith, mul-le-mul (s .pre .2) few)
 
 returns : tie.Need-returns

@@ -3,7 +3,7 @@ use mathlib.Core.Path.{ap}
 use Prim.Native.Nat.{ℕ, _+_, _/_}
 use native.Mathlib.Numerals.{sub-one}
 use borrow.Author.Needs.{needs}
-use Rattle.cqf.specs.Condition.{ceilDiv}
+use Rattle.cqf.specs.Ceil.{ceilDiv}
 use Rattle.questions.proofs.demand.periods_begun.Statement.{statement}
 use Rattle.questions.proofs.demand.periods_begun.Tie as tie
 
@@ -21,7 +21,7 @@ div-result c = search needs
 
 returns : tie.Need-returns
 unfolding ceilDiv
-returns c = ap (λ (n : ℕ). (c .args .stretch + c .args .jitter + n) / c .args .period) (sub-one (c .args .period))
+returns c = ap (λ (n : ℕ). (c .args .widened + c .args .jitter + n) / c .args .period) (sub-one (c .args .period))
 
 pub periods-begun-spec : {M : Type 1} → statement M
 periods-begun-spec = tie.close (tie.spec add-result sub-result add-result-2 div-result returns)

@@ -6,13 +6,14 @@ use native.Mathlib.Omega.{arith}
 use lib.ListN.{length}
 use Rattle.cqf.specs.Limits.{portSlots}
 use Rattle.cqf.specs.Plan.{Plan}
-use Rattle.cqf.specs.Condition.{largestNeed, marginSafe}
+use Rattle.cqf.specs.Condition.{marginSafe}
+use Rattle.cqf.specs.Need.{largestNeed}
 use Rattle.cqf.specs.laws.Ranges.{extra-most}
 use Rattle.cqf.specs.laws.Search.{Descended, descent-start}
 use Rattle.numbers.specs.Clock.{clockOf}
 use Rattle.tables.specs.Columns.{planBy}
 use Rattle.questions.specs.laws.Sums.{slot-in-range}
-use Rattle.questions.specs.laws.Stretched.{stretch-fits}
+use Rattle.questions.specs.laws.Widened.{widened-fits}
 use Rattle.questions.specs.laws.Scratch.{Filled, filled-by, filled-length, filled-short, filled-most, filled-served, filled-largest}
 use Rattle.questions.specs.laws.Descent.{descent-ends, descent-down}
 use Rattle.questions.proofs.descend.descend.Statement.{statement}
@@ -69,7 +70,7 @@ demands-requires : tie.Need-demands-requires Inv-loop μ-loop
 demands-requires c κs =
     let l = c .before in
     let s = start l in
-    ((record { slot = slot-in-range (plan s) (s .pre .0) }, extra-most (plan s) (s .pre .0)), (stretch-fits (plan s) (s .pre .0) _ (omega (arith, l .loop .inv .1 .within)), l .loop .inv .0))
+    ((record { slot = slot-in-range (plan s) (s .pre .0) }, extra-most (plan s) (s .pre .0)), (widened-fits (plan s) (s .pre .0) _ (omega (arith, l .loop .inv .1 .within)), l .loop .inv .0))
 
 largest-need-requires : tie.Need-largest-need-requires Inv-loop μ-loop
 largest-need-requires c κs =
@@ -105,7 +106,7 @@ demands-requires-2 : tie.Need-demands-requires-2 Inv-loop μ-loop
 demands-requires-2 c κs =
     let at = c .before .before .before in
     let s = begin at in
-    ((record { slot = slot-in-range (plan s) (s .pre .0) }, extra-most (plan s) (s .pre .0)), (stretch-fits (plan s) (s .pre .0) _ (omega (arith, c .before .if2 .left)), filled-length (full (demanded at))))
+    ((record { slot = slot-in-range (plan s) (s .pre .0) }, extra-most (plan s) (s .pre .0)), (widened-fits (plan s) (s .pre .0) _ (omega (arith, c .before .if2 .left)), filled-length (full (demanded at))))
 
 -- past the test of the duration found
 abbrev past : tie.After-demands2 Inv-loop μ-loop → tie.Then1 Inv-loop μ-loop

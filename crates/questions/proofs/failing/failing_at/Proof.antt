@@ -7,7 +7,7 @@ use Rattle.cqf.specs.laws.Ranges.{top-positive, extra-most}
 use Rattle.numbers.specs.Clock.{clockOf}
 use Rattle.tables.specs.Columns.{planBy}
 use Rattle.questions.specs.laws.Sums.{slot-in-range}
-use Rattle.questions.specs.laws.Stretched.{stretch-fits}
+use Rattle.questions.specs.laws.Widened.{widened-fits}
 use Rattle.questions.specs.laws.Fails.{failing-set, set-lowest-failing, set-failing}
 use Rattle.questions.specs.laws.Scratch.{Filled, filled-by, filled-length, filled-short, filled-most}
 use Rattle.questions.proofs.failing.failing_at.Statement.{statement}
@@ -33,7 +33,7 @@ at-duration c = filled-by (plan (start c)) (start c .pre .0) (le-refl _) (c .dem
 demands-requires : tie.Need-demands-requires
 demands-requires c κs =
     let s = c .before .before in
-    ((record { slot = slot-in-range (plan s) (s .pre .0) }, extra-most (plan s) (s .pre .0)), (stretch-fits (plan s) (s .pre .0) _ (le-refl _), s .pre .1))
+    ((record { slot = slot-in-range (plan s) (s .pre .0) }, extra-most (plan s) (s .pre .0)), (widened-fits (plan s) (s .pre .0) _ (le-refl _), s .pre .1))
 
 window-requires : tie.Need-window-requires
 window-requires c κs = tt

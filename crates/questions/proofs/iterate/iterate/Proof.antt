@@ -7,13 +7,14 @@ use native.Mathlib.Omega.{arith}
 use lib.ListN.{length}
 use Rattle.cqf.specs.Limits.{portSlots}
 use Rattle.cqf.specs.Plan.{Plan}
-use Rattle.cqf.specs.Condition.{windowOf, largestNeed}
+use Rattle.cqf.specs.Port.{windowOf}
+use Rattle.cqf.specs.Need.{largestNeed}
 use Rattle.cqf.specs.FixedPoint.{found, none, iterate}
 use Rattle.cqf.specs.laws.Ranges.{extra-most}
 use Rattle.numbers.specs.Clock.{clockOf}
 use Rattle.tables.specs.Columns.{planBy}
 use Rattle.questions.specs.laws.Sums.{slot-in-range}
-use Rattle.questions.specs.laws.Stretched.{stretch-fits}
+use Rattle.questions.specs.laws.Widened.{widened-fits}
 use Rattle.questions.specs.laws.Scratch.{filled-by, filled-length, filled-short, filled-most, filled-served, filled-largest}
 use Rattle.questions.specs.laws.PortTest.{Passed, Left, passed-start, passed-all, port-tested, passed-until, passed-next, left-settles, left-more}
 use Rattle.questions.specs.laws.Iteration.{Stepped, Halted, stepped-start, stopped, settled, exceeded, steps-end, step-settles, step-exceeds, step-rises, halted-same, halted-length, halted-found, halted-none, halted-unfinished}
@@ -90,7 +91,7 @@ demands-requires : tie.Need-demands-requires Inv-ports μ-ports Inv-loop μ-loop
 demands-requires c κs =
     let l = c .before .before in
     let s = start l in
-    ((record { slot = slot-in-range (plan s) (s .pre .0 .0) }, extra-most (plan s) (s .pre .0 .0)), (stretch-fits (plan s) (s .pre .0 .0) _ (l .loop .inv .1 .within), l .loop .inv .0))
+    ((record { slot = slot-in-range (plan s) (s .pre .0 .0) }, extra-most (plan s) (s .pre .0 .0)), (widened-fits (plan s) (s .pre .0 .0) _ (l .loop .inv .1 .within), l .loop .inv .0))
 
 window-requires : tie.Need-window-requires Inv-ports μ-ports Inv-loop μ-loop
 window-requires c κs = tt

@@ -7,7 +7,7 @@ use lib.ListN.{getD}
 use borrow.Author.Needs.{needs}
 use Rattle.cqf.specs.Bounded.{maxTo}
 use Rattle.cqf.specs.Limits.{portSlots}
-use Rattle.cqf.specs.Condition.{needBy}
+use Rattle.cqf.specs.Need.{needBy}
 use Rattle.cqf.specs.laws.Bounds.{maxTo-next}
 use Rattle.questions.proofs.need.largest_need.Statement.{statement}
 use Rattle.questions.proofs.need.largest_need.Tie as tie

@@ -7,13 +7,14 @@ use Prim.Native.Nat.{ℕ, _+_, _-_, _≤_, _<_}
 use native.Mathlib.Omega.{arith}
 use borrow.Author.Needs.{needs}
 use Rattle.cqf.specs.Bounded.{sumTo}
-use Rattle.cqf.specs.Limits.{flowSlots, maxJitter, mostStretch}
+use Rattle.cqf.specs.Limits.{flowSlots, maxJitter}
+use Rattle.cqf.specs.Overflow.{mostWidened}
 use Rattle.cqf.specs.Plan.{Plan, equalClocks, periodOf, countOf, lengthOf, jitterOf, hopsOf, routeOf, crosses}
-use Rattle.cqf.specs.Condition.{stretchBy, stretch}
+use Rattle.cqf.specs.Widened.{widenedBy, widened}
 use Rattle.cqf.specs.laws.Demand.{share, demand-sum}
 use Rattle.numbers.specs.Clock.{clockOf}
 use Rattle.tables.specs.Columns.{columns, FlowInRange}
-use Rattle.questions.specs.laws.Stretched.{aligned-stretch, demand-stretched}
+use Rattle.questions.specs.laws.Widened.{aligned-widened, demand-widened}
 use Rattle.questions.specs.laws.Sums.{sum-crossing, sum-apart, sum-most, crossing-period}
 use Rattle.questions.proofs.port_demand.port_demand.Statement.{statement}
 use Rattle.questions.proofs.port_demand.port_demand.Tie as tie
@@ -36,16 +37,16 @@ module _ (c : tie.At-loop Inv-loop μ-loop) where
   begin = c .before .before
 
   abbrev over : ℕ
-  over = c .before .stretch .result
+  over = c .before .widened .result
 
-  is : over ≡ stretch (plan begin) over
-  is = sym (aligned-stretch (plan begin) over)
+  is : over ≡ widened (plan begin) over
+  is = sym (aligned-widened (plan begin) over)
 
-  stretched : over ≡ stretchBy (clockOf (begin .args .clock)) (begin .args .duration)
-  stretched = c .before .stretch .ensures
+  counted-over : over ≡ widenedBy (clockOf (begin .args .clock)) (begin .args .duration)
+  counted-over = c .before .widened .ensures
 
-  fits : stretch (plan begin) over ≤ mostStretch
-  fits = subst (λ (n : ℕ). n ≤ mostStretch) (sym stretched ∙ is) (begin .pre .1 .0)
+  fits : widened (plan begin) over ≤ mostWidened
+  fits = subst (λ (n : ℕ). n ≤ mostWidened) (sym counted-over ∙ is) (begin .pre .1 .0)
 
 -- the slot of the flow at hand
 module _ (c : tie.In-loop Inv-loop μ-loop) where
@@ -72,11 +73,11 @@ crossing c = sym (c .before .route-holds .ensures) ∙ c .if1 .taken
 cast-at : tie.Need-cast-at Inv-loop μ-loop
 cast-at c = omega (arith, c .pre .1 .0)
 
-stretch-requires : tie.Need-stretch-requires Inv-loop μ-loop
-stretch-requires c κs = tt
+widened-requires : tie.Need-widened-requires Inv-loop μ-loop
+widened-requires c κs = tt
 
 cast-over : tie.Need-cast-over Inv-loop μ-loop
-cast-over c = omega (arith, c .stretch .ensures, c .before .pre .1 .0)
+cast-over c = omega (arith, c .widened .ensures, c .before .pre .1 .0)
 
 loop-holds : tie.Need-loop-holds Inv-loop μ-loop
 unfolding sumTo
@@ -128,7 +129,7 @@ flow-bits-requires c κs =
     let s = start at in
     let r = slot at in
     let least = crossing-period (plan s) (s .pre .0 .0 .slot) (s .args .q) (at .before .loop .f) (at .loop-test .taken) (crossing branch) in
-    (least, r .period-most, r .count-most, r .bytes-most, jitter-within s (omega arith), s .pre .0 .1 (s .args .q) (s .pre .1 .1), omega (arith, stretched (at .before), s .pre .1 .0))
+    (least, r .period-most, r .count-most, r .bytes-most, jitter-within s (omega arith), s .pre .0 .1 (s .args .q) (s .pre .1 .1), omega (arith, counted-over (at .before), s .pre .1 .0))
 
 add-bits : tie.Need-add-bits Inv-loop μ-loop
 add-bits c =
@@ -169,7 +170,7 @@ returns c =
     let all : c .before .loop .f ≡ flowSlots = omega arith in
     rw all at (c .before .loop .inv .1)
     ∙ sym (demand-sum (plan s) (s .args .q) (over (c .before)))
-    ∙ demand-stretched p (s .args .duration) (stretched (c .before)) (s .args .q)
+    ∙ demand-widened p (s .args .duration) (counted-over (c .before)) (s .args .q)
 
 pub port-demand-spec : {M : Type 1} → statement M
 port-demand-spec =
@@ -178,7 +179,7 @@ port-demand-spec =
     Inv-loop
     μ-loop
     cast-at
-    stretch-requires
+    widened-requires
     cast-over
     loop-holds
     mul-route-holds

@@ -8,7 +8,7 @@ use lib.Dec.{eqb}
 use lib.IntN.{subℕ}
 use borrow.Author.Needs.{needs}
 use Rattle.cqf.specs.Limits.{maxTop}
-use Rattle.cqf.specs.Condition.{bitsOf, nsPerBit}
+use Rattle.cqf.specs.Port.{bitsOf, nsPerBit}
 use Rattle.questions.specs.laws.Signed.{sub-fits, sub-is}
 use Rattle.questions.proofs.port_slack.port_slack.Statement.{statement}
 use Rattle.questions.proofs.port_slack.port_slack.Tie as tie

@@ -9,17 +9,19 @@ use borrow.Author.Tests.{not-true, not-false, lt-ltb}
 use mir.Syntax.{w64}
 use mir.ValLaws.{toZ-ofZ}
 use Rattle.cqf.specs.Bounded.{within}
-use Rattle.cqf.specs.Limits.{portSlots, maxTop, portOk, mostStretch}
+use Rattle.cqf.specs.Limits.{portSlots, maxTop, portOk}
+use Rattle.cqf.specs.Overflow.{mostWidened, mostDemand}
 use Rattle.cqf.specs.Plan.{Plan, rateOf, blockingOf, extraOf, validPlan}
-use Rattle.cqf.specs.Condition.{stretchBy, demand}
+use Rattle.cqf.specs.Widened.{widenedBy}
+use Rattle.cqf.specs.Condition.{demand}
 use Rattle.cqf.specs.laws.Ranges.{top-most, extra-most}
 use Rattle.plan_reading.specs.laws.fields.Within.{within-low, within-high, slot-below}
 use Rattle.numbers.specs.Clock.{clockOf}
 use Rattle.tables.specs.Columns.{planBy}
 use Rattle.answers.specs.Answer.{result}
-use Rattle.cqf.specs.Condition.{workloadOf, mostDemand}
+use Rattle.cqf.specs.Port.{workloadOf}
 use Rattle.questions.specs.laws.Sums.{slot-in-range, demand-columns}
-use Rattle.questions.specs.laws.Stretched.{stretch-fits, demand-fits}
+use Rattle.questions.specs.laws.Widened.{widened-fits, demand-fits}
 use Rattle.questions.specs.laws.Fails.{crossed-demand, slack-is}
 use Rattle.questions.specs.laws.Answers.{slack-none, slack-out, slack-no-port, slack-uncrossed, slack-crossed}
 use Rattle.questions.proofs.port_slack.slack_tables.Statement.{statement}
@@ -55,8 +57,8 @@ module _ (c : tie.Else2) where
   short : begin .args .duration ≤ maxTop
   short = omega (arith, top-most (held begin) (valid first), within-top)
 
-  fits : stretchBy (held begin .clock) (begin .args .duration) ≤ mostStretch
-  fits = stretch-fits (held begin) (valid first) (begin .args .duration) within-top
+  fits : widenedBy (held begin .clock) (begin .args .duration) ≤ mostWidened
+  fits = widened-fits (held begin) (valid first) (begin .args .duration) within-top
 
 abbrev second : tie.Else3 → tie.Else2
 second c = c .before .before

@@ -4,7 +4,7 @@ use mathlib.Core.Bool.{not}
 use mathlib.Core.List.{[]}
 use borrow.Author.Needs.{needs}
 use denote.Ref.{now}
-use Rattle.cqf.specs.Plan.{Plan, synchronized}
+use Rattle.cqf.specs.Plan.{Plan, clocksEqual}
 use Rattle.numbers.specs.Clock.{clockOf}
 use Rattle.plan.specs.Field.{clock}
 use Rattle.plan_reading.specs.Strict.{Entry}
@@ -26,7 +26,7 @@ clocks-equal-requires c κs = search needs
 returns : tie.Need-returns
 returns c =
     let s = c .before .before .before in
-    test-none (field s) (now (s .args .out)) (not (synchronized (plan s))) (ap not (sym (c .before .clocks-equal .ensures) ∙ c .if1 .taken))
+    test-none (field s) (now (s .args .out)) (not (clocksEqual (plan s))) (ap not (sym (c .before .clocks-equal .ensures) ∙ c .if1 .taken))
 
 put-clock-requires : tie.Need-put-clock-requires
 put-clock-requires c κs = search needs
@@ -39,7 +39,7 @@ returns-2 c =
     let written = c .before .before in
     let left = written .before .before in
     let s = left .before .before .before in
-    test-one (field s) (now (s .args .out)) (not (synchronized (plan s))) (ap not (sym (left .before .clocks-equal .ensures) ∙ left .if1 .left)) (written .put-clock .ensures)
+    test-one (field s) (now (s .args .out)) (not (clocksEqual (plan s))) (ap not (sym (left .before .clocks-equal .ensures) ∙ left .if1 .left)) (written .put-clock .ensures)
 
 pub put-clocks-spec : {M : Type 1} → statement M
 put-clocks-spec =

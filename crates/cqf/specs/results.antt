@@ -1,0 +1,3 @@
+-- What is proved of one plan.
+pub mod Theorem
+pub mod LighterTheorem

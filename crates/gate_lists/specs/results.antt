@@ -1,0 +1,2 @@
+-- What is proved of gate control lists.
+pub mod Theorem

@@ -1,0 +1,2 @@
+-- What is proved of the strict reading.
+pub mod StrictTheorem

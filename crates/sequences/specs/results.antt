@@ -1,0 +1,7 @@
+-- What is proved over sequences of calls.
+pub mod Theorem
+pub mod NoPlan
+pub mod IterationsTheorem
+pub mod SaveTheorem
+pub mod GatesTheorem
+pub mod LighterTheorem
