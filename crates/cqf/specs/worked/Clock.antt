@@ -44,14 +44,14 @@ unfolding planKC planK noPlan validPlan validPort validFlow allTo anyTo every di
 validKC = refl
 
 -- drift rounded up and timing jitter, or twice the synchronization error
-pub widenedes
+pub widened-lengths
     : (map (widened (planKC 100 2 1000 0 0)) (0 ∷ 109987 ∷ 109988 ∷ []) ≡ 2 ∷ 110000 ∷ 110001 ∷ [])
     × (widened (planKC 1000 1000 5000 0 0) 109000 ≡ 110109)
     × (widened (planKC 1000 1000 40 0 0) 109000 ≡ 109080)
     × (widened (planKC 0 0 5000 0 0) 109000 ≡ 109000)
     × (widened (planKC 1000 1000 0 0 0) 109000 ≡ 109000)
 unfolding planKC planK noPlan widened ceilDiv
-widenedes = (refl, refl, refl, refl, refl)
+widened-lengths = (refl, refl, refl, refl, refl)
 
 -- the window is not widened
 windows : window (planKC 1000 1000 5000 0 0) 109000 ≡ 107000
@@ -116,7 +116,7 @@ together-partition =
     record {
       each = together-each;
       rising = together-rising;
-      near = λ f i j _ l _. omega (arith, within-110109 f j l, widenedes .1);
+      near = λ f i j _ l _. omega (arith, within-110109 f j l, widened-lengths .1);
     }
 
 broken : Counterexample (planKC 1000 1000 5000 0 0) 109000

@@ -12,7 +12,7 @@ use Rattle.cqf.specs.Emission.{Emission}
 use Rattle.cqf.specs.Cycles.{Cycles, cyclesOf, Partition, Permitted, parted}
 use Rattle.cqf.specs.laws.Begun.{widened-covers}
 use Rattle.cqf.specs.worked.K.{early}
-use Rattle.cqf.specs.worked.Clock.{planKC, widenedes}
+use Rattle.cqf.specs.worked.Clock.{planKC, widened-lengths}
 
 -- Clocks that only have a synchronization error, or none, count frames as equal clocks do.
 error-alone : (T : ℕ) → widened (planKC 0 0 5000 0 0) T ≡ T
@@ -95,7 +95,7 @@ thrice f = 0 ∷ 100000 ∷ 200000 ∷ []
 
 none-spread : Partition (planKC 1000 1000 5000 0 0) 109000 thrice (λ f. 0 ∷ 0 ∷ 0 ∷ []) → ⊥
 unfolding thrice
-none-spread parts = omega (arith, parts .near 0 0 2 (omega arith) (omega arith) refl, widenedes .1)
+none-spread parts = omega (arith, parts .near 0 0 2 (omega arith) (omega arith) refl, widened-lengths .1)
 
 -- nor one in which two frames of a cycle lie just the stretch apart
 edge : Emission
@@ -103,4 +103,4 @@ edge f = 0 ∷ 110109 ∷ []
 
 none-closed : Partition (planKC 1000 1000 5000 0 0) 109000 edge (λ f. 0 ∷ 0 ∷ []) → ⊥
 unfolding edge
-none-closed parts = omega (arith, parts .near 0 0 1 (omega arith) (omega arith) refl, widenedes .1)
+none-closed parts = omega (arith, parts .near 0 0 1 (omega arith) (omega arith) refl, widened-lengths .1)
