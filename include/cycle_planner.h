@@ -1,7 +1,18 @@
-/* The cycle planner as a static library (libcapi.a), for C and C++. Every function answers any planner value, any number and any slice,
- * an empty one too. A slice is a pointer and a length; a pointer that does not hold as many elements as its length says is
+/* The cycle planner as a static library (libcapi.a), for C and C++ on x86-64, which is what the toolchain makes it for. Every function
+ * answers any planner value, any number and any slice, an empty one too. A slice is a pointer and a length; a pointer that does not hold as many elements as its length says is
  * outside what is proved. An empty slice wants a pointer that is not null, aligned for its elements. A mutable slice overlaps nothing else.
- * Document 01's refusal number is in `refusal`, 0 where there is a result. Stack of a call, beside the planner and the answer that the
+ * Document 01's refusal number is in `refusal`, 0 where there is a result:
+ *   1 a plan of no byte, or of more than 16,384     11 a scratch of fewer than 64 numbers
+ *   2 a field is cut short                          12 a field should have stood earlier (strict reading)
+ *   3 an unknown tag                                13 a buffer is too short
+ *   4 a length that the tag does not have           18 a queue above 7, or the same queue twice
+ *   5 a number out of its range                     20 no plan is held
+ *   6 something is given twice                      21 the duration is not admissible: some port fails
+ *   7 a route names a port twice                    22 no duration up to top is admissible
+ *   8 no header, or no flow                         23 top is not admissible
+ *   9 a port or a flow is named that is not given   24 no flow crosses the port, or there is no such port
+ *  10 a duration or start of 0 or above top         26 the steps ended before the search did
+ * Durations, intervals, guard band, jitter and synchronization error are in ns, rates in Mbit/s, lengths in bytes. Stack of a call, beside the planner and the answer that the
  * caller holds: a load 33 KB, a question 8.8 KB. No heap. */
 #ifndef CYCLE_PLANNER_H
 #define CYCLE_PLANNER_H
@@ -49,11 +60,12 @@ cp_load_outcome cp_load_strict(cp_planner planner, const uint8_t *plan, size_t l
 /* The plain question. Result: 0, 0. Refusal 20, 10: 0, 0. 21: first = lowest failing port, second = how many fail. */
 cp_answer cp_check(cp_planner planner, uint64_t duration);
 
-/* A port's spare at a duration. Refusal 20, 10, 24: slack = 0. */
+/* A port's spare at a duration: how much more the port could send in its window, in thousandths of a bit (rate in Mbit/s times ns).
+ * Negative exactly where the port fails; 0 is just enough. Refusal 20, 10, 24: slack = 0. */
 cp_slack_answer cp_slack(cp_planner planner, uint64_t port, uint64_t duration);
 
 /* The least and the margin-safe duration. Result: first = duration in ns, second = 0; the scratch's first 64 numbers are each
- * port's demand there, port n at n - 1. Refusal 20, 11: 0, 0, scratch untouched. 22 (least), 23 (margin-safe): first = lowest
+ * port's demand there in bits on the wire, port n at n - 1, 0 for a port that no flow crosses. Refusal 20, 11: 0, 0, scratch untouched. 22 (least), 23 (margin-safe): first = lowest
  * failing port at top, second = how many fail; the first 64 numbers are the demand at top. Later numbers never change. */
 cp_answer cp_least(cp_planner planner, uint64_t *scratch, size_t length);
 cp_answer cp_margin_safe(cp_planner planner, uint64_t *scratch, size_t length);

@@ -1,3 +1,5 @@
 -- Laws of the numbers.
 pub mod Numbers
 pub mod Meaning
+pub mod StepsMeaning
+pub mod GatesMeaning

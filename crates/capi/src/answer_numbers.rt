@@ -62,7 +62,9 @@ fn load_in_c(answer: LoadAnswer) -> AnswerNumbers
 
 // A load's answer as numbers, beside the planner that it leaves.
 pub(crate) fn outcome_numbers(outcome: LoadOutcome) -> LoadOutcomeNumbers
-    ensures { λ r. ⌜ (planOf (r .planner) ≡ planOf (outcome .planner)) × (r .answer ≡ loadNumbers (loadOf (outcome .answer))) ⌝ }
+    ensures { λ r. ⌜
+        (planOf (r .planner) ≡ planOf (outcome .planner)) × (r .answer ≡ loadNumbers (loadOf (outcome .answer)))
+        ⌝ }
 {
     let planner = outcome.planner;
     let answer = outcome.answer;
@@ -99,7 +101,9 @@ pub(crate) fn slack_in_c(answer: SlackAnswer) -> SlackAnswerNumbers
 
 // For the search whose answer has this number.
 fn search_in_c(refusal: u32, answer: SearchAnswer) -> AnswerNumbers
-    ensures { λ r. ⌜ ((failing : ℕ) → refusal ≡ refusalNumber (searchOf failing answer) → r ≡ searchNumbers (searchOf failing answer)) ⌝ }
+    ensures { λ r. ⌜
+        ((failing : ℕ) → refusal ≡ refusalNumber (searchOf failing answer) → r ≡ searchNumbers (searchOf failing answer))
+        ⌝ }
 {
     match answer {
         SearchAnswer::Duration(duration) => numbered(refusal, duration, 0),

@@ -19,7 +19,7 @@ ghost use Rattle.questions.specs.Outcome.{checkAnswer, slackAnswer, leastAnswer
 ghost use Rattle.questions.specs.FixedPoint.{fixedPointAnswer};
 ghost use Rattle.saving.specs.Save.{saveAnswer, saveLeaves};
 ghost use Rattle.gate_writing.specs.Gates.{gatesAnswer, gatesLeaves};
-ghost use Rattle.capi.specs.Meaning.{CheckNumbersMean};
+ghost use Rattle.capi.specs.Meaning.{CheckNumbersMean, StepsNumbersMean, GatesNumbersMean};
 ghost use Rattle.capi.specs.Numbers.{loadNumbers, checkNumbers, slackNumbers, searchNumbers, stepsNumbers, writtenNumbers, fieldNumbers};
 
 mod answer_numbers; // answer_numbers.rt: each answer as numbers
@@ -83,14 +83,20 @@ pub extern "C" fn cp_repeats(value: &[u8]) -> bool
 
 #[no_mangle]
 pub extern "C" fn cp_load(planner: Planner, plan: &[u8]) -> LoadOutcomeNumbers
-    ensures { λ r. ⌜ (planOf (r .planner) ≡ loadLeaves loose (planOf planner) (now (plan .entry))) × (r .answer ≡ loadNumbers (loadAnswer loose (now (plan .entry)))) ⌝ }
+    ensures { λ r. ⌜
+        (planOf (r .planner) ≡ loadLeaves loose (planOf planner) (now (plan .entry)))
+        × (r .answer ≡ loadNumbers (loadAnswer loose (now (plan .entry))))
+        ⌝ }
 {
     outcome_numbers(planner::read_plan(false, planner, plan))
 }
 
 #[no_mangle]
 pub extern "C" fn cp_load_strict(planner: Planner, plan: &[u8]) -> LoadOutcomeNumbers
-    ensures { λ r. ⌜ (planOf (r .planner) ≡ loadLeaves strict (planOf planner) (now (plan .entry))) × (r .answer ≡ loadNumbers (loadAnswer strict (now (plan .entry)))) ⌝ }
+    ensures { λ r. ⌜
+        (planOf (r .planner) ≡ loadLeaves strict (planOf planner) (now (plan .entry)))
+        × (r .answer ≡ loadNumbers (loadAnswer strict (now (plan .entry))))
+        ⌝ }
 {
     outcome_numbers(planner::read_plan(true, planner, plan))
 }
@@ -113,36 +119,48 @@ pub extern "C" fn cp_slack(planner: Planner, port: u64, duration: u64) -> SlackA
 
 #[no_mangle]
 pub extern "C" fn cp_least(planner: Planner, scratch: &mut [u64]) -> AnswerNumbers
-    ensures { λ r. ⌜ (r ≡ searchNumbers (leastAnswer (planOf planner) (now (scratch .entry)))) × (now (scratch .exit) ≡ leastLeaves (planOf planner) (now (scratch .entry))) ⌝ }
+    ensures { λ r. ⌜
+        (r ≡ searchNumbers (leastAnswer (planOf planner) (now (scratch .entry))))
+        × (now (scratch .exit) ≡ leastLeaves (planOf planner) (now (scratch .entry)))
+        ⌝ }
 {
     least_in_c(planner::least(planner, scratch))
 }
 
 #[no_mangle]
 pub extern "C" fn cp_margin_safe(planner: Planner, scratch: &mut [u64]) -> AnswerNumbers
-    ensures { λ r. ⌜ (r ≡ searchNumbers (marginSafeAnswer (planOf planner) (now (scratch .entry)))) × (now (scratch .exit) ≡ marginSafeLeaves (planOf planner) (now (scratch .entry))) ⌝ }
+    ensures { λ r. ⌜
+        (r ≡ searchNumbers (marginSafeAnswer (planOf planner) (now (scratch .entry))))
+        × (now (scratch .exit) ≡ marginSafeLeaves (planOf planner) (now (scratch .entry)))
+        ⌝ }
 {
     margin_safe_in_c(planner::margin_safe(planner, scratch))
 }
 
+// The numbers mean what the answer of `planner::fixed_point` means.
 #[no_mangle]
 pub extern "C" fn cp_fixed_point(
     planner: Planner,
     start: u64,
     steps: u64,
 ) -> FixedPointAnswerNumbers
-    ensures { λ r. ⌜ r ≡ stepsNumbers (fixedPointAnswer (planOf planner) start steps) ⌝ }
+    ensures answers { λ r. ⌜ r ≡ stepsNumbers (fixedPointAnswer (planOf planner) start steps) ⌝ }
+    ensures means { λ r. ⌜ StepsNumbersMean (planOf planner) start steps r ⌝ }
 {
     fixed_point_in_c(planner::fixed_point(planner, start, steps))
 }
 
 #[no_mangle]
 pub extern "C" fn cp_save(planner: Planner, buffer: &mut [u8]) -> AnswerNumbers
-    ensures { λ r. ⌜ (r ≡ writtenNumbers (saveAnswer (planOf planner) (now (buffer .entry)))) × (now (buffer .exit) ≡ saveLeaves (planOf planner) (now (buffer .entry))) ⌝ }
+    ensures { λ r. ⌜
+        (r ≡ writtenNumbers (saveAnswer (planOf planner) (now (buffer .entry))))
+        × (now (buffer .exit) ≡ saveLeaves (planOf planner) (now (buffer .entry)))
+        ⌝ }
 {
     save_in_c(planner::save(planner, buffer))
 }
 
+// 0 means that the bytes written play two cycles of the plan held.
 #[no_mangle]
 pub extern "C" fn cp_gates(
     planner: Planner,
@@ -151,7 +169,11 @@ pub extern "C" fn cp_gates(
     odd: u64,
     buffer: &mut [u8],
 ) -> AnswerNumbers
-    ensures { λ r. ⌜ (r ≡ writtenNumbers (gatesAnswer (planOf planner) duration even odd (now (buffer .entry)))) × (now (buffer .exit) ≡ gatesLeaves (planOf planner) duration even odd (now (buffer .entry))) ⌝ }
+    ensures answers { λ r. ⌜
+        (r ≡ writtenNumbers (gatesAnswer (planOf planner) duration even odd (now (buffer .entry))))
+        × (now (buffer .exit) ≡ gatesLeaves (planOf planner) duration even odd (now (buffer .entry)))
+        ⌝ }
+    ensures means { λ r. ⌜ GatesNumbersMean (planOf planner) duration even odd (now (buffer .entry)) (now (buffer .exit)) r ⌝ }
 {
     gates_in_c(planner::gates(planner, duration, even, odd, buffer))
 }

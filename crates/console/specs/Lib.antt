@@ -1,11 +1,14 @@
 -- What reading the input gives, and what is loaded of it.
-use mathlib.Core.List.{List}
-use Prim.Native.Nat.{ℕ, _≤_}
+use mathlib.Core.Path.{_≡_}
+use mathlib.Core.Bool.{Bool, true, false}
+use mathlib.Core.List.{List, []}
+use Prim.Native.Nat.{ℕ, _+_, _≤_}
+use lib.ListN.{length, take}
 use Rattle.cqf.specs.Plan.{noPlan}
-use Rattle.plan_reading.specs.Reading.{loose}
+use Rattle.plan_reading.specs.Reading.{loose, maxBytes}
 use Rattle.loading.specs.Answer.{Loads}
-use Rattle.loading.specs.declared.LoadOutcome.{LoadOutcome}
 use Rattle.console.specs.declared.Input.{Input}
+use Rattle.console.specs.declared.Given.{Given}
 pub mod laws
 
 -- as many bytes as the buffer has room for, or fewer
@@ -13,7 +16,29 @@ abbrev pub Within : ℕ → Input → Type 0
 Within room (Input.Bytes n) = n ≤ room
 Within room Input.Failed = Unit {0}
 
--- some bytes, loaded loosely into the empty planner; no contract can say which bytes an input has
-pub record LoadedInput (outcome : LoadOutcome) : Type 0 where
-  pub bytes : List ℕ
-  pub loads : Loads loose noPlan bytes outcome
+-- whether the input could be read, and the bytes that were read of it: the first of the buffer, none where it could not
+abbrev pub readable : Input → Bool
+readable (Input.Bytes n) = true
+readable Input.Failed = false
+
+abbrev pub bytesRead : (buffer : List ℕ) → Input → List ℕ
+bytesRead buffer (Input.Bytes n) = take n buffer
+bytesRead buffer Input.Failed = []
+
+-- these bytes loaded loosely into the empty planner, and whether they could be read
+pub record LoadedAs (could : Bool) (bytes : List ℕ) (given : Given) : Type 0 where
+  pub told : given .readable ≡ could
+  pub loads : Loads loose noPlan bytes (given .outcome)
+
+-- the bytes that were read into a buffer, loaded
+pub record LoadedFrom (buffer : List ℕ) (given : Given) : Type 0 where
+  pub input : Input
+  pub within : Within (length buffer) input
+  pub loaded : LoadedAs (readable input) (bytesRead buffer input) given
+
+-- The same of the input of a program, of which one byte more than a plan may have is read. No contract can say which bytes an input
+-- has.
+pub record LoadedInput (given : Given) : Type 0 where
+  pub buffer : List ℕ
+  pub room : length buffer ≡ maxBytes + 1
+  pub from : LoadedFrom buffer given

@@ -1,7 +1,7 @@
 // The programs' input and output: the plan on standard input, loaded into the empty planner, and what they print of a refusal.
 ghost use Prim.Native.Nat.{_≤_};
 ghost use lib.ListN.{length};
-ghost use Rattle.console.specs.{Within, LoadedInput};
+ghost use Rattle.console.specs.{Within, LoadedAs, LoadedFrom, LoadedInput};
 use libc::STDERR_FILENO;
 use libc::STDIN_FILENO;
 use libc::STDOUT_FILENO;
@@ -21,42 +21,78 @@ pub struct Given {
     pub outcome: LoadOutcome,
 }
 
-pub fn say_number(n: u64) {
-    io::print_decimal(STDOUT_FILENO, n);
+// Where a program writes, and whether all that it wrote there went through. After a write that failed nothing more is written.
+pub struct Output {
+    to: i32,
+    whole: bool,
 }
 
-pub fn say(text: &[u8]) {
-    io::write_all(STDOUT_FILENO, text);
+pub fn standard_output() -> Output {
+    Output {
+        to: STDOUT_FILENO,
+        whole: true,
+    }
 }
 
-pub fn say_refused(refusal: u32) {
-    put_refused(STDOUT_FILENO, refusal);
+// For what is no result.
+pub fn standard_error() -> Output {
+    Output {
+        to: STDERR_FILENO,
+        whole: true,
+    }
+}
+
+pub fn say(out: Output, text: &[u8]) -> Output {
+    if !out.whole {
+        return out;
+    }
+    Output {
+        to: out.to,
+        whole: io::write_all(out.to, text),
+    }
+}
+
+pub fn say_number(out: Output, n: u64) -> Output {
+    if !out.whole {
+        return out;
+    }
+    Output {
+        to: out.to,
+        whole: io::print_decimal(out.to, n),
+    }
+}
+
+// At least so many hexadecimal digits.
+pub fn say_hex(out: Output, n: u64, width: usize) -> Output {
+    if !out.whole {
+        return out;
+    }
+    Output {
+        to: out.to,
+        whole: io::print_hex(out.to, n, width),
+    }
+}
+
+pub fn say_refused(out: Output, refusal: u32) -> Output {
+    say_number(say(out, b"refused "), refusal as u64)
 }
 
 // Of a plan that is not held.
-pub fn say_refused_plan(readable: bool, refusal: u32, offset: usize) {
-    put_refused_plan(STDOUT_FILENO, readable, refusal, offset);
-}
-
-// The same on standard error, for a program whose output is no text.
-pub fn report_refused_plan(readable: bool, refusal: u32, offset: usize) {
-    put_refused_plan(STDERR_FILENO, readable, refusal, offset);
-}
-
-fn put_refused(to: i32, refusal: u32) {
-    io::write_all(to, b"refused ");
-    io::print_decimal(to, refusal as u64);
-}
-
-fn put_refused_plan(to: i32, readable: bool, refusal: u32, offset: usize) {
+pub fn say_refused_plan(out: Output, readable: bool, refusal: u32, offset: usize) -> Output {
     if !readable {
-        io::write_all(to, b"cannot read the plan\n");
-        return;
+        return say(out, b"cannot read the plan\n");
     }
-    put_refused(to, refusal);
-    io::write_all(to, b" place ");
-    io::print_decimal(to, offset as u64);
-    io::write_all(to, b"\n");
+    let out = say_refused(out, refusal);
+    let out = say(out, b" place ");
+    let out = say_number(out, offset as u64);
+    say(out, b"\n")
+}
+
+// The last thing that a program does with an output: a write that failed is told on standard error.
+pub fn finish(out: Output) {
+    if !out.whole {
+        io::write_all(STDERR_FILENO, b"cannot write\n");
+    }
 }
 
 // One read, into the part of the buffer that is still free.
@@ -94,14 +130,14 @@ fn read_input(buffer: &mut [u8]) -> Input
 }
 
 fn load_bytes(readable: bool, bytes: &[u8]) -> Given
-    ensures { λ r. ⌜ LoadedInput (r .outcome) ⌝ }
+    ensures { λ r. ⌜ LoadedAs readable (now (bytes .entry)) r ⌝ }
 {
     let outcome = planner::load(planner::empty(), bytes);
     Given { readable, outcome }
 }
 
 fn load_input(buffer: &mut [u8]) -> Given
-    ensures { λ r. ⌜ LoadedInput (r .outcome) ⌝ }
+    ensures { λ r. ⌜ LoadedFrom (now (buffer .exit)) r ⌝ }
 {
     let input = read_input(buffer);
     match input {
@@ -112,7 +148,7 @@ fn load_input(buffer: &mut [u8]) -> Given
 
 // The planner is the one that a load of the bytes read leaves, and the answer is that load's.
 pub fn given_plan() -> Given
-    ensures { λ r. ⌜ LoadedInput (r .outcome) ⌝ }
+    ensures { λ r. ⌜ LoadedInput r ⌝ }
 {
     let mut buffer = [0u8; ROOM];
     load_input(&mut buffer)

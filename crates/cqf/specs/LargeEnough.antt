@@ -6,7 +6,7 @@ use Prim.Native.Nat.{ℕ, suc, _+_, _*_, _≤_, _<_}
 use lib.ListN.{length, getD}
 use Rattle.cqf.specs.Plan.{Plan, routeOf, clocksEqual}
 use Rattle.cqf.specs.Condition.{admissible}
-use Rattle.cqf.specs.Emission.{Emission, Keeps}
+use Rattle.cqf.specs.Emission.{Emission, Keeps, NominalsInOrder}
 use Rattle.cqf.specs.Cycles.{Cycles, Permitted}
 use Rattle.cqf.specs.Run.{Overruns, Leaves, MayEnd}
 
@@ -17,6 +17,11 @@ pub record Counterexample (p : Plan) (T : ℕ) : Type 0 where
   pub cycles : Cycles
   pub permitted : Permitted p T emission cycles
   pub overruns : Overruns p T cycles
+
+-- one whose nominal instants also never fall: it keeps the contract too where that asks their order
+pub record OrderedCounterexample (p : Plan) (T : ℕ) : Type 0 where
+  pub one : Counterexample p T
+  pub ordered : NominalsInOrder (one .keeps)
 
 -- Frame k of flow f, emitted at t in the cycle own and with h ports on its route, leaves the last of them in the h-th cycle after
 -- its own and in no other. Where clocks are taken as equal, in every cycle in which it leaves that port, and for every instant at
@@ -42,8 +47,10 @@ AllOnTime p T =
     → k < length (e f)
     → OnTime p T cycles f k (getD (e f) k 0) (getD (cycles f) k 0) (length (routeOf p f))
 
--- T is refused exactly when some emission that keeps every contract leaves a frame unsent in some permitted cycles; where it is
--- accepted, every frame of every such emission is on time in all of them
+-- T is refused exactly when some emission that keeps every contract leaves a frame unsent in some permitted cycles, and then one
+-- with its nominal instants in order does; where T is accepted, every frame of every such emission, in order or not, is on time in
+-- all of them
 pub record LargeEnough (p : Plan) (T : ℕ) : Type 0 where
   pub refused : admissible p T ≡ false ↔ Counterexample p T
+  pub refused-in-order : admissible p T ≡ false → OrderedCounterexample p T
   pub accepted : admissible p T ≡ true → AllOnTime p T

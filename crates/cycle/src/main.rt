@@ -1,47 +1,49 @@
 // Reads a plan from standard input and prints its counts, its header's numbers, and the least and the margin-safe duration.
+use console::Output;
 use console::say;
 use console::say_number;
 use console::say_refused;
+use console::say_refused_plan;
 use planner::LoadAnswer;
 use planner::Planner;
 use planner::SearchAnswer;
 
-fn say_held(planner: Planner, ports: u16, flows: u16) {
-    say(b"ports ");
-    say_number(ports as u64);
-    say(b" flows ");
-    say_number(flows as u64);
-    say(b" guard ");
-    say_number(planner.guard as u64);
-    say(b" top ");
-    say_number(planner.top as u64);
-    say(b"\n");
+fn say_held(out: Output, planner: Planner, ports: u16, flows: u16) -> Output {
+    let out = say(out, b"ports ");
+    let out = say_number(out, ports as u64);
+    let out = say(out, b" flows ");
+    let out = say_number(out, flows as u64);
+    let out = say(out, b" guard ");
+    let out = say_number(out, planner.guard as u64);
+    let out = say(out, b" top ");
+    let out = say_number(out, planner.top as u64);
+    say(out, b"\n")
 }
 
-fn say_search(refusal: u32, answer: SearchAnswer) {
+fn say_found(out: Output, refusal: u32, answer: SearchAnswer) -> Output {
     match answer {
-        SearchAnswer::Duration(duration) => say_number(duration),
+        SearchAnswer::Duration(duration) => say_number(out, duration),
         SearchAnswer::Failing { port, count: _ } => {
-            say_refused(refusal);
-            say(b" port ");
-            say_number(port as u64);
+            let out = say_refused(out, refusal);
+            let out = say(out, b" port ");
+            say_number(out, port as u64)
         }
-        _ => say_refused(refusal),
+        _ => say_refused(out, refusal),
     }
-    say(b"\n");
 }
 
-fn say_searches(planner: Planner) {
+fn say_searches(out: Output, planner: Planner) -> Output {
     let mut scratch = [0u64; 64];
-    say(b"least ");
+    let out = say(out, b"least ");
     let least = planner::least(planner, &mut scratch);
-    say_search(planner::least_number(least), least);
-    say(b"safe ");
+    let out = say_found(out, planner::least_number(least), least);
+    let out = say(out, b"\nsafe ");
     let safe = planner::margin_safe(planner, &mut scratch);
-    say_search(planner::margin_safe_number(safe), safe);
+    let out = say_found(out, planner::margin_safe_number(safe), safe);
+    say(out, b"\n")
 }
 
-fn main() {
+fn say_plan(out: Output) -> Output {
     let given = console::given_plan();
     let readable = given.readable;
     let outcome = given.outcome;
@@ -49,11 +51,12 @@ fn main() {
     let answer = outcome.answer;
     match answer {
         LoadAnswer::Refused { fault: _, offset } => {
-            console::say_refused_plan(readable, planner::load_number(answer), offset)
+            say_refused_plan(out, readable, planner::load_number(answer), offset)
         }
-        LoadAnswer::Held { ports, flows } => {
-            say_held(held, ports, flows);
-            say_searches(held);
-        }
+        LoadAnswer::Held { ports, flows } => say_searches(say_held(out, held, ports, flows), held),
     }
+}
+
+fn main() {
+    console::finish(say_plan(console::standard_output()));
 }

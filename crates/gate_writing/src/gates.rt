@@ -7,6 +7,7 @@ use crate::list::put_list;
 use crate::states::queues_ok;
 use numbers::clock::Clock;
 use questions::check_tables;
+use tables::columns;
 ghost use Rattle.numbers.specs.Clock.{clockOf};
 ghost use Rattle.tables.specs.Columns.{planBy};
 ghost use Rattle.gate_writing.specs.Answer.{gatesOf};
@@ -18,21 +19,27 @@ pub fn gates_tables<'a>(
     guard: u32,
     top: u32,
     clock: Clock,
-    rates: &'a [u32; 64],
-    blockings: &'a [u16; 64],
-    extras: &'a [u8; 64],
-    periods: &'a [u32; 256],
-    counts: &'a [u16; 256],
-    lengths: &'a [u16; 256],
-    jitters: &'a [u32; 256],
-    hops: &'a [u8; 256],
-    routes: &'a [u8; 4096],
+    rates: &'a columns::Rates,
+    blockings: &'a columns::Blockings,
+    extras: &'a columns::Extras,
+    periods: &'a columns::Periods,
+    counts: &'a columns::Counts,
+    lengths: &'a columns::Lengths,
+    jitters: &'a columns::Jitters,
+    hops: &'a columns::Hops,
+    routes: &'a columns::Routes,
     duration: u64,
     even: u64,
     odd: u64,
     buffer: &mut [u8],
 ) -> GatesAnswer
-    ensures { λ r. ⌜ Gated (planBy guard top (clockOf clock) (now (rates .entry)) (now (blockings .entry)) (now (extras .entry)) (now (periods .entry)) (now (counts .entry)) (now (lengths .entry)) (now (jitters .entry)) (now (hops .entry)) (now (routes .entry))) duration even odd (now (buffer .entry)) (gatesOf r) (now (buffer .exit)) ⌝ }
+    ensures { λ r. ⌜
+        Gated
+        (planBy guard top (clockOf clock) (now (rates .entry)) (now (blockings .entry)) (now (extras .entry))
+        (now (periods .entry)) (now (counts .entry)) (now (lengths .entry)) (now (jitters .entry))
+        (now (hops .entry)) (now (routes .entry)))
+        duration even odd (now (buffer .entry)) (gatesOf r) (now (buffer .exit))
+        ⌝ }
 {
     let verdict = check_tables(
         guard,

@@ -1,23 +1,26 @@
-// Reads a plan from standard input and prints the gate control list of a duration for two queues, as lines that Linux's tc takes;
-// duration, even queue and odd queue are the arguments.
+// Reads a plan from standard input and prints the gate control list of a duration for two queues, as lines in the form that Linux's
+// tc takes; duration, even queue and odd queue are the arguments. What is no list stands on standard error.
 mod decimal; // decimal.rt: a number written in decimal digits
 mod entry; // entry.rt: the fields of a written list
+mod shortest; // shortest.rt: whether taprio may refuse it
 
 use console::say;
 use console::say_number;
 use console::say_refused;
+use console::say_refused_plan;
 use decimal::Parsed;
 use decimal::decimal;
 use entry::say_list;
 use planner::GatesAnswer;
 use planner::LoadAnswer;
 use planner::Planner;
+use shortest::warn;
 
 // The program's name, and its three arguments.
 const WORDS: usize = 4;
 
 // The longest list: six fields.
-const LIST: usize = 48;
+const MOST_BYTES: usize = 48;
 
 // An argument that is missing, empty, or longer than 4,096 bytes counts as no number.
 fn argument(i: usize) -> Parsed {
@@ -26,23 +29,28 @@ fn argument(i: usize) -> Parsed {
     decimal(&text[..n])
 }
 
-fn say_answer(answer: GatesAnswer) {
-    say_refused(planner::gates_number(answer));
+fn report_answer(answer: GatesAnswer) {
+    let out = say_refused(console::standard_error(), planner::gates_number(answer));
     if let GatesAnswer::Failing { port, count } = answer {
-        say(b" port ");
-        say_number(port as u64);
-        say(b" failing ");
-        say_number(count as u64);
+        let out = say(out, b" port ");
+        let out = say_number(out, port as u64);
+        let out = say(out, b" failing ");
+        let out = say_number(out, count as u64);
+        say(out, b"\n");
+        return;
     }
-    say(b"\n");
+    say(out, b"\n");
 }
 
 fn say_gates(planner: Planner, duration: u64, even: u64, odd: u64) {
-    let mut list = [0u8; LIST];
+    let mut list = [0u8; MOST_BYTES];
     let answer = planner::gates(planner, duration, even, odd, &mut list);
     match answer {
-        GatesAnswer::Written(n) => say_list(&list[..n]),
-        _ => say_answer(answer),
+        GatesAnswer::Written(n) => {
+            warn(planner, duration);
+            console::finish(say_list(&list[..n]));
+        }
+        _ => report_answer(answer),
     }
 }
 
@@ -54,31 +62,39 @@ fn plan_gates(duration: u64, even: u64, odd: u64) {
     let answer = outcome.answer;
     match answer {
         LoadAnswer::Refused { fault: _, offset } => {
-            console::say_refused_plan(readable, planner::load_number(answer), offset)
+            say_refused_plan(
+                console::standard_error(),
+                readable,
+                planner::load_number(answer),
+                offset,
+            );
         }
         LoadAnswer::Held { ports: _, flows: _ } => say_gates(held, duration, even, odd),
     }
 }
 
-fn say_usage() {
-    say(b"usage: gates DURATION EVEN ODD\n");
+fn report_usage() {
+    say(
+        console::standard_error(),
+        b"usage: gates DURATION EVEN ODD\n",
+    );
 }
 
 fn main() {
     if os::arg_count() != WORDS {
-        say_usage();
+        report_usage();
         return;
     }
     let Parsed::Number(duration) = argument(1) else {
-        say_usage();
+        report_usage();
         return;
     };
     let Parsed::Number(even) = argument(2) else {
-        say_usage();
+        report_usage();
         return;
     };
     let Parsed::Number(odd) = argument(3) else {
-        say_usage();
+        report_usage();
         return;
     };
     plan_gates(duration, even, odd);

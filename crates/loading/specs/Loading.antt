@@ -1,13 +1,14 @@
 -- The load's working values, as the definitions of the reading have them.
 use Prim.Native.Nat.{ℕ}
 use mathlib.Core.Path.{_≡_}
-use mathlib.Core.Bool.{Bool, true, false}
+use mathlib.Core.Bool.{Bool}
 use mathlib.Core.List.{List}
 use Rattle.cqf.specs.Plan.{Plan}
 use Rattle.numbers.specs.Clock.{clockOf}
 use Rattle.plan.specs.Answer.{faultNumber}
 use Rattle.plan_reading.specs.Draft.{Draft}
 use Rattle.plan_reading.specs.Reading.{PlanRead, accepted, rejected, Step, stop, more, namesAbsent, jitterAbsent, extraAbsent, closing}
+use Rattle.tables.specs.Columns.{planBy}
 use Rattle.loading.specs.declared.LoadAnswer.{LoadAnswer}
 use Rattle.loading.specs.declared.first.Sought.{Sought}
 use Rattle.loading.specs.declared.store.Totals.{Totals}
@@ -17,20 +18,7 @@ use Rattle.loading.specs.declared.field.Progress.{Progress}
 abbrev pub draftOf : Totals → (rates blockings extras periods counts lengths jitters hops routes seen : List ℕ) → Draft
 draftOf t rates blockings extras periods counts lengths jitters hops routes seen =
     record {
-      tables = record {
-        guard = t .guard;
-        top = t .top;
-        clock = clockOf (t .clock);
-        rates = rates;
-        blockings = blockings;
-        extras = extras;
-        periods = periods;
-        counts = counts;
-        lengths = lengths;
-        jitters = jitters;
-        hops = hops;
-        routes = routes;
-      };
+      tables = planBy (t .guard) (t .top) (clockOf (t .clock)) rates blockings extras periods counts lengths jitters hops routes;
       seen = seen;
       ports = t .ports;
       flows = t .flows;

@@ -11,6 +11,7 @@ use plan::read::read_field;
 use plan::route::route_bytes;
 use plan::route::route_repeats;
 use plan::split::field_value;
+use tables::columns;
 ghost use Prim.Native.Nat.{_≤_};
 ghost use mathlib.Core.Path.{_≡_};
 ghost use Rattle.plan.specs.Field.{field, fieldAt, routePorts};
@@ -66,19 +67,28 @@ fn take_field(
     x: Field,
     next: usize,
     totals: Totals,
-    rates: &mut [u32; 64],
-    blockings: &mut [u16; 64],
-    extras: &mut [u8; 64],
-    periods: &mut [u32; 256],
-    counts: &mut [u16; 256],
-    lengths: &mut [u16; 256],
-    jitters: &mut [u32; 256],
-    hops: &mut [u8; 256],
-    routes: &mut [u8; 4096],
+    rates: &mut columns::Rates,
+    blockings: &mut columns::Blockings,
+    extras: &mut columns::Extras,
+    periods: &mut columns::Periods,
+    counts: &mut columns::Counts,
+    lengths: &mut columns::Lengths,
+    jitters: &mut columns::Jitters,
+    hops: &mut columns::Hops,
+    routes: &mut columns::Routes,
     seen: &mut [u8; KEYS],
 ) -> Progress
-    requires { ⌜ (totals .ports ≤ maxBytes) × (totals .flows ≤ maxBytes) × (fieldAt (now plan) at ≡ field (fieldOf x) next) ⌝ }
-    ensures { λ r. ⌜ progressOf r (now (rates .exit)) (now (blockings .exit)) (now (extras .exit)) (now (periods .exit)) (now (counts .exit)) (now (lengths .exit)) (now (jitters .exit)) (now (hops .exit)) (now (routes .exit)) (now (seen .exit)) ≡ stepAt (modeOf strict) (now (plan .entry)) at last (draftOf totals (now (rates .entry)) (now (blockings .entry)) (now (extras .entry)) (now (periods .entry)) (now (counts .entry)) (now (lengths .entry)) (now (jitters .entry)) (now (hops .entry)) (now (routes .entry)) (now (seen .entry))) ⌝ }
+    requires { ⌜
+        (totals .ports ≤ maxBytes) × (totals .flows ≤ maxBytes) × (fieldAt (now plan) at ≡ field (fieldOf x) next)
+        ⌝ }
+    ensures { λ r. ⌜
+        progressOf r (now (rates .exit)) (now (blockings .exit)) (now (extras .exit)) (now (periods .exit))
+        (now (counts .exit)) (now (lengths .exit)) (now (jitters .exit)) (now (hops .exit)) (now (routes .exit))
+        (now (seen .exit)) ≡ stepAt (modeOf strict) (now (plan .entry)) at last
+        (draftOf totals (now (rates .entry)) (now (blockings .entry)) (now (extras .entry)) (now (periods .entry))
+        (now (counts .entry)) (now (lengths .entry)) (now (jitters .entry)) (now (hops .entry))
+        (now (routes .entry)) (now (seen .entry)))
+        ⌝ }
 {
     let key = key_of(x);
     if 0 < seen[key] {
@@ -129,19 +139,26 @@ pub(crate) fn step(
     at: usize,
     last: usize,
     totals: Totals,
-    rates: &mut [u32; 64],
-    blockings: &mut [u16; 64],
-    extras: &mut [u8; 64],
-    periods: &mut [u32; 256],
-    counts: &mut [u16; 256],
-    lengths: &mut [u16; 256],
-    jitters: &mut [u32; 256],
-    hops: &mut [u8; 256],
-    routes: &mut [u8; 4096],
+    rates: &mut columns::Rates,
+    blockings: &mut columns::Blockings,
+    extras: &mut columns::Extras,
+    periods: &mut columns::Periods,
+    counts: &mut columns::Counts,
+    lengths: &mut columns::Lengths,
+    jitters: &mut columns::Jitters,
+    hops: &mut columns::Hops,
+    routes: &mut columns::Routes,
     seen: &mut [u8; KEYS],
 ) -> Progress
     requires { ⌜ (totals .ports ≤ maxBytes) × (totals .flows ≤ maxBytes) ⌝ }
-    ensures { λ r. ⌜ progressOf r (now (rates .exit)) (now (blockings .exit)) (now (extras .exit)) (now (periods .exit)) (now (counts .exit)) (now (lengths .exit)) (now (jitters .exit)) (now (hops .exit)) (now (routes .exit)) (now (seen .exit)) ≡ stepAt (modeOf strict) (now (plan .entry)) at last (draftOf totals (now (rates .entry)) (now (blockings .entry)) (now (extras .entry)) (now (periods .entry)) (now (counts .entry)) (now (lengths .entry)) (now (jitters .entry)) (now (hops .entry)) (now (routes .entry)) (now (seen .entry))) ⌝ }
+    ensures { λ r. ⌜
+        progressOf r (now (rates .exit)) (now (blockings .exit)) (now (extras .exit)) (now (periods .exit))
+        (now (counts .exit)) (now (lengths .exit)) (now (jitters .exit)) (now (hops .exit)) (now (routes .exit))
+        (now (seen .exit)) ≡ stepAt (modeOf strict) (now (plan .entry)) at last
+        (draftOf totals (now (rates .entry)) (now (blockings .entry)) (now (extras .entry)) (now (periods .entry))
+        (now (counts .entry)) (now (lengths .entry)) (now (jitters .entry)) (now (hops .entry))
+        (now (routes .entry)) (now (seen .entry)))
+        ⌝ }
 {
     match read_field(plan, at) {
         FieldRead::Field { field, next } => take_field(

@@ -13,6 +13,7 @@ use plan::route::route_port;
 use plan::split::HEAD_SIZE;
 use plan::split::field_value;
 use plan::split::split_head;
+use tables::columns;
 ghost use mathlib.Core.Path.{_≡_};
 ghost use mathlib.Core.Bool.{true, not};
 ghost use Rattle.cqf.specs.Bounded.{every};
@@ -31,7 +32,7 @@ enum Sought {
 }
 
 // Whether a port of this number is in the plan.
-fn has_port(rates: &[u32; 64], number: u16) -> bool
+fn has_port(rates: &columns::Rates, number: u16) -> bool
     ensures { λ r. ⌜ r ≡ portIn (now (rates .entry)) number ⌝ }
 {
     if !port_ok(number) {
@@ -42,7 +43,7 @@ fn has_port(rates: &[u32; 64], number: u16) -> bool
 }
 
 // Whether a flow of this number is in the plan.
-fn has_flow(periods: &[u32; 256], number: u16) -> bool
+fn has_flow(periods: &columns::Periods, number: u16) -> bool
     ensures { λ r. ⌜ r ≡ hasFlow (now (periods .entry)) number ⌝ }
 {
     if !flow_ok(number) {
@@ -53,7 +54,7 @@ fn has_flow(periods: &[u32; 256], number: u16) -> bool
 }
 
 // Whether a route names a port not in the plan.
-fn route_absent(route: &[u8], rates: &[u32; 64]) -> bool
+fn route_absent(route: &[u8], rates: &columns::Rates) -> bool
     ensures { λ r. ⌜ r ≡ not (every (portIn (now (rates .entry))) (routePorts (now (route .entry)))) ⌝ }
 {
     let hops = route_len(route);
@@ -68,7 +69,7 @@ fn route_absent(route: &[u8], rates: &[u32; 64]) -> bool
 }
 
 // The same of the whole field at this offset, which may be no flow.
-fn names_absent(plan: &[u8], at: usize, tag: u8, rates: &[u32; 64]) -> bool
+fn names_absent(plan: &[u8], at: usize, tag: u8, rates: &columns::Rates) -> bool
     requires { ⌜ (wholeAt (now plan) at ≡ true) × (tag ≡ tagAt (now plan) at) ⌝ }
     ensures { λ r. ⌜ r ≡ namesAbsent (now (rates .entry)) (now (plan .entry)) at ⌝ }
 {
@@ -79,7 +80,7 @@ fn names_absent(plan: &[u8], at: usize, tag: u8, rates: &[u32; 64]) -> bool
 }
 
 // Whether the whole field at this offset says the jitter of a flow not in the plan.
-fn jitter_absent(plan: &[u8], at: usize, tag: u8, periods: &[u32; 256]) -> bool
+fn jitter_absent(plan: &[u8], at: usize, tag: u8, periods: &columns::Periods) -> bool
     requires { ⌜ (wholeAt (now plan) at ≡ true) × (tag ≡ tagAt (now plan) at) ⌝ }
     ensures { λ r. ⌜ r ≡ jitterAbsent (now (periods .entry)) (now (plan .entry)) at ⌝ }
 {
@@ -90,7 +91,7 @@ fn jitter_absent(plan: &[u8], at: usize, tag: u8, periods: &[u32; 256]) -> bool
 }
 
 // Whether the whole field at this offset says the extra bytes of a port not in the plan.
-fn extra_absent(plan: &[u8], at: usize, tag: u8, rates: &[u32; 64]) -> bool
+fn extra_absent(plan: &[u8], at: usize, tag: u8, rates: &columns::Rates) -> bool
     requires { ⌜ (wholeAt (now plan) at ≡ true) × (tag ≡ tagAt (now plan) at) ⌝ }
     ensures { λ r. ⌜ r ≡ extraAbsent (now (rates .entry)) (now (plan .entry)) at ⌝ }
 {
@@ -106,8 +107,8 @@ fn is_sought(
     plan: &[u8],
     at: usize,
     tag: u8,
-    rates: &[u32; 64],
-    periods: &[u32; 256],
+    rates: &columns::Rates,
+    periods: &columns::Periods,
 ) -> bool
     requires { ⌜ (wholeAt (now plan) at ≡ true) × (tag ≡ tagAt (now plan) at) ⌝ }
     ensures { λ r. ⌜ r ≡ soughtIn sought (now (rates .entry)) (now (periods .entry)) (now (plan .entry)) at ⌝ }
@@ -120,7 +121,12 @@ fn is_sought(
 }
 
 // The offset of the first field that is sought; the plan's length where none is.
-fn first_field(plan: &[u8], sought: Sought, rates: &[u32; 64], periods: &[u32; 256]) -> usize
+fn first_field(
+    plan: &[u8],
+    sought: Sought,
+    rates: &columns::Rates,
+    periods: &columns::Periods,
+) -> usize
     ensures { λ r. ⌜ r ≡ firstField (soughtIn sought (now (rates .entry)) (now (periods .entry))) (now (plan .entry)) ⌝ }
 {
     let mut at = 0;
@@ -139,7 +145,7 @@ fn first_field(plan: &[u8], sought: Sought, rates: &[u32; 64], periods: &[u32; 2
 
 // Test 9: the first flow that names a port not in the plan; where there is none the first jitter of a flow not in it; where there
 // is none either the first extra bytes of a port not in it; the plan's length where there are none of these.
-pub(crate) fn first_absent(plan: &[u8], rates: &[u32; 64], periods: &[u32; 256]) -> usize
+pub(crate) fn first_absent(plan: &[u8], rates: &columns::Rates, periods: &columns::Periods) -> usize
     ensures { λ r. ⌜ r ≡ firstAbsent (now (rates .entry)) (now (periods .entry)) (now (plan .entry)) ⌝ }
 {
     let route = first_field(plan, Sought::AbsentPort, rates, periods);

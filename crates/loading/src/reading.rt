@@ -12,7 +12,11 @@ use crate::store::KEYS;
 use crate::store::Totals;
 use numbers::clock::Clock;
 use plan::Fault;
+use tables::FLOWS;
+use tables::PORTS;
 use tables::Planner;
+use tables::STRIDE;
+use tables::columns;
 ghost use mathlib.Core.Path.{_≡_};
 ghost use Rattle.cqf.specs.Bounded.{within};
 ghost use Rattle.plan_reading.specs.Reading.{loose, strict, maxBytes};
@@ -25,11 +29,13 @@ fn close(
     plan: &[u8],
     ports: u16,
     flows: u16,
-    rates: &[u32; 64],
-    periods: &[u32; 256],
+    rates: &columns::Rates,
+    periods: &columns::Periods,
     seen: &[u8; KEYS],
 ) -> LoadAnswer
-    ensures { λ r. ⌜ ClosesWith (now (plan .entry)) (now (rates .entry)) (now (periods .entry)) (now (seen .entry)) ports flows r ⌝ }
+    ensures { λ r. ⌜
+        ClosesWith (now (plan .entry)) (now (rates .entry)) (now (periods .entry)) (now (seen .entry)) ports flows r
+        ⌝ }
 {
     if seen[HEADER_KEY] == 0 {
         return LoadAnswer::Refused {
@@ -77,15 +83,15 @@ pub fn read_plan(strict: bool, planner: Planner, plan: &[u8]) -> LoadOutcome
             },
         };
     }
-    let mut rates = [0u32; 64];
-    let mut blockings = [0u16; 64];
-    let mut extras = [0u8; 64];
-    let mut periods = [0u32; 256];
-    let mut counts = [0u16; 256];
-    let mut lengths = [0u16; 256];
-    let mut jitters = [0u32; 256];
-    let mut hops = [0u8; 256];
-    let mut routes = [0u8; 4096];
+    let mut rates = [0u32; PORTS];
+    let mut blockings = [0u16; PORTS];
+    let mut extras = [0u8; PORTS];
+    let mut periods = [0u32; FLOWS];
+    let mut counts = [0u16; FLOWS];
+    let mut lengths = [0u16; FLOWS];
+    let mut jitters = [0u32; FLOWS];
+    let mut hops = [0u8; FLOWS];
+    let mut routes = [0u8; FLOWS * STRIDE];
     let mut seen = [0u8; KEYS];
     let mut totals = Totals {
         guard: 0,

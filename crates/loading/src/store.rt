@@ -10,11 +10,12 @@ use plan::route::route_port;
 use tables::FLOWS;
 use tables::PORTS;
 use tables::STRIDE;
+use tables::columns;
 ghost use Prim.Native.Nat.{_+_, _-_, _*_, _≤_};
 ghost use mathlib.Core.Path.{_≡_};
 ghost use lib.ListN.{set};
 ghost use lib.Seq.{sets};
-ghost use Rattle.cqf.specs.Limits.{routeStride};
+ghost use Rattle.cqf.specs.Limits.{flowSlots, routeStride};
 ghost use Rattle.plan.specs.Field.{routePorts};
 ghost use Rattle.plan_reading.specs.Key.{keyOf};
 ghost use Rattle.plan_reading.specs.Draft.{added};
@@ -52,16 +53,19 @@ pub(crate) fn key_of(field: Field) -> usize
     }
 }
 
-fn store_port(rates: &mut [u32; 64], blockings: &mut [u16; 64], x: Port)
+fn store_port(rates: &mut columns::Rates, blockings: &mut columns::Blockings, x: Port)
     requires { ⌜ PortOk (x .number) (x .rate) (x .blocking) ⌝ }
-    ensures { λ r. ⌜ (now (rates .exit) ≡ set (now (rates .entry)) (x .number - 1) (x .rate)) × (now (blockings .exit) ≡ set (now (blockings .entry)) (x .number - 1) (x .blocking)) ⌝ }
+    ensures { λ r. ⌜
+        (now (rates .exit) ≡ set (now (rates .entry)) (x .number - 1) (x .rate))
+        × (now (blockings .exit) ≡ set (now (blockings .entry)) (x .number - 1) (x .blocking))
+        ⌝ }
 {
     let slot = (x.number - 1) as usize;
     rates[slot] = x.rate;
     blockings[slot] = x.blocking;
 }
 
-fn store_extra(extras: &mut [u8; 64], x: Extra)
+fn store_extra(extras: &mut columns::Extras, x: Extra)
     requires { ⌜ ExtraOk (x .number) (x .extra) ⌝ }
     ensures { λ r. ⌜ now (extras .exit) ≡ set (now (extras .entry)) (x .number - 1) (x .extra) ⌝ }
 {
@@ -69,7 +73,7 @@ fn store_extra(extras: &mut [u8; 64], x: Extra)
     extras[slot] = x.extra as u8;
 }
 
-fn store_jitter(jitters: &mut [u32; 256], x: Jitter)
+fn store_jitter(jitters: &mut columns::Jitters, x: Jitter)
     requires { ⌜ JitterOk (x .number) (x .jitter) ⌝ }
     ensures { λ r. ⌜ now (jitters .exit) ≡ set (now (jitters .entry)) (x .number - 1) (x .jitter) ⌝ }
 {
@@ -77,8 +81,8 @@ fn store_jitter(jitters: &mut [u32; 256], x: Jitter)
 }
 
 // The ports of a route, copied to position base of the routes and on.
-fn store_route(routes: &mut [u8; 4096], base: usize, route: &[u8], hops: usize)
-    requires { ⌜ (base + hops ≤ 4096) × RouteOk hops (routePorts (now route)) ⌝ }
+fn store_route(routes: &mut columns::Routes, base: usize, route: &[u8], hops: usize)
+    requires { ⌜ (base + hops ≤ flowSlots * routeStride) × RouteOk hops (routePorts (now route)) ⌝ }
     ensures { λ r. ⌜ now (routes .exit) ≡ sets (now (routes .entry)) base (routePorts (now (route .entry))) ⌝ }
 {
     let mut i = 0;
@@ -90,16 +94,25 @@ fn store_route(routes: &mut [u8; 4096], base: usize, route: &[u8], hops: usize)
 }
 
 fn store_flow(
-    periods: &mut [u32; 256],
-    counts: &mut [u16; 256],
-    lengths: &mut [u16; 256],
-    hops: &mut [u8; 256],
-    routes: &mut [u8; 4096],
+    periods: &mut columns::Periods,
+    counts: &mut columns::Counts,
+    lengths: &mut columns::Lengths,
+    hops: &mut columns::Hops,
+    routes: &mut columns::Routes,
     x: Flow,
     route: &[u8],
 )
-    requires { ⌜ FlowOk (x .number) (x .period) (x .count) (x .length) (x .hops) × RouteOk (x .hops) (routePorts (now route)) ⌝ }
-    ensures { λ r. ⌜ (now (periods .exit) ≡ set (now (periods .entry)) (x .number - 1) (x .period)) × (now (counts .exit) ≡ set (now (counts .entry)) (x .number - 1) (x .count)) × (now (lengths .exit) ≡ set (now (lengths .entry)) (x .number - 1) (x .length)) × (now (hops .exit) ≡ set (now (hops .entry)) (x .number - 1) (x .hops)) × (now (routes .exit) ≡ sets (now (routes .entry)) ((x .number - 1) * routeStride) (routePorts (now (route .entry)))) ⌝ }
+    requires { ⌜
+        FlowOk (x .number) (x .period) (x .count) (x .length) (x .hops) × RouteOk (x .hops) (routePorts (now route))
+        ⌝ }
+    ensures { λ r. ⌜
+        (now (periods .exit) ≡ set (now (periods .entry)) (x .number - 1) (x .period))
+        × (now (counts .exit) ≡ set (now (counts .entry)) (x .number - 1) (x .count))
+        × (now (lengths .exit) ≡ set (now (lengths .entry)) (x .number - 1) (x .length))
+        × (now (hops .exit) ≡ set (now (hops .entry)) (x .number - 1) (x .hops))
+        × (now (routes .exit) ≡ sets (now (routes .entry)) ((x .number - 1) * routeStride)
+        (routePorts (now (route .entry))))
+        ⌝ }
 {
     let slot = (x.number - 1) as usize;
     periods[slot] = x.period;
@@ -114,19 +127,32 @@ pub(crate) fn store_field(
     field: Field,
     route: &[u8],
     totals: Totals,
-    rates: &mut [u32; 64],
-    blockings: &mut [u16; 64],
-    extras: &mut [u8; 64],
-    periods: &mut [u32; 256],
-    counts: &mut [u16; 256],
-    lengths: &mut [u16; 256],
-    jitters: &mut [u32; 256],
-    hops: &mut [u8; 256],
-    routes: &mut [u8; 4096],
+    rates: &mut columns::Rates,
+    blockings: &mut columns::Blockings,
+    extras: &mut columns::Extras,
+    periods: &mut columns::Periods,
+    counts: &mut columns::Counts,
+    lengths: &mut columns::Lengths,
+    jitters: &mut columns::Jitters,
+    hops: &mut columns::Hops,
+    routes: &mut columns::Routes,
     seen: &mut [u8; KEYS],
 ) -> Totals
-    requires { ⌜ (totals .ports ≤ maxBytes) × (totals .flows ≤ maxBytes) × NumbersOk (fieldOf field) × RouteFits (fieldOf field) (routePorts (now route)) ⌝ }
-    ensures { λ r. ⌜ draftOf r (now (rates .exit)) (now (blockings .exit)) (now (extras .exit)) (now (periods .exit)) (now (counts .exit)) (now (lengths .exit)) (now (jitters .exit)) (now (hops .exit)) (now (routes .exit)) (now (seen .exit)) ≡ added (draftOf totals (now (rates .entry)) (now (blockings .entry)) (now (extras .entry)) (now (periods .entry)) (now (counts .entry)) (now (lengths .entry)) (now (jitters .entry)) (now (hops .entry)) (now (routes .entry)) (now (seen .entry))) (fieldOf field) (routePorts (now (route .entry))) ⌝ }
+    requires { ⌜
+        (totals .ports ≤ maxBytes)
+        × (totals .flows ≤ maxBytes)
+        × NumbersOk (fieldOf field)
+        × RouteFits (fieldOf field) (routePorts (now route))
+        ⌝ }
+    ensures { λ r. ⌜
+        draftOf r (now (rates .exit)) (now (blockings .exit)) (now (extras .exit)) (now (periods .exit))
+        (now (counts .exit)) (now (lengths .exit)) (now (jitters .exit)) (now (hops .exit)) (now (routes .exit))
+        (now (seen .exit)) ≡ added
+        (draftOf totals (now (rates .entry)) (now (blockings .entry)) (now (extras .entry)) (now (periods .entry))
+        (now (counts .entry)) (now (lengths .entry)) (now (jitters .entry)) (now (hops .entry))
+        (now (routes .entry)) (now (seen .entry)))
+        (fieldOf field) (routePorts (now (route .entry)))
+        ⌝ }
 {
     let key = key_of(field);
     seen[key] = 1;

@@ -1,5 +1,6 @@
 // Reads a plan of any spelling from standard input and writes its strict bytes, those as which it is saved, to standard output.
 use console::say;
+use console::say_refused_plan;
 use planner::LoadAnswer;
 use planner::Planner;
 use planner::SaveAnswer;
@@ -30,7 +31,7 @@ fn write_saved(planner: Planner)
 {
     let mut buffer = [0u8; loading::MAX_BYTES];
     let size = saved(planner, &mut buffer);
-    say(&buffer[..size]);
+    console::finish(say(console::standard_output(), &buffer[..size]));
 }
 
 fn main() {
@@ -41,7 +42,12 @@ fn main() {
     let answer = outcome.answer;
     match answer {
         LoadAnswer::Refused { fault: _, offset } => {
-            console::report_refused_plan(readable, planner::load_number(answer), offset)
+            say_refused_plan(
+                console::standard_error(),
+                readable,
+                planner::load_number(answer),
+                offset,
+            );
         }
         LoadAnswer::Held { ports: _, flows: _ } => write_saved(held),
     }

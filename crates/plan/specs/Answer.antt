@@ -23,12 +23,12 @@ faultNumber NotInPlan = 9
 
 abbrev pub headOf : Head → HeadRead
 headOf (Whole tag size) = head tag size
-headOf Cut = cut
+headOf Cut = cut (faultNumber Truncated)
 
 -- its number: 0 where the plan holds the whole field
-abbrev pub headNumber : Head → ℕ
-headNumber (Whole tag size) = 0
-headNumber Cut = faultNumber Truncated
+abbrev pub headNumber : HeadRead → ℕ
+headNumber (head tag size) = 0
+headNumber (cut number) = number
 
 abbrev pub fieldOf : declaredField.Field → Field
 fieldOf (declaredField.Field.Header h) = header (h .guard) (h .top)

@@ -18,14 +18,14 @@ pub data Field : Type 0 where
   jitter : (number ns : ℕ) → Field
   clock : (numbers : Clock) → Field
 
--- a field's head: its tag and its value's length, or cut where the plan does not hold the whole field (refusal 2)
+-- a field's head: its tag and its value's length, or a refusal's number where the plan does not hold the whole field
 pub data HeadRead : Type 0 where
   head : (tag size : ℕ) → HeadRead
-  cut : HeadRead
+  cut : (number : ℕ) → HeadRead
 
 unfoldable pub headAt : List ℕ → ℕ → HeadRead
 unfolding wholeAt sizeAt
-headAt s at = cond (wholeAt s at) (head (tagAt s at) (sizeAt s at)) cut
+headAt s at = cond (wholeAt s at) (head (tagAt s at) (sizeAt s at)) (cut 2)
 
 -- a field and the offset after it, or a refusal's number and its offset (document 01: place)
 pub data FieldRead : Type 0 where

@@ -2,7 +2,7 @@
 
 use numbers::clock::Clock;
 ghost use mathlib.Core.Path.{_≡_};
-ghost use Rattle.plan.specs.Answer.{faultNumber, headNumber};
+ghost use Rattle.plan.specs.Answer.{faultNumber};
 
 pub mod number; // number.rt: numbers of several bytes, high byte first
 pub mod split; // split.rt: a field's head, and its value as a part of the plan
@@ -100,15 +100,5 @@ pub fn fault_number(fault: Fault) -> u8
         Fault::RepeatedPort => 7,
         Fault::Incomplete => 8,
         Fault::NotInPlan => 9,
-    }
-}
-
-// 0 for a field that the plan holds whole.
-pub fn head_number(head: Head) -> u8
-    ensures { λ r. ⌜ r ≡ headNumber head ⌝ }
-{
-    match head {
-        Head::Whole { tag: _, size: _ } => 0,
-        Head::Cut => fault_number(Fault::Truncated),
     }
 }

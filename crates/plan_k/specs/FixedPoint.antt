@@ -1,6 +1,6 @@
 -- The fixed-point iteration of plan K, from its bytes: it takes two steps from 1 ns.
 use mathlib.Core.Path.{_≡_, refl}
-use mathlib.Core.List.{List, [], _∷_, map}
+use mathlib.Core.List.{[], _∷_, map}
 use Prim.Native.Nat.{ℕ}
 use Rattle.cqf.specs.Bounded.{maxTo, elem, distinct, every, allTo, anyTo, sumTo, countTo, lowest, sublist}
 use Rattle.cqf.specs.Plan.{noPlan, validPort, validFlow, validPlan}
@@ -15,9 +15,9 @@ use Rattle.plan.specs.Field.{routePorts, routeIn, headerIn, portInValue, flowIn
 use Rattle.plan_reading.specs.Store.{store}
 use Rattle.plan_reading.specs.Draft.{blank, added}
 use Rattle.plan_reading.specs.Reading.{stepAt, namesAbsent, jitterAbsent, extraAbsent, firstFrom, firstAbsent, closing, readFrom, readAs, readPlan, loose}
-use Rattle.answers.specs.Answer.{Answer, result, refusal}
+use Rattle.answers.specs.Answer.{result, refusal}
 use Rattle.loading.specs.Outcome.{loadLeaves}
-use Rattle.questions.specs.FixedPoint.{FixedPoint, fixedPointAnswer}
+use Rattle.questions.specs.FixedPoint.{fixedPointAnswer}
 use Rattle.sequences.specs.Calls.{load, afterFrom, after}
 use Rattle.plan_k.specs.PlanK.{bytesK}
 

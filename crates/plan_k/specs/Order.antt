@@ -1,7 +1,7 @@
 -- The theorem on field order applied to plan K: K and K with its fields in another order have the same fields, and so every question
 -- is answered alike after their loads.
 use mathlib.Core.Path.{_≡_, refl}
-use mathlib.Core.List.{List, [], _∷_, flatten, _++_, List·Permᴰ, List·Permᴰ·nil, List·Permᴰ·cons, List·Permᴰ·swap, List·Permᴰ·trans}
+use mathlib.Core.List.{List, [], _∷_, flatten, _++_, List·Permᴰ, List·Permᴰ·cons, List·Permᴰ·swap, List·Permᴰ·trans}
 use mathlib.Core.Option.{some}
 use Prim.Native.Nat.{ℕ}
 use lib.Dec.{lit≤}
@@ -12,7 +12,7 @@ use Rattle.plan.specs.Field.{routePorts, routeIn, headerIn, portInValue, flowIn
 use Rattle.plan_reading.specs.Store.{store}
 use Rattle.plan_reading.specs.Draft.{blank, added}
 use Rattle.plan_reading.specs.Reading.{stepAt, namesAbsent, jitterAbsent, extraAbsent, firstFrom, firstAbsent, closing, readFrom, readAs, readPlan, loose}
-use Rattle.plan_reading.specs.FieldOrder.{IsField, AllFields, none, more, SameFields}
+use Rattle.plan_reading.specs.FieldOrder.{AllFields, none, more, SameFields}
 use Rattle.sequences.specs.Calls.{load, after, heldFrom, heldBytes}
 use Rattle.sequences.specs.Reply.{SameAnswers}
 use Rattle.sequences.specs.results.Theorem.{order-free}

@@ -7,7 +7,7 @@ use lib.IntN.{ℤ, pos, negsuc}
 use Rattle.cqf.specs.Bounded.{sumTo, countTo, anyTo, allTo, lowest, elem, distinct, every, sublist}
 use Rattle.cqf.specs.Plan.{Plan, noPlan, validPlan, validPort, validFlow}
 use Rattle.cqf.specs.Ceil.{ceilDiv}
-use Rattle.cqf.specs.Port.{bitsOf, wireBits, window, capacity, workload}
+use Rattle.cqf.specs.Port.{wireBits, window, capacity, workload}
 use Rattle.cqf.specs.Widened.{widened}
 use Rattle.cqf.specs.Condition.{begun, frames, demand, slack, crossed, fails, failing, lowestFailing, admissible}
 use Rattle.cqf.specs.worked.K.{planK}

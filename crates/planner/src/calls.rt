@@ -17,6 +17,8 @@ ghost use mathlib.Core.Path.{_≡_};
 ghost use Rattle.tables.specs.Tables.{planOf};
 ghost use Rattle.questions.specs.Answer.{checkOf, slackOf, leastOf, marginSafeOf, fixedPointOf};
 ghost use Rattle.sequences.specs.Meaning.{CheckMeans};
+ghost use Rattle.sequences.specs.FixedPointMeaning.{FixedPointMeans};
+ghost use Rattle.sequences.specs.GatesMeaning.{GatesMean};
 ghost use Rattle.questions.specs.Outcome.{checkAnswer, slackAnswer, leastAnswer, leastLeaves, marginSafeAnswer, marginSafeLeaves};
 ghost use Rattle.questions.specs.FixedPoint.{fixedPointAnswer};
 ghost use Rattle.saving.specs.Save.{saveAnswer, saveLeaves};
@@ -70,7 +72,10 @@ pub fn slack(planner: Planner, port: u64, duration: u64) -> SlackAnswer
 
 // The least admissible duration; 22 where there is none.
 pub fn least(planner: Planner, scratch: &mut [u64]) -> SearchAnswer
-    ensures { λ r. ⌜ (leastOf r ≡ leastAnswer (planOf planner) (now (scratch .entry))) × (now (scratch .exit) ≡ leastLeaves (planOf planner) (now (scratch .entry))) ⌝ }
+    ensures { λ r. ⌜
+        (leastOf r ≡ leastAnswer (planOf planner) (now (scratch .entry)))
+        × (now (scratch .exit) ≡ leastLeaves (planOf planner) (now (scratch .entry)))
+        ⌝ }
 {
     search_tables(
         Goal::Least,
@@ -92,7 +97,10 @@ pub fn least(planner: Planner, scratch: &mut [u64]) -> SearchAnswer
 
 // The margin-safe duration; 23 where there is none.
 pub fn margin_safe(planner: Planner, scratch: &mut [u64]) -> SearchAnswer
-    ensures { λ r. ⌜ (marginSafeOf r ≡ marginSafeAnswer (planOf planner) (now (scratch .entry))) × (now (scratch .exit) ≡ marginSafeLeaves (planOf planner) (now (scratch .entry))) ⌝ }
+    ensures { λ r. ⌜
+        (marginSafeOf r ≡ marginSafeAnswer (planOf planner) (now (scratch .entry)))
+        × (now (scratch .exit) ≡ marginSafeLeaves (planOf planner) (now (scratch .entry)))
+        ⌝ }
 {
     search_tables(
         Goal::MarginSafe,
@@ -112,9 +120,11 @@ pub fn margin_safe(planner: Planner, scratch: &mut [u64]) -> SearchAnswer
     )
 }
 
-// The least admissible duration from a start on, by at most so many steps; 26 where they end before.
+// The least admissible duration from a start on, by at most so many steps; 26 where they end before. What the answer means: the
+// steps are the iteration's own length, which has a bound, and continued from where it stopped it gives what a single one gives.
 pub fn fixed_point(planner: Planner, start: u64, steps: u64) -> FixedPointAnswer
-    ensures { λ r. ⌜ fixedPointOf r ≡ fixedPointAnswer (planOf planner) start steps ⌝ }
+    ensures answers { λ r. ⌜ fixedPointOf r ≡ fixedPointAnswer (planOf planner) start steps ⌝ }
+    ensures means { λ r. ⌜ FixedPointMeans (planOf planner) start steps (fixedPointOf r) ⌝ }
 {
     fixed_point_tables(
         planner.guard,
@@ -136,7 +146,10 @@ pub fn fixed_point(planner: Planner, start: u64, steps: u64) -> FixedPointAnswer
 
 // The held plan in strict order, written into the buffer; 20 where none is held, 13 where the buffer is too short for it.
 pub fn save(planner: Planner, buffer: &mut [u8]) -> SaveAnswer
-    ensures { λ r. ⌜ (saveOf r ≡ saveAnswer (planOf planner) (now (buffer .entry))) × (now (buffer .exit) ≡ saveLeaves (planOf planner) (now (buffer .entry))) ⌝ }
+    ensures { λ r. ⌜
+        (saveOf r ≡ saveAnswer (planOf planner) (now (buffer .entry)))
+        × (now (buffer .exit) ≡ saveLeaves (planOf planner) (now (buffer .entry)))
+        ⌝ }
 {
     save_tables(
         planner.guard,
@@ -156,9 +169,13 @@ pub fn save(planner: Planner, buffer: &mut [u8]) -> SaveAnswer
 }
 
 // The gate control list of a duration for two queues, written into the buffer; 20, 10 and 21 as from `check`, 18 where the queues are
-// not two of the eight, 13 where the buffer is too short for the list.
+// not two of the eight, 13 where the buffer is too short for the list. What was written plays two cycles of the plan held.
 pub fn gates(planner: Planner, duration: u64, even: u64, odd: u64, buffer: &mut [u8]) -> GatesAnswer
-    ensures { λ r. ⌜ (gatesOf r ≡ gatesAnswer (planOf planner) duration even odd (now (buffer .entry))) × (now (buffer .exit) ≡ gatesLeaves (planOf planner) duration even odd (now (buffer .entry))) ⌝ }
+    ensures answers { λ r. ⌜
+        (gatesOf r ≡ gatesAnswer (planOf planner) duration even odd (now (buffer .entry)))
+        × (now (buffer .exit) ≡ gatesLeaves (planOf planner) duration even odd (now (buffer .entry)))
+        ⌝ }
+    ensures means { λ r. ⌜ GatesMean (planOf planner) duration even odd (now (buffer .entry)) (now (buffer .exit)) (gatesOf r) ⌝ }
 {
     gates_tables(
         planner.guard,

@@ -1,8 +1,10 @@
 // Reads a plan from standard input and looks for its least duration in portions of steps; prints after each portion the duration
-// reached, and at the end the least duration, or which ports fail, with the steps used.
+// reached, and at the end the least duration, or 22 with the ports that fail at top, and the steps used.
+use console::Output;
 use console::say;
 use console::say_number;
 use console::say_refused;
+use console::say_refused_plan;
 use planner::FixedPointAnswer;
 use planner::LoadAnswer;
 use planner::Planner;
@@ -43,52 +45,52 @@ fn portion(planner: Planner, at: u64, used: u64) -> FixedPointAnswer
     }
 }
 
-fn say_steps(steps: u64) {
-    say(b" steps ");
-    say_number(steps);
-    say(b"\n");
+fn say_steps(out: Output, steps: u64) -> Output {
+    let out = say(out, b" steps ");
+    let out = say_number(out, steps);
+    say(out, b"\n")
 }
 
-fn say_end(answer: FixedPointAnswer) {
+fn say_end(out: Output, answer: FixedPointAnswer) -> Output {
+    let out = say(out, b"least ");
     match answer {
         FixedPointAnswer::Duration { duration, steps } => {
-            say(b"least ");
-            say_number(duration);
-            say_steps(steps);
+            say_steps(say_number(out, duration), steps)
         }
         FixedPointAnswer::Failing { port, count, steps } => {
-            say(b"none port ");
-            say_number(port as u64);
-            say(b" failing ");
-            say_number(count as u64);
-            say_steps(steps);
+            let out = say_refused(out, planner::fixed_point_number(answer));
+            let out = say(out, b" port ");
+            let out = say_number(out, port as u64);
+            let out = say(out, b" failing ");
+            let out = say_number(out, count as u64);
+            say_steps(out, steps)
         }
         _ => {
-            say_refused(planner::fixed_point_number(answer));
-            say(b"\n");
+            let out = say_refused(out, planner::fixed_point_number(answer));
+            say(out, b"\n")
         }
     }
 }
 
-fn say_reached(duration: u64) {
-    say(b"at ");
-    say_number(duration);
-    say(b"\n");
+fn say_reached(out: Output, duration: u64) -> Output {
+    let out = say(out, b"at ");
+    let out = say_number(out, duration);
+    say(out, b"\n")
 }
 
 // Portions from 1 ns on, to the end.
-fn say_portions(planner: Planner)
+fn say_portions(planner: Planner) -> Output
     requires { ⌜ validPlan (planOf planner) ≡ true ⌝ }
 {
+    let mut out = console::standard_output();
     let mut at: u64 = 1;
     let mut used: u64 = 0;
     loop {
         let answer = portion(planner, at, used);
         let FixedPointAnswer::Unfinished { duration, steps } = answer else {
-            say_end(answer);
-            return;
+            return say_end(out, answer);
         };
-        say_reached(duration);
+        out = say_reached(out, duration);
         at = duration;
         used = steps;
     }
@@ -100,10 +102,14 @@ fn main() {
     let outcome = given.outcome;
     let held = outcome.planner;
     let answer = outcome.answer;
-    match answer {
-        LoadAnswer::Refused { fault: _, offset } => {
-            console::say_refused_plan(readable, planner::load_number(answer), offset)
-        }
+    let out = match answer {
+        LoadAnswer::Refused { fault: _, offset } => say_refused_plan(
+            console::standard_output(),
+            readable,
+            planner::load_number(answer),
+            offset,
+        ),
         LoadAnswer::Held { ports: _, flows: _ } => say_portions(held),
-    }
+    };
+    console::finish(out);
 }

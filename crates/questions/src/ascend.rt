@@ -2,6 +2,7 @@
 use super::iterate::Iterated;
 use super::iterate::iterate;
 use numbers::clock::Clock;
+use tables::columns;
 ghost use mathlib.Core.Path.{_≡_};
 ghost use mathlib.Core.Bool.{true};
 ghost use lib.ListN.{length};
@@ -20,19 +21,31 @@ pub(crate) fn ascend<'a>(
     guard: u32,
     top: u32,
     clock: Clock,
-    rates: &'a [u32; 64],
-    blockings: &'a [u16; 64],
-    extras: &'a [u8; 64],
-    periods: &'a [u32; 256],
-    counts: &'a [u16; 256],
-    lengths: &'a [u16; 256],
-    jitters: &'a [u32; 256],
-    hops: &'a [u8; 256],
-    routes: &'a [u8; 4096],
+    rates: &'a columns::Rates,
+    blockings: &'a columns::Blockings,
+    extras: &'a columns::Extras,
+    periods: &'a columns::Periods,
+    counts: &'a columns::Counts,
+    lengths: &'a columns::Lengths,
+    jitters: &'a columns::Jitters,
+    hops: &'a columns::Hops,
+    routes: &'a columns::Routes,
     out: &mut [u64],
 ) -> u64
-    requires { ⌜ (validPlan (planBy guard top (clockOf clock) (now rates) (now blockings) (now extras) (now periods) (now counts) (now lengths) (now jitters) (now hops) (now routes)) ≡ true) × (length (now out) ≡ portSlots) ⌝ }
-    ensures { λ r. ⌜ Found least (planBy guard top (clockOf clock) (now (rates .entry)) (now (blockings .entry)) (now (extras .entry)) (now (periods .entry)) (now (counts .entry)) (now (lengths .entry)) (now (jitters .entry)) (now (hops .entry)) (now (routes .entry))) r (now (out .exit)) ⌝ }
+    requires { ⌜
+        (validPlan
+        (planBy guard top (clockOf clock) (now rates) (now blockings) (now extras) (now periods) (now counts)
+        (now lengths) (now jitters) (now hops) (now routes))
+        ≡ true)
+        × (length (now out) ≡ portSlots)
+        ⌝ }
+    ensures { λ r. ⌜
+        Found least
+        (planBy guard top (clockOf clock) (now (rates .entry)) (now (blockings .entry)) (now (extras .entry))
+        (now (periods .entry)) (now (counts .entry)) (now (lengths .entry)) (now (jitters .entry))
+        (now (hops .entry)) (now (routes .entry)))
+        r (now (out .exit))
+        ⌝ }
 {
     let above = top as u64 + 1;
     let iterated = iterate(

@@ -3,6 +3,8 @@ use super::CheckAnswer;
 use super::failing::failing_at;
 use numbers::clock::Clock;
 use numbers::limits::between;
+use tables::PORTS;
+use tables::columns;
 use tables::valid_tables;
 ghost use mathlib.Core.Path.{_≡_};
 ghost use Rattle.numbers.specs.Clock.{clockOf};
@@ -15,18 +17,24 @@ pub fn check_tables<'a>(
     guard: u32,
     top: u32,
     clock: Clock,
-    rates: &'a [u32; 64],
-    blockings: &'a [u16; 64],
-    extras: &'a [u8; 64],
-    periods: &'a [u32; 256],
-    counts: &'a [u16; 256],
-    lengths: &'a [u16; 256],
-    jitters: &'a [u32; 256],
-    hops: &'a [u8; 256],
-    routes: &'a [u8; 4096],
+    rates: &'a columns::Rates,
+    blockings: &'a columns::Blockings,
+    extras: &'a columns::Extras,
+    periods: &'a columns::Periods,
+    counts: &'a columns::Counts,
+    lengths: &'a columns::Lengths,
+    jitters: &'a columns::Jitters,
+    hops: &'a columns::Hops,
+    routes: &'a columns::Routes,
     duration: u64,
 ) -> CheckAnswer
-    ensures { λ r. ⌜ checkOf r ≡ checkAnswer (planBy guard top (clockOf clock) (now (rates .entry)) (now (blockings .entry)) (now (extras .entry)) (now (periods .entry)) (now (counts .entry)) (now (lengths .entry)) (now (jitters .entry)) (now (hops .entry)) (now (routes .entry))) duration ⌝ }
+    ensures { λ r. ⌜
+        checkOf r ≡ checkAnswer
+        (planBy guard top (clockOf clock) (now (rates .entry)) (now (blockings .entry)) (now (extras .entry))
+        (now (periods .entry)) (now (counts .entry)) (now (lengths .entry)) (now (jitters .entry))
+        (now (hops .entry)) (now (routes .entry)))
+        duration
+        ⌝ }
 {
     if !valid_tables(
         guard,
@@ -47,7 +55,7 @@ pub fn check_tables<'a>(
     if !between(1, top as u64, duration) {
         return CheckAnswer::BadDuration;
     }
-    let mut out = [0u64; 64];
+    let mut out = [0u64; PORTS];
     let ports = failing_at(
         guard,
         clock,

@@ -4,6 +4,7 @@ use numbers::clock::widened;
 use numbers::frame::wire_bits;
 use tables::FLOWS;
 use tables::STRIDE;
+use tables::columns;
 ghost use mathlib.Core.Path.{_≡_};
 ghost use mathlib.Core.Bool.{true};
 ghost use mathlib.Core.List.{[]};
@@ -28,7 +29,13 @@ fn periods_begun(widened: u32, jitter: u32, period: u32) -> u32
 
 // The frames that a flow brings in a stretch.
 pub(crate) fn flow_frames(period: u32, count: u16, jitter: u32, widened: u32) -> u64
-    requires { ⌜ (minPeriod ≤ period) × (period ≤ maxPeriod) × (count ≤ maxCount) × (jitter ≤ maxJitter) × (widened ≤ mostWidened) ⌝ }
+    requires { ⌜
+        (minPeriod ≤ period)
+        × (period ≤ maxPeriod)
+        × (count ≤ maxCount)
+        × (jitter ≤ maxJitter)
+        × (widened ≤ mostWidened)
+        ⌝ }
     ensures { λ r. ⌜ r ≡ framesBy count widened jitter period ⌝ }
 {
     let begun = periods_begun(widened, jitter, period);
@@ -37,18 +44,23 @@ pub(crate) fn flow_frames(period: u32, count: u16, jitter: u32, widened: u32) ->
 
 // The wire bits of these frames are added at each port of a route, with what that port adds to each frame.
 fn add_route<'a>(
-    routes: &'a [u8; 4096],
+    routes: &'a columns::Routes,
     base: usize,
     hops: usize,
     frames: u64,
     bytes: u16,
-    extras: &'a [u8; 64],
+    extras: &'a columns::Extras,
     out: &mut [u64],
 )
     requires { ⌜ (base + hops ≤ flowSlots * routeStride) × (length (now out) ≡ portSlots) ⌝ }
-    requires { ⌜ (every portOk (sublist (now routes) base hops) ≡ true) × (distinct (sublist (now routes) base hops) ≡ true) ⌝ }
+    requires { ⌜
+        (every portOk (sublist (now routes) base hops) ≡ true) × (distinct (sublist (now routes) base hops) ≡ true)
+        ⌝ }
     requires { ⌜ ((q : ℕ) → q < portSlots → getD (now out) q 0 + frames * bitsOf bytes (getD (now extras) q 0) < 2 ^ 64) ⌝ }
-    ensures { λ r. ⌜ Marked (now (out .entry)) (now (out .exit)) (sublist (now (routes .entry)) base hops) (λ q. frames * bitsOf bytes (getD (now (extras .entry)) q 0)) ⌝ }
+    ensures { λ r. ⌜
+        Marked (now (out .entry)) (now (out .exit)) (sublist (now (routes .entry)) base hops)
+        (λ q. frames * bitsOf bytes (getD (now (extras .entry)) q 0))
+        ⌝ }
 {
     let mut i: usize = 0;
     while i < hops {
@@ -72,19 +84,28 @@ fn clear(out: &mut [u64])
 // Port n's demand goes to position n - 1; what stood there before does not matter.
 pub(crate) fn demands<'a>(
     clock: Clock,
-    extras: &'a [u8; 64],
-    periods: &'a [u32; 256],
-    counts: &'a [u16; 256],
-    lengths: &'a [u16; 256],
-    jitters: &'a [u32; 256],
-    hops: &'a [u8; 256],
-    routes: &'a [u8; 4096],
+    extras: &'a columns::Extras,
+    periods: &'a columns::Periods,
+    counts: &'a columns::Counts,
+    lengths: &'a columns::Lengths,
+    jitters: &'a columns::Jitters,
+    hops: &'a columns::Hops,
+    routes: &'a columns::Routes,
     duration: u64,
     out: &mut [u64],
 )
-    requires { ⌜ FlowsInRange (now periods) (now counts) (now lengths) (now jitters) (now hops) (now routes) × ExtrasInRange (now extras) ⌝ }
+    requires { ⌜
+        FlowsInRange (now periods) (now counts) (now lengths) (now jitters) (now hops) (now routes)
+        × ExtrasInRange (now extras)
+        ⌝ }
     requires { ⌜ (widenedBy (clockOf clock) duration ≤ mostWidened) × (length (now out) ≡ portSlots) ⌝ }
-    ensures { λ r. ⌜ now (out .exit) ≡ tabulate portSlots (λ q. demand (columns (clockOf clock) [] [] (now (extras .entry)) (now (periods .entry)) (now (counts .entry)) (now (lengths .entry)) (now (jitters .entry)) (now (hops .entry)) (now (routes .entry))) q duration) ⌝ }
+    ensures { λ r. ⌜
+        now (out .exit) ≡ tabulate portSlots
+        (λ q. demand
+        (columns (clockOf clock) [] [] (now (extras .entry)) (now (periods .entry)) (now (counts .entry))
+        (now (lengths .entry)) (now (jitters .entry)) (now (hops .entry)) (now (routes .entry)))
+        q duration)
+        ⌝ }
 {
     clear(out);
     let at = duration as u32;

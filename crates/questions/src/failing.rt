@@ -6,6 +6,7 @@ use numbers::port::FailingPorts;
 use numbers::port::failing_ports;
 use numbers::port::window;
 use tables::PORTS;
+use tables::columns;
 ghost use mathlib.Core.Path.{_≡_};
 ghost use mathlib.Core.Bool.{true};
 ghost use Prim.Native.Nat.{ℕ, _≤_, _<_};
@@ -42,14 +43,21 @@ pub(crate) fn port_fails(rate: u32, blocking: u16, extra: u8, window: u64, bits:
 
 // The failing ports: bit q for the port in slot q.
 pub(crate) fn failing_set<'a>(
-    rates: &'a [u32; 64],
-    blockings: &'a [u16; 64],
-    extras: &'a [u8; 64],
+    rates: &'a columns::Rates,
+    blockings: &'a columns::Blockings,
+    extras: &'a columns::Extras,
     window: u64,
     demands: &'a [u64],
 ) -> u64
-    requires { ⌜ (length (now demands) ≡ portSlots) × (window ≤ maxTop) × ((q : ℕ) → q < portSlots → getD (now demands) q 0 ≤ mostDemand) ⌝ }
-    ensures { λ r. ⌜ r ≡ setTo portSlots (failsIn (now (rates .entry)) (now (blockings .entry)) (now (extras .entry)) window (now (demands .entry))) ⌝ }
+    requires { ⌜
+        (length (now demands) ≡ portSlots)
+        × (window ≤ maxTop)
+        × ((q : ℕ) → q < portSlots → getD (now demands) q 0 ≤ mostDemand)
+        ⌝ }
+    ensures { λ r. ⌜
+        r ≡ setTo portSlots
+        (failsIn (now (rates .entry)) (now (blockings .entry)) (now (extras .entry)) window (now (demands .entry)))
+        ⌝ }
 {
     let mut set: u64 = 0;
     let mut q: usize = 0;
@@ -67,20 +75,32 @@ pub(crate) fn failing_set<'a>(
 pub(crate) fn failing_at<'a>(
     guard: u32,
     clock: Clock,
-    rates: &'a [u32; 64],
-    blockings: &'a [u16; 64],
-    extras: &'a [u8; 64],
-    periods: &'a [u32; 256],
-    counts: &'a [u16; 256],
-    lengths: &'a [u16; 256],
-    jitters: &'a [u32; 256],
-    hops: &'a [u8; 256],
-    routes: &'a [u8; 4096],
+    rates: &'a columns::Rates,
+    blockings: &'a columns::Blockings,
+    extras: &'a columns::Extras,
+    periods: &'a columns::Periods,
+    counts: &'a columns::Counts,
+    lengths: &'a columns::Lengths,
+    jitters: &'a columns::Jitters,
+    hops: &'a columns::Hops,
+    routes: &'a columns::Routes,
     duration: u64,
     out: &mut [u64],
 ) -> FailingPorts
-    requires { ⌜ (validPlan (planBy guard duration (clockOf clock) (now rates) (now blockings) (now extras) (now periods) (now counts) (now lengths) (now jitters) (now hops) (now routes)) ≡ true) × (length (now out) ≡ portSlots) ⌝ }
-    ensures { λ r. ⌜ FailingAt (planBy guard duration (clockOf clock) (now (rates .entry)) (now (blockings .entry)) (now (extras .entry)) (now (periods .entry)) (now (counts .entry)) (now (lengths .entry)) (now (jitters .entry)) (now (hops .entry)) (now (routes .entry))) duration (r .port) (r .count) (now (out .exit)) ⌝ }
+    requires { ⌜
+        (validPlan
+        (planBy guard duration (clockOf clock) (now rates) (now blockings) (now extras) (now periods) (now counts)
+        (now lengths) (now jitters) (now hops) (now routes))
+        ≡ true)
+        × (length (now out) ≡ portSlots)
+        ⌝ }
+    ensures { λ r. ⌜
+        FailingAt
+        (planBy guard duration (clockOf clock) (now (rates .entry)) (now (blockings .entry)) (now (extras .entry))
+        (now (periods .entry)) (now (counts .entry)) (now (lengths .entry)) (now (jitters .entry))
+        (now (hops .entry)) (now (routes .entry)))
+        duration (r .port) (r .count) (now (out .exit))
+        ⌝ }
 {
     demands(
         clock,

@@ -5,6 +5,7 @@ use super::need::largest_need;
 use numbers::clock::Clock;
 use numbers::port::window;
 use tables::PORTS;
+use tables::columns;
 ghost use mathlib.Core.Path.{_≡_};
 ghost use mathlib.Core.Bool.{true};
 ghost use Prim.Native.Nat.{_≤_};
@@ -35,22 +36,34 @@ pub(crate) fn iterate<'a>(
     guard: u32,
     top: u32,
     clock: Clock,
-    rates: &'a [u32; 64],
-    blockings: &'a [u16; 64],
-    extras: &'a [u8; 64],
-    periods: &'a [u32; 256],
-    counts: &'a [u16; 256],
-    lengths: &'a [u16; 256],
-    jitters: &'a [u32; 256],
-    hops: &'a [u8; 256],
-    routes: &'a [u8; 4096],
+    rates: &'a columns::Rates,
+    blockings: &'a columns::Blockings,
+    extras: &'a columns::Extras,
+    periods: &'a columns::Periods,
+    counts: &'a columns::Counts,
+    lengths: &'a columns::Lengths,
+    jitters: &'a columns::Jitters,
+    hops: &'a columns::Hops,
+    routes: &'a columns::Routes,
     start: u64,
     steps: u64,
     out: &mut [u64],
 ) -> Iterated
-    requires { ⌜ (validPlan (planBy guard top (clockOf clock) (now rates) (now blockings) (now extras) (now periods) (now counts) (now lengths) (now jitters) (now hops) (now routes)) ≡ true) × (length (now out) ≡ portSlots) ⌝ }
+    requires { ⌜
+        (validPlan
+        (planBy guard top (clockOf clock) (now rates) (now blockings) (now extras) (now periods) (now counts)
+        (now lengths) (now jitters) (now hops) (now routes))
+        ≡ true)
+        × (length (now out) ≡ portSlots)
+        ⌝ }
     requires { ⌜ (1 ≤ start) × (start ≤ top) ⌝ }
-    ensures { λ r. ⌜ Iterates (planBy guard top (clockOf clock) (now (rates .entry)) (now (blockings .entry)) (now (extras .entry)) (now (periods .entry)) (now (counts .entry)) (now (lengths .entry)) (now (jitters .entry)) (now (hops .entry)) (now (routes .entry))) start steps (iteratedOf r) (now (out .exit)) ⌝ }
+    ensures { λ r. ⌜
+        Iterates
+        (planBy guard top (clockOf clock) (now (rates .entry)) (now (blockings .entry)) (now (extras .entry))
+        (now (periods .entry)) (now (counts .entry)) (now (lengths .entry)) (now (jitters .entry))
+        (now (hops .entry)) (now (routes .entry)))
+        start steps (iteratedOf r) (now (out .exit))
+        ⌝ }
 {
     let limit = top as u64;
     let mut state = UNFINISHED;

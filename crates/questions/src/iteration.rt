@@ -5,6 +5,8 @@ use super::iterate::Iterated;
 use super::iterate::iterate;
 use numbers::clock::Clock;
 use numbers::limits::between;
+use tables::PORTS;
+use tables::columns;
 use tables::valid_tables;
 ghost use mathlib.Core.Path.{_≡_};
 ghost use mathlib.Core.Bool.{true};
@@ -21,23 +23,39 @@ fn steps_answer<'a>(
     guard: u32,
     top: u32,
     clock: Clock,
-    rates: &'a [u32; 64],
-    blockings: &'a [u16; 64],
-    extras: &'a [u8; 64],
-    periods: &'a [u32; 256],
-    counts: &'a [u16; 256],
-    lengths: &'a [u16; 256],
-    jitters: &'a [u32; 256],
-    hops: &'a [u8; 256],
-    routes: &'a [u8; 4096],
+    rates: &'a columns::Rates,
+    blockings: &'a columns::Blockings,
+    extras: &'a columns::Extras,
+    periods: &'a columns::Periods,
+    counts: &'a columns::Counts,
+    lengths: &'a columns::Lengths,
+    jitters: &'a columns::Jitters,
+    hops: &'a columns::Hops,
+    routes: &'a columns::Routes,
     start: u64,
     steps: u64,
 ) -> FixedPointAnswer
-    requires { ⌜ validPlan (planBy guard top (clockOf clock) (now rates) (now blockings) (now extras) (now periods) (now counts) (now lengths) (now jitters) (now hops) (now routes)) ≡ true ⌝ }
+    requires { ⌜
+        validPlan
+        (planBy guard top (clockOf clock) (now rates) (now blockings) (now extras) (now periods) (now counts)
+        (now lengths) (now jitters) (now hops) (now routes))
+        ≡ true
+        ⌝ }
     requires { ⌜ (1 ≤ start) × (start ≤ top) ⌝ }
-    ensures { λ r. ⌜ fixedPointOf r ≡ outcomeAnswer (planBy guard top (clockOf clock) (now (rates .entry)) (now (blockings .entry)) (now (extras .entry)) (now (periods .entry)) (now (counts .entry)) (now (lengths .entry)) (now (jitters .entry)) (now (hops .entry)) (now (routes .entry))) steps (iterate (planBy guard top (clockOf clock) (now (rates .entry)) (now (blockings .entry)) (now (extras .entry)) (now (periods .entry)) (now (counts .entry)) (now (lengths .entry)) (now (jitters .entry)) (now (hops .entry)) (now (routes .entry))) start steps) ⌝ }
+    ensures { λ r. ⌜
+        fixedPointOf r ≡ outcomeAnswer
+        (planBy guard top (clockOf clock) (now (rates .entry)) (now (blockings .entry)) (now (extras .entry))
+        (now (periods .entry)) (now (counts .entry)) (now (lengths .entry)) (now (jitters .entry))
+        (now (hops .entry)) (now (routes .entry)))
+        steps
+        (iterate
+        (planBy guard top (clockOf clock) (now (rates .entry)) (now (blockings .entry)) (now (extras .entry))
+        (now (periods .entry)) (now (counts .entry)) (now (lengths .entry)) (now (jitters .entry))
+        (now (hops .entry)) (now (routes .entry)))
+        start steps)
+        ⌝ }
 {
-    let mut out = [0u64; 64];
+    let mut out = [0u64; PORTS];
     let iterated = iterate(
         guard,
         top,
@@ -94,19 +112,25 @@ pub fn fixed_point_tables<'a>(
     guard: u32,
     top: u32,
     clock: Clock,
-    rates: &'a [u32; 64],
-    blockings: &'a [u16; 64],
-    extras: &'a [u8; 64],
-    periods: &'a [u32; 256],
-    counts: &'a [u16; 256],
-    lengths: &'a [u16; 256],
-    jitters: &'a [u32; 256],
-    hops: &'a [u8; 256],
-    routes: &'a [u8; 4096],
+    rates: &'a columns::Rates,
+    blockings: &'a columns::Blockings,
+    extras: &'a columns::Extras,
+    periods: &'a columns::Periods,
+    counts: &'a columns::Counts,
+    lengths: &'a columns::Lengths,
+    jitters: &'a columns::Jitters,
+    hops: &'a columns::Hops,
+    routes: &'a columns::Routes,
     start: u64,
     steps: u64,
 ) -> FixedPointAnswer
-    ensures { λ r. ⌜ fixedPointOf r ≡ fixedPointAnswer (planBy guard top (clockOf clock) (now (rates .entry)) (now (blockings .entry)) (now (extras .entry)) (now (periods .entry)) (now (counts .entry)) (now (lengths .entry)) (now (jitters .entry)) (now (hops .entry)) (now (routes .entry))) start steps ⌝ }
+    ensures { λ r. ⌜
+        fixedPointOf r ≡ fixedPointAnswer
+        (planBy guard top (clockOf clock) (now (rates .entry)) (now (blockings .entry)) (now (extras .entry))
+        (now (periods .entry)) (now (counts .entry)) (now (lengths .entry)) (now (jitters .entry))
+        (now (hops .entry)) (now (routes .entry)))
+        start steps
+        ⌝ }
 {
     if !valid_tables(
         guard,

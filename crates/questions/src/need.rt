@@ -1,6 +1,7 @@
 // The duration that a port needs for its demand, and the most that a port needs.
 use super::failing::workload;
 use tables::PORTS;
+use tables::columns;
 ghost use mathlib.Core.Path.{_≡_};
 ghost use Prim.Native.Nat.{ℕ, max, _≤_, _<_};
 ghost use lib.ListN.{length, getD};
@@ -33,14 +34,21 @@ pub(crate) fn larger(a: u64, b: u64) -> u64
 // The most that a port needs for its demand; 0 where no port has one.
 pub(crate) fn largest_need<'a>(
     guard: u32,
-    rates: &'a [u32; 64],
-    blockings: &'a [u16; 64],
-    extras: &'a [u8; 64],
+    rates: &'a columns::Rates,
+    blockings: &'a columns::Blockings,
+    extras: &'a columns::Extras,
     demands: &'a [u64],
 ) -> u64
     requires { ⌜ length (now demands) ≡ portSlots ⌝ }
-    requires { ⌜ ((q : ℕ) → q < portSlots → (getD (now demands) q 0 ≤ mostDemand) × (0 < getD (now demands) q 0 → 0 < getD (now rates) q 0)) ⌝ }
-    ensures { λ r. ⌜ r ≡ maxTo portSlots (λ q. needBy guard (getD (now (rates .entry)) q 0) (getD (now (blockings .entry)) q 0) (getD (now (extras .entry)) q 0) (getD (now (demands .entry)) q 0)) ⌝ }
+    requires { ⌜
+        ((q : ℕ) → q < portSlots → (getD (now demands) q 0 ≤ mostDemand)
+        × (0 < getD (now demands) q 0 → 0 < getD (now rates) q 0))
+        ⌝ }
+    ensures { λ r. ⌜
+        r ≡ maxTo portSlots
+        (λ q. needBy guard (getD (now (rates .entry)) q 0) (getD (now (blockings .entry)) q 0)
+        (getD (now (extras .entry)) q 0) (getD (now (demands .entry)) q 0))
+        ⌝ }
 {
     let mut most: u64 = 0;
     let mut q: usize = 0;

@@ -5,6 +5,7 @@ use numbers::clock::widened;
 use numbers::frame::wire_bits;
 use tables::FLOWS;
 use tables::STRIDE;
+use tables::columns;
 ghost use mathlib.Core.Path.{_≡_};
 ghost use mathlib.Core.List.{[]};
 ghost use Prim.Native.Nat.{suc, _+_, _*_, _≤_, _<_};
@@ -19,14 +20,22 @@ ghost use Rattle.tables.specs.Columns.{columns, FlowsInRange, ExtrasInRange};
 
 // The wire bits of the frames that a flow brings to a port.
 fn flow_bits(period: u32, count: u16, bytes: u16, jitter: u32, extra: u8, widened: u32) -> u64
-    requires { ⌜ (minPeriod ≤ period) × (period ≤ maxPeriod) × (count ≤ maxCount) × (bytes ≤ maxLength) × (jitter ≤ maxJitter) × (extra ≤ maxExtra) × (widened ≤ mostWidened) ⌝ }
+    requires { ⌜
+        (minPeriod ≤ period)
+        × (period ≤ maxPeriod)
+        × (count ≤ maxCount)
+        × (bytes ≤ maxLength)
+        × (jitter ≤ maxJitter)
+        × (extra ≤ maxExtra)
+        × (widened ≤ mostWidened)
+        ⌝ }
     ensures { λ r. ⌜ r ≡ framesBy count widened jitter period * bitsOf bytes extra ⌝ }
 {
     flow_frames(period, count, jitter, widened) * wire_bits(bytes, extra)
 }
 
 // Whether a route holds the port in slot q.
-fn route_holds<'a>(routes: &'a [u8; 4096], base: usize, hops: usize, q: usize) -> bool
+fn route_holds<'a>(routes: &'a columns::Routes, base: usize, hops: usize, q: usize) -> bool
     requires { ⌜ (base + hops ≤ flowSlots * routeStride) × (q < portSlots) ⌝ }
     ensures { λ r. ⌜ r ≡ elem (suc q) (sublist (now (routes .entry)) base hops) ⌝ }
 {
@@ -44,19 +53,27 @@ fn route_holds<'a>(routes: &'a [u8; 4096], base: usize, hops: usize, q: usize) -
 // The demand of the port in slot q.
 pub(crate) fn port_demand<'a>(
     clock: Clock,
-    extras: &'a [u8; 64],
-    periods: &'a [u32; 256],
-    counts: &'a [u16; 256],
-    lengths: &'a [u16; 256],
-    jitters: &'a [u32; 256],
-    hops: &'a [u8; 256],
-    routes: &'a [u8; 4096],
+    extras: &'a columns::Extras,
+    periods: &'a columns::Periods,
+    counts: &'a columns::Counts,
+    lengths: &'a columns::Lengths,
+    jitters: &'a columns::Jitters,
+    hops: &'a columns::Hops,
+    routes: &'a columns::Routes,
     duration: u64,
     q: usize,
 ) -> u64
-    requires { ⌜ FlowsInRange (now periods) (now counts) (now lengths) (now jitters) (now hops) (now routes) × ExtrasInRange (now extras) ⌝ }
+    requires { ⌜
+        FlowsInRange (now periods) (now counts) (now lengths) (now jitters) (now hops) (now routes)
+        × ExtrasInRange (now extras)
+        ⌝ }
     requires { ⌜ (widenedBy (clockOf clock) duration ≤ mostWidened) × (q < portSlots) ⌝ }
-    ensures { λ r. ⌜ r ≡ demand (columns (clockOf clock) [] [] (now (extras .entry)) (now (periods .entry)) (now (counts .entry)) (now (lengths .entry)) (now (jitters .entry)) (now (hops .entry)) (now (routes .entry))) q duration ⌝ }
+    ensures { λ r. ⌜
+        r ≡ demand
+        (columns (clockOf clock) [] [] (now (extras .entry)) (now (periods .entry)) (now (counts .entry))
+        (now (lengths .entry)) (now (jitters .entry)) (now (hops .entry)) (now (routes .entry)))
+        q duration
+        ⌝ }
 {
     let at = duration as u32;
     let over = widened(clock, at) as u32;

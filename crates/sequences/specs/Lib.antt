@@ -6,5 +6,7 @@ pub mod Restored
 pub mod Scheduled
 pub mod NoWorse
 pub mod Iterations
+pub mod FixedPointMeaning
+pub mod GatesMeaning
 pub mod laws
 pub mod results

@@ -5,7 +5,7 @@ use mathlib.Core.List.{List, [], _∷_}
 use mathlib.Core.Option.{some}
 use Prim.Native.Nat.{ℕ, _≤_}
 use Rattle.cqf.specs.Plan.{Plan}
-use Rattle.cqf.specs.LargeEnough.{Counterexample, AllOnTime}
+use Rattle.cqf.specs.LargeEnough.{Counterexample, OrderedCounterexample, AllOnTime}
 use Rattle.plan_reading.specs.Reading.{accepted, Mode, readAs}
 use Rattle.answers.specs.Answer.{Answer, result, refusal}
 use Rattle.answers.specs.Refusals.{notAdmissible}
@@ -18,24 +18,27 @@ pub record Refuses (answer : Answer (Unit {0})) : Type 0 where
   pub is : answer ≡ refusal notAdmissible (lowest ∷ count ∷ [])
 
 -- An answer that refuses T, and one that accepts it. T is refused exactly when some emission that keeps every flow's contract
--- leaves a frame unsent in some permitted cycles; it is accepted exactly when none does; and then every frame of every such
--- emission is on time in all of them.
+-- leaves a frame unsent in some permitted cycles, and then one with its nominal instants in order does; it is accepted exactly when
+-- none does, in order or not; and then every frame of every such emission is on time in all of them.
 pub record Means (p : Plan) (T : ℕ) (refuses accepts : Type 0) : Type 0 where
   pub refused : refuses ↔ Counterexample p T
+  pub refused-in-order : refuses → OrderedCounterexample p T
   pub accepted : accepts ↔ (Counterexample p T → ⊥)
   pub on-time : accepts → AllOnTime p T
 
--- the same after every sequence of calls that leaves the planner at these tables: the plan is the one in the bytes of the last
--- load in which the rules of its reading find no refusal, and T is from 1 to its top
-abbrev pub MeansHeld : Plan → ℕ → (refuses accepts : Type 0) → Type 0
-MeansHeld tables T refuses accepts =
+-- What is said of the plan held, after every sequence of calls that leaves the planner at these tables: the plan is the one in the
+-- bytes of the last load in which the rules of its reading find no refusal.
+abbrev pub OfHeld : Plan → (Plan → Type 0) → Type 0
+OfHeld tables Says =
     (calls : List Call) (mode : Mode) (bytes : List ℕ) (p : Plan) (ports flows : ℕ)
     → tables ≡ after calls
     → heldBytes calls ≡ some bytes
     → readAs mode bytes ≡ accepted p ports flows
-    → 1 ≤ T
-    → T ≤ p .top
-    → Means p T refuses accepts
+    → Says p
+
+-- that an answer means what it says, of a T from 1 to the top of that plan
+abbrev pub MeansHeld : Plan → ℕ → (refuses accepts : Type 0) → Type 0
+MeansHeld tables T refuses accepts = OfHeld tables (λ p. 1 ≤ T → T ≤ p .top → Means p T refuses accepts)
 
 -- of an answer of the plain question: 21 refuses, the result accepts (document 01, demand 3)
 abbrev pub CheckMeans : Plan → ℕ → Answer (Unit {0}) → Type 0

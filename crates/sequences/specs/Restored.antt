@@ -10,17 +10,19 @@ use Rattle.loading.specs.Outcome.{loadAnswer, loadLeaves}
 use Rattle.saving.specs.Save.{saveAnswer, saveLeaves}
 use Rattle.sequences.specs.Reply.{SameAnswers}
 
--- A buffer as it was and as it is left, with n bytes written. They are no more than a plan may have; either load accepts them and
--- then holds the plan p, whatever was held before, so that every question is answered as by p; and the bytes behind them remain.
-pub record Restores (p : Plan) (buffer exit : List ℕ) (n : ℕ) : Type 0 where
+-- A buffer as it was and as it is left, with n bytes written. They are no more than a plan may have; either load accepts them with
+-- these numbers of port and flow fields and then holds the plan p, whatever was held before, so that every question is answered as
+-- by p; and the bytes behind them remain.
+pub record Restores (p : Plan) (ports flows : ℕ) (buffer exit : List ℕ) (n : ℕ) : Type 0 where
   pub most : n ≤ maxBytes
-  pub ports : ℕ
-  pub flows : ℕ
   pub accepted : (mode : Mode) → loadAnswer mode (take n exit) ≡ result (record { ports = ports; flows = flows })
   pub holds : (mode : Mode) (held : Plan) → loadLeaves mode held (take n exit) ≡ p
   pub alike : (mode : Mode) (held : Plan) → SameAnswers (loadLeaves mode held (take n exit)) p
   pub rest : drop n exit ≡ drop n buffer
 
 -- so it is in every buffer into which the planner's tables are saved with the answer n
-abbrev pub SavedAs : (tables p : Plan) → Type 0
-SavedAs tables p = (buffer : List ℕ) (n : ℕ) → saveAnswer tables buffer ≡ result n → Restores p buffer (saveLeaves tables buffer) n
+abbrev pub SavedAs : (tables p : Plan) (ports flows : ℕ) → Type 0
+SavedAs tables p ports flows =
+    (buffer : List ℕ) (n : ℕ)
+    → saveAnswer tables buffer ≡ result n
+    → Restores p ports flows buffer (saveLeaves tables buffer) n

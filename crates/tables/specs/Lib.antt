@@ -1,4 +1,4 @@
 -- The tables of a held plan.
-pub mod Tables
 pub mod Columns
+pub mod Tables
 pub mod laws

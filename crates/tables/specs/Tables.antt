@@ -1,21 +1,10 @@
 -- The plan that a planner's tables hold.
 use Rattle.cqf.specs.Plan.{Plan}
 use Rattle.numbers.specs.Clock.{clockOf}
+use Rattle.tables.specs.Columns.{planBy}
 use Rattle.tables.specs.declared.Planner.{Planner}
 
 abbrev pub planOf : Planner → Plan
 planOf s =
-    record {
-      guard = s .guard;
-      top = s .top;
-      clock = clockOf (s .clock);
-      rates = s .rates;
-      blockings = s .blockings;
-      extras = s .extras;
-      periods = s .periods;
-      counts = s .counts;
-      lengths = s .lengths;
-      jitters = s .jitters;
-      hops = s .hops;
-      routes = s .routes;
-    }
+    planBy (s .guard) (s .top) (clockOf (s .clock)) (s .rates) (s .blockings) (s .extras) (s .periods) (s .counts) (s .lengths)
+    (s .jitters) (s .hops) (s .routes)

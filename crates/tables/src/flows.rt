@@ -1,6 +1,8 @@
 // Whether the slots of the flows are empty or in range, with routes over distinct ports of the plan, and whether one holds a flow.
 use crate::FLOWS;
+use crate::PORTS;
 use crate::STRIDE;
+use crate::columns;
 use numbers::limits::count_ok;
 use numbers::limits::hops_ok;
 use numbers::limits::jitter_ok;
@@ -18,11 +20,19 @@ ghost use Rattle.tables.specs.Columns.{columns};
 const LAST_PORT: u8 = numbers::limits::MAX_PORT as u8;
 
 // Whether each port of a route is in the plan and stands in the route once.
-fn valid_route<'a>(rates: &'a [u32; 64], routes: &'a [u8; 4096], base: usize, hops: usize) -> bool
+fn valid_route<'a>(
+    rates: &'a columns::Rates,
+    routes: &'a columns::Routes,
+    base: usize,
+    hops: usize,
+) -> bool
     requires { ⌜ base + hops ≤ flowSlots * routeStride ⌝ }
-    ensures { λ r. ⌜ r ≡ every (portIn (now (rates .entry))) (sublist (now (routes .entry)) base hops) && distinct (sublist (now (routes .entry)) base hops) ⌝ }
+    ensures { λ r. ⌜
+        r ≡ every (portIn (now (rates .entry))) (sublist (now (routes .entry)) base hops) && distinct
+        (sublist (now (routes .entry)) base hops)
+        ⌝ }
 {
-    let mut seen = [0u8; 64];
+    let mut seen = [0u8; PORTS];
     let mut i: usize = 0;
     while i < hops {
         let n = routes[base + i];
@@ -66,17 +76,22 @@ fn flow_in_range(period: u32, count: u16, bytes: u16, jitter: u32, hops: u8) -> 
 
 // Whether a flow's slot is empty, or holds a flow in range over distinct ports of the plan.
 fn valid_flow<'a>(
-    rates: &'a [u32; 64],
-    periods: &'a [u32; 256],
-    counts: &'a [u16; 256],
-    lengths: &'a [u16; 256],
-    jitters: &'a [u32; 256],
-    hops: &'a [u8; 256],
-    routes: &'a [u8; 4096],
+    rates: &'a columns::Rates,
+    periods: &'a columns::Periods,
+    counts: &'a columns::Counts,
+    lengths: &'a columns::Lengths,
+    jitters: &'a columns::Jitters,
+    hops: &'a columns::Hops,
+    routes: &'a columns::Routes,
     f: usize,
 ) -> bool
     requires { ⌜ f < flowSlots ⌝ }
-    ensures { λ r. ⌜ r ≡ validFlow (columns equalClocks (now (rates .entry)) [] [] (now (periods .entry)) (now (counts .entry)) (now (lengths .entry)) (now (jitters .entry)) (now (hops .entry)) (now (routes .entry))) f ⌝ }
+    ensures { λ r. ⌜
+        r ≡ validFlow
+        (columns equalClocks (now (rates .entry)) [] [] (now (periods .entry)) (now (counts .entry))
+        (now (lengths .entry)) (now (jitters .entry)) (now (hops .entry)) (now (routes .entry)))
+        f
+        ⌝ }
 {
     let period = periods[f];
     let count = counts[f];
@@ -102,15 +117,20 @@ fn valid_flow<'a>(
 }
 
 pub(crate) fn valid_flows<'a>(
-    rates: &'a [u32; 64],
-    periods: &'a [u32; 256],
-    counts: &'a [u16; 256],
-    lengths: &'a [u16; 256],
-    jitters: &'a [u32; 256],
-    hops: &'a [u8; 256],
-    routes: &'a [u8; 4096],
+    rates: &'a columns::Rates,
+    periods: &'a columns::Periods,
+    counts: &'a columns::Counts,
+    lengths: &'a columns::Lengths,
+    jitters: &'a columns::Jitters,
+    hops: &'a columns::Hops,
+    routes: &'a columns::Routes,
 ) -> bool
-    ensures { λ r. ⌜ r ≡ allTo flowSlots (validFlow (columns equalClocks (now (rates .entry)) [] [] (now (periods .entry)) (now (counts .entry)) (now (lengths .entry)) (now (jitters .entry)) (now (hops .entry)) (now (routes .entry)))) ⌝ }
+    ensures { λ r. ⌜
+        r ≡ allTo flowSlots
+        (validFlow
+        (columns equalClocks (now (rates .entry)) [] [] (now (periods .entry)) (now (counts .entry))
+        (now (lengths .entry)) (now (jitters .entry)) (now (hops .entry)) (now (routes .entry))))
+        ⌝ }
 {
     let mut f: usize = 0;
     while f < FLOWS {
@@ -122,7 +142,7 @@ pub(crate) fn valid_flows<'a>(
     true
 }
 
-pub(crate) fn any_present(periods: &[u32; 256]) -> bool
+pub(crate) fn any_present(periods: &columns::Periods) -> bool
     ensures { λ r. ⌜ r ≡ anyTo flowSlots (present (columns equalClocks [] [] [] (now (periods .entry)) [] [] [] [] [])) ⌝ }
 {
     let mut f: usize = 0;

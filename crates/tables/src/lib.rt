@@ -11,11 +11,11 @@ pub const FLOWS: usize = numbers::limits::MAX_FLOW as usize;
 
 pub const STRIDE: usize = 16;
 
+pub mod columns; // columns.rt: the type of each column
 mod valid; // valid.rt: whether the tables hold a plan that the rules accept
 mod ports; // ports.rt: the slots of the ports
 mod flows; // flows.rt: the slots of the flows
 
-pub use valid::valid_plan;
 pub use valid::valid_tables;
 
 // The held plan: port n in slot n - 1, flow n in slot n - 1, a flow's route at its slot times the stride. An absent port has rate 0,
@@ -25,15 +25,15 @@ pub struct Planner {
     pub guard: u32,
     pub top: u32,
     pub clock: Clock,
-    pub rates: [u32; 64],
-    pub blockings: [u16; 64],
-    pub extras: [u8; 64],
-    pub periods: [u32; 256],
-    pub counts: [u16; 256],
-    pub lengths: [u16; 256],
-    pub jitters: [u32; 256],
-    pub hops: [u8; 256],
-    pub routes: [u8; 4096],
+    pub rates: columns::Rates,
+    pub blockings: columns::Blockings,
+    pub extras: columns::Extras,
+    pub periods: columns::Periods,
+    pub counts: columns::Counts,
+    pub lengths: columns::Lengths,
+    pub jitters: columns::Jitters,
+    pub hops: columns::Hops,
+    pub routes: columns::Routes,
 }
 
 // The planner that holds no plan.
@@ -48,14 +48,14 @@ pub fn empty() -> Planner
             timing_jitter: 0,
             sync_error: 0,
         },
-        rates: [0; 64],
-        blockings: [0; 64],
-        extras: [0; 64],
-        periods: [0; 256],
-        counts: [0; 256],
-        lengths: [0; 256],
-        jitters: [0; 256],
-        hops: [0; 256],
-        routes: [0; 4096],
+        rates: [0; PORTS],
+        blockings: [0; PORTS],
+        extras: [0; PORTS],
+        periods: [0; FLOWS],
+        counts: [0; FLOWS],
+        lengths: [0; FLOWS],
+        jitters: [0; FLOWS],
+        hops: [0; FLOWS],
+        routes: [0; FLOWS * STRIDE],
     }
 }

@@ -1,5 +1,6 @@
 // Whether the slots of the ports are empty or in range.
 use crate::PORTS;
+use crate::columns;
 use numbers::limits::blocking_ok;
 use numbers::limits::extra_ok;
 use numbers::limits::rate_ok;
@@ -14,7 +15,9 @@ ghost use Rattle.tables.specs.Columns.{columns};
 
 // Whether a port's slot is empty, or in range.
 fn valid_port(rate: u32, blocking: u16, extra: u8) -> bool
-    ensures { λ r. ⌜ r ≡ (eqb rate 0 && eqb blocking 0 && eqb extra 0) || (rateOk rate && blockingOk blocking && extraOk extra) ⌝ }
+    ensures { λ r. ⌜
+        r ≡ (eqb rate 0 && eqb blocking 0 && eqb extra 0) || (rateOk rate && blockingOk blocking && extraOk extra)
+        ⌝ }
 {
     if rate == 0 {
         if blocking != 0 {
@@ -32,11 +35,15 @@ fn valid_port(rate: u32, blocking: u16, extra: u8) -> bool
 }
 
 pub(crate) fn valid_ports<'a>(
-    rates: &'a [u32; 64],
-    blockings: &'a [u16; 64],
-    extras: &'a [u8; 64],
+    rates: &'a columns::Rates,
+    blockings: &'a columns::Blockings,
+    extras: &'a columns::Extras,
 ) -> bool
-    ensures { λ r. ⌜ r ≡ allTo portSlots (validPort (columns equalClocks (now (rates .entry)) (now (blockings .entry)) (now (extras .entry)) [] [] [] [] [] [])) ⌝ }
+    ensures { λ r. ⌜
+        r ≡ allTo portSlots
+        (validPort
+        (columns equalClocks (now (rates .entry)) (now (blockings .entry)) (now (extras .entry)) [] [] [] [] [] []))
+        ⌝ }
 {
     let mut q: usize = 0;
     while q < PORTS {

@@ -1,5 +1,5 @@
 // Whether the tables hold a plan that the rules accept; any other tables are answered as ones that hold no plan.
-use crate::Planner;
+use crate::columns;
 use crate::flows::any_present;
 use crate::flows::valid_flows;
 use crate::ports::valid_ports;
@@ -10,7 +10,6 @@ use numbers::limits::top_ok;
 ghost use mathlib.Core.Path.{_≡_};
 ghost use Rattle.cqf.specs.Plan.{validPlan};
 ghost use Rattle.numbers.specs.Clock.{clockOf};
-ghost use Rattle.tables.specs.Tables.{planOf};
 ghost use Rattle.tables.specs.Columns.{planBy};
 
 // For tables that are lent column by column.
@@ -18,17 +17,22 @@ pub fn valid_tables<'a>(
     guard: u32,
     top: u32,
     clock: Clock,
-    rates: &'a [u32; 64],
-    blockings: &'a [u16; 64],
-    extras: &'a [u8; 64],
-    periods: &'a [u32; 256],
-    counts: &'a [u16; 256],
-    lengths: &'a [u16; 256],
-    jitters: &'a [u32; 256],
-    hops: &'a [u8; 256],
-    routes: &'a [u8; 4096],
+    rates: &'a columns::Rates,
+    blockings: &'a columns::Blockings,
+    extras: &'a columns::Extras,
+    periods: &'a columns::Periods,
+    counts: &'a columns::Counts,
+    lengths: &'a columns::Lengths,
+    jitters: &'a columns::Jitters,
+    hops: &'a columns::Hops,
+    routes: &'a columns::Routes,
 ) -> bool
-    ensures { λ r. ⌜ r ≡ validPlan (planBy guard top (clockOf clock) (now (rates .entry)) (now (blockings .entry)) (now (extras .entry)) (now (periods .entry)) (now (counts .entry)) (now (lengths .entry)) (now (jitters .entry)) (now (hops .entry)) (now (routes .entry))) ⌝ }
+    ensures { λ r. ⌜
+        r ≡ validPlan
+        (planBy guard top (clockOf clock) (now (rates .entry)) (now (blockings .entry)) (now (extras .entry))
+        (now (periods .entry)) (now (counts .entry)) (now (lengths .entry)) (now (jitters .entry))
+        (now (hops .entry)) (now (routes .entry)))
+        ⌝ }
 {
     if !top_ok(top) {
         return false;
@@ -46,23 +50,4 @@ pub fn valid_tables<'a>(
         return false;
     }
     any_present(periods)
-}
-
-pub fn valid_plan(planner: Planner) -> bool
-    ensures { λ r. ⌜ r ≡ validPlan (planOf planner) ⌝ }
-{
-    valid_tables(
-        planner.guard,
-        planner.top,
-        planner.clock,
-        &planner.rates,
-        &planner.blockings,
-        &planner.extras,
-        &planner.periods,
-        &planner.counts,
-        &planner.lengths,
-        &planner.jitters,
-        &planner.hops,
-        &planner.routes,
-    )
 }

@@ -6,15 +6,9 @@ use Rattle.capi.specs.laws.Meaning.{check-numbers-mean}
 use Rattle.capi.proofs.cp_check.Statement.{statement}
 use Rattle.capi.proofs.cp_check.Tie as tie
 
-check-requires : tie.Need-check-requires
-check-requires c κs = search needs
-
-check-in-c-requires : tie.Need-check-in-c-requires
-check-in-c-requires c κs = search needs
-
 returns : tie.Need-returns
 returns c =
     (c .check-in-c .ensures ∙ ap checkNumbers (c .before .check .ensures .0), check-numbers-mean (c .before .check .result) (c .check-in-c .result) (c .check-in-c .ensures) _ _ (c .before .check .ensures .1))
 
 pub cp-check-spec : {M : Type 1} → statement M
-cp-check-spec = tie.close (tie.spec check-requires check-in-c-requires returns)
+cp-check-spec = tie.close (tie.spec (λ c κs. search needs) (λ c κs. search needs) returns)

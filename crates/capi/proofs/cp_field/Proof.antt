@@ -5,14 +5,8 @@ use Rattle.capi.specs.Numbers.{fieldNumbers}
 use Rattle.capi.proofs.cp_field.Statement.{statement}
 use Rattle.capi.proofs.cp_field.Tie as tie
 
-read-field-requires : tie.Need-read-field-requires
-read-field-requires c κs = search needs
-
-field-in-c-requires : tie.Need-field-in-c-requires
-field-in-c-requires c κs = search needs
-
 returns : tie.Need-returns
 returns c = c .field-in-c .ensures ∙ ap fieldNumbers (c .before .read-field .ensures)
 
 pub cp-field-spec : {M : Type 1} → statement M
-cp-field-spec = tie.close (tie.spec read-field-requires field-in-c-requires returns)
+cp-field-spec = tie.close (tie.spec (λ c κs. search needs) (λ c κs. search needs) returns)

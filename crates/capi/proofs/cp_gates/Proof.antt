@@ -1,21 +1,15 @@
--- `capi::cp_gates` meets its contract: the planner's answer as numbers.
+-- `capi::cp_gates` meets its contract: the planner's answer as numbers, which mean what it means.
 use mathlib.Core.Path.{_∙_, ap}
 use borrow.Author.Needs.{needs}
 use Rattle.capi.specs.Numbers.{writtenNumbers}
+use Rattle.capi.specs.laws.GatesMeaning.{gates-in-c-mean}
 use Rattle.capi.proofs.cp_gates.Statement.{statement}
 use Rattle.capi.proofs.cp_gates.Tie as tie
 
-gates-requires : tie.Need-gates-requires
-gates-requires c κs = search needs
-
-gates-in-c-requires : tie.Need-gates-in-c-requires
-gates-in-c-requires c κs = search needs
-
-same-length : tie.Need-same-length
-same-length c = search needs
-
 returns : tie.Need-returns
-returns c = (c .gates-in-c .ensures ∙ ap writtenNumbers (c .before .before .before .gates .ensures .0), c .before .before .before .gates .ensures .1)
+returns c =
+    let g = c .before .before .before .gates in
+    ((c .gates-in-c .ensures ∙ ap writtenNumbers (g .ensures .0 .0), g .ensures .0 .1), gates-in-c-mean (g .result) (c .gates-in-c .result) (c .gates-in-c .ensures) _ _ _ _ _ _ (g .ensures .1))
 
 pub cp-gates-spec : {M : Type 1} → statement M
-cp-gates-spec = tie.close (tie.spec gates-requires gates-in-c-requires same-length returns)
+cp-gates-spec = tie.close (tie.spec (λ c κs. search needs) (λ c κs. search needs) (λ c. search needs) returns)

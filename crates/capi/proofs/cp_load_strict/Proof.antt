@@ -5,12 +5,6 @@ use Rattle.capi.specs.Numbers.{loadNumbers}
 use Rattle.capi.proofs.cp_load_strict.Statement.{statement}
 use Rattle.capi.proofs.cp_load_strict.Tie as tie
 
-read-plan-requires : tie.Need-read-plan-requires
-read-plan-requires c κs = search needs
-
-outcome-numbers-requires : tie.Need-outcome-numbers-requires
-outcome-numbers-requires c κs = search needs
-
 returns : tie.Need-returns
 returns c =
     let told = c .outcome-numbers .ensures in
@@ -18,4 +12,4 @@ returns c =
     (told .0 ∙ outcome .leaves, told .1 ∙ ap loadNumbers (outcome .answers))
 
 pub cp-load-strict-spec : {M : Type 1} → statement M
-cp-load-strict-spec = tie.close (tie.spec read-plan-requires outcome-numbers-requires returns)
+cp-load-strict-spec = tie.close (tie.spec (λ c κs. search needs) (λ c κs. search needs) returns)

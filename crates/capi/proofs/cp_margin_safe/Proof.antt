@@ -5,18 +5,9 @@ use Rattle.capi.specs.Numbers.{searchNumbers}
 use Rattle.capi.proofs.cp_margin_safe.Statement.{statement}
 use Rattle.capi.proofs.cp_margin_safe.Tie as tie
 
-margin-safe-requires : tie.Need-margin-safe-requires
-margin-safe-requires c κs = search needs
-
-margin-safe-in-c-requires : tie.Need-margin-safe-in-c-requires
-margin-safe-in-c-requires c κs = search needs
-
-same-length : tie.Need-same-length
-same-length c = search needs
-
 returns : tie.Need-returns
 returns c = (c .margin-safe-in-c .ensures ∙ ap searchNumbers (c .before .before .before .margin-safe .ensures .0), c .before .before .before .margin-safe .ensures .1)
 
 pub cp-margin-safe-spec : {M : Type 1} → statement M
 cp-margin-safe-spec =
-    tie.close (tie.spec margin-safe-requires margin-safe-in-c-requires same-length returns)
+    tie.close (tie.spec (λ c κs. search needs) (λ c κs. search needs) (λ c. search needs) returns)

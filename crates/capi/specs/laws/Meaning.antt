@@ -47,6 +47,7 @@ means-iff
 means-iff refused accepted m =
     record {
       refused = (λ x. m .refused .0 (refused .1 x), λ x. refused .0 (m .refused .1 x));
+      refused-in-order = λ x. m .refused-in-order (refused .1 x);
       accepted = (λ x. m .accepted .0 (accepted .1 x), λ x. accepted .0 (m .accepted .1 x));
       on-time = λ x. m .on-time (accepted .1 x);
     }

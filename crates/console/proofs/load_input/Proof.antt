@@ -2,6 +2,7 @@
 use mathlib.Core.Path.{sym}
 use lib.Seq.{length-take-le}
 use borrow.Author.Needs.{needs}
+use Rattle.console.specs.declared.Input.{Input}
 use Rattle.console.proofs.load_input.Statement.{statement}
 use Rattle.console.proofs.load_input.Tie as tie
 
@@ -34,13 +35,15 @@ same-length : tie.Need-same-length
 same-length c = search needs
 
 returns : tie.Need-returns
-returns c = search needs
+returns c = record { input = Input.Failed; within = tt; loaded = c .load-bytes .ensures }
 
 same-length-2 : tie.Need-same-length-2
 same-length-2 c = search needs
 
 returns-2 : tie.Need-returns-2
-returns-2 c = search needs
+returns-2 c =
+    let read = c .before .before .before .before .before .before .before .read-input in
+    record { input = read .result; within = read .ensures; loaded = rw (c .before .before .before .input .given .1) (c .load-bytes2 .ensures) }
 
 pub load-input-spec : {M : Type 1} → statement M
 load-input-spec =

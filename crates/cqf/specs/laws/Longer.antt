@@ -7,17 +7,15 @@ use native.Mathlib.Nat.{le-refl, mul-zero, suc-mul}
 use native.Mathlib.Decide.{decLt}
 use native.Mathlib.Omega.{arith}
 use lib.ListN.{length, getD}
-use lib.Dec.{ltb}
-use borrow.Author.Tests.{leb-true, lt-ltb}
-use Rattle.cqf.specs.Bounded.{elem}
+use borrow.Author.Tests.{leb-true}
 use Rattle.cqf.specs.Limits.{portSlots, flowSlots, portOk, maxHops}
 use Rattle.cqf.specs.Plan.{Plan, hopsOf, routeOf, present, crosses, portIn, validPlan}
-use Rattle.cqf.specs.Port.{window, capacity, workload}
-use Rattle.cqf.specs.Condition.{demand, crossed, fails, admissible}
+use Rattle.cqf.specs.Port.{window, capacity}
+use Rattle.cqf.specs.Condition.{crossed, admissible}
 use Rattle.cqf.specs.Run.{MayEnd}
 use Rattle.cqf.specs.laws.Bounded.{anyTo-true, anyTo-some}
 use Rattle.cqf.specs.laws.Lists.{elem-at, every-at, sublist-length}
-use Rattle.cqf.specs.laws.Valid.{Held, present-slot, present-held}
+use Rattle.cqf.specs.laws.Valid.{present-held}
 use Rattle.cqf.specs.laws.Condition.{none-fails, demand-pos}
 use Rattle.cqf.specs.laws.Need.{workload-positive, fails-over}
 

@@ -5,9 +5,8 @@ use mathlib.Core.Bool.{Bool, true, false}
 use Prim.Native.Nat.{ℕ, suc, _+_, _*_, _/_, _≤_, _<_}
 use native.Mathlib.Nat.{div-mul-le-self, lt-div-mul-add, zero-div, le-div-iff-mul-le, le-trans}
 use native.Mathlib.Omega.{arith}
-use lib.ListN.{length, getD, length-map, List·getD-map}
+use lib.ListN.{getD, length-map, List·getD-map}
 use Rattle.cqf.specs.Plan.{Plan, clocksEqual}
-use Rattle.cqf.specs.Widened.{widened}
 use Rattle.cqf.specs.Emission.{Emission, Keeps}
 use Rattle.cqf.specs.Cycles.{Cycles, cyclesOf, Partition, Permitted, aligned, parted}
 use Rattle.cqf.specs.laws.Begun.{widened-covers}

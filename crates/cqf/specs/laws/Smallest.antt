@@ -121,20 +121,3 @@ margin-safe-none p h = (
 
     at-top : admissible p (p .top) ≡ true → (t : ℕ) → p .top ≤ t → t ≤ p .top → admissible p t ≡ true
     at-top a t l m = ap (admissible p) (le-antisymm m l) ∙ a
-
--- the margin-safe duration, where there is one, is admissible
-pub margin-safe-admissible : (p : Plan) → marginSafe p ≤ p .top → admissible p (marginSafe p) ≡ true
-margin-safe-admissible p l =
-    safe-at p (marginSafe p) (marginSafe p) (rw margin-safe-of (smallest-passes (safeFrom p) (p .top) (rw margin-safe-of at l))) (le-refl _) l
-
--- the least duration is no longer than the margin-safe one
-pub least-le-margin-safe : (p : Plan) → least p ≤ marginSafe p
-least-le-margin-safe p = go (decLe (marginSafe p) (p .top)) (decLt (marginSafe p) (least p))
-  where
-    go : Dec (marginSafe p ≤ p .top) → Dec (marginSafe p < least p) → least p ≤ marginSafe p
-    go (yes l) (yes less) =
-        let first : 1 ≤ marginSafe p = rw margin-safe-of (smallest-positive (safeFrom p) (p .top)) in
-        let below = smallest-below (admissible p) (p .top) (marginSafe p) first (rw least-of at less) in
-        absurd (false≢true (sym below ∙ margin-safe-admissible p l))
-    go (no more) d = omega (arith, least-of p, smallest-le (admissible p) (p .top))
-    go (yes l) (no more) = omega arith

@@ -1,6 +1,6 @@
 -- The large-enough-cycle theorem: for every valid plan and every duration T from 1, T is admissible exactly when no
 -- emission that keeps every contract leaves a frame unsent in any permitted cycles, and then every frame of every such emission is
--- on time in all of them.
+-- on time in all of them. Where it is not admissible, one with its nominal instants in order leaves a frame unsent.
 use mathlib.Core.Path.{_≡_, sym, _∙_}
 use mathlib.Core.Bool.{true, false}
 use mathlib.Mathlib.Data.Bool.Basic.{eq-false-of-not-eq-true}
@@ -10,7 +10,6 @@ use Rattle.cqf.specs.Condition.{admissible}
 use Rattle.cqf.specs.LargeEnough.{Counterexample, LargeEnough}
 use Rattle.cqf.specs.laws.Places.{running≢stopped}
 use Rattle.cqf.specs.laws.Accepted.{goes-on, on-time}
-use Rattle.cqf.specs.Emission.{NominalsInOrder}
 use Rattle.cqf.specs.laws.Refused.{counterexample, counterexample-ordered}
 
 -- a duration with a counterexample is not admissible: the run of its emission would never stop
@@ -26,17 +25,6 @@ pub large-enough : (p : Plan) → validPlan p ≡ true → (T : ℕ) → 0 < T �
 large-enough p valid T long =
     record {
       refused = (counterexample p valid T long, counterexample-refused p valid T long);
+      refused-in-order = λ bad. record { one = counterexample p valid T long bad; ordered = counterexample-ordered p valid T long bad };
       accepted = λ good e keeps cycles permitted f k _. on-time p valid T long good e keeps cycles permitted f k;
     }
-
--- Where a duration is refused, some such emission has nominal instants that never fall. So the theorem holds also of a contract that
--- asks that order: fewer emissions keep it, and one of these still leaves a frame unsent.
-pub refused-in-order
-    : (p : Plan)
-    → validPlan p ≡ true
-    → (T : ℕ)
-    → 0 < T
-    → admissible p T ≡ false
-    → (bad : Counterexample p T) × NominalsInOrder (bad .keeps)
-refused-in-order p valid T long refused =
-    (counterexample p valid T long refused, counterexample-ordered p valid T long refused)

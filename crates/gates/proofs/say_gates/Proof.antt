@@ -18,7 +18,7 @@ module _ (c : tie.After-known-told) where
   room : c .before .answer .given .0 .0 ≤ 48
   room =
       let a = asked .before .before .args in
-      gates-fit (planOf (a .planner)) (a .duration) (a .even) (a .odd) _ _ (sym (asked .gates .ensures .0) ∙ ap gatesOf (c .before .answer .given .1)) .room
+      gates-fit (planOf (a .planner)) (a .duration) (a .even) (a .odd) _ _ (sym (asked .gates .ensures .0 .0) ∙ ap gatesOf (c .before .answer .given .1)) .room
 
 slice-aggregate-gates : tie.Need-slice-aggregate-gates
 slice-aggregate-gates c = search needs
@@ -29,17 +29,23 @@ gates-requires c κs = search needs
 enum-known-answer : tie.Need-enum-known-answer
 enum-known-answer c = search needs
 
+warn-requires : tie.Need-warn-requires
+warn-requires c κs = search needs
+
 array-share-prefix-list : tie.Need-array-share-prefix-list
-array-share-prefix-list c = omega (arith, room c)
+array-share-prefix-list c = omega (arith, room (c .before))
 
 slice-aggregate-say-list : tie.Need-slice-aggregate-say-list
-slice-aggregate-say-list c = sym (length-take-le _ _ (omega (arith, room (c .before))))
+slice-aggregate-say-list c = sym (length-take-le _ _ (omega (arith, room (c .before .before))))
 
 say-list-requires : tie.Need-say-list-requires
 say-list-requires c κs = search needs
 
-say-answer-requires : tie.Need-say-answer-requires
-say-answer-requires c κs = search needs
+finish-requires : tie.Need-finish-requires
+finish-requires c κs = search needs
+
+report-answer-requires : tie.Need-report-answer-requires
+report-answer-requires c κs = search needs
 
 returns : tie.Need-returns
 returns c = search needs
@@ -54,9 +60,11 @@ say-gates-spec =
     slice-aggregate-gates
     gates-requires
     enum-known-answer
+    warn-requires
     array-share-prefix-list
     slice-aggregate-say-list
     say-list-requires
-    say-answer-requires
+    finish-requires
+    report-answer-requires
     returns
     returns-2)

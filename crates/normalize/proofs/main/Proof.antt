@@ -12,11 +12,14 @@ given-plan-requires c κs = search needs
 enum-known-answer : tie.Need-enum-known-answer
 enum-known-answer c = search needs
 
+standard-error-requires : tie.Need-standard-error-requires
+standard-error-requires c κs = search needs
+
 load-number-requires : tie.Need-load-number-requires
 load-number-requires c κs = search needs
 
-report-refused-plan-requires : tie.Need-report-refused-plan-requires
-report-refused-plan-requires c κs = search needs
+say-refused-plan-requires : tie.Need-say-refused-plan-requires
+say-refused-plan-requires c κs = search needs
 
 enum-told : tie.Need-enum-told
 enum-told c = search needs
@@ -36,8 +39,9 @@ main-spec =
     (tie.spec
     given-plan-requires
     enum-known-answer
+    standard-error-requires
     load-number-requires
-    report-refused-plan-requires
+    say-refused-plan-requires
     enum-told
     write-saved-requires
     returns

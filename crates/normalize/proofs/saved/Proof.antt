@@ -8,38 +8,17 @@ use Rattle.normalize.specs.laws.Front.{in-front, not-refused}
 use Rattle.normalize.proofs.saved.Statement.{statement}
 use Rattle.normalize.proofs.saved.Tie as tie
 
-save-requires : tie.Need-save-requires
-save-requires c κs = search needs
-
-enum-known-size : tie.Need-enum-known-size
-enum-known-size c = search needs
-
-enum-told : tie.Need-enum-told
-enum-told c = search needs
-
-enum-told-2 : tie.Need-enum-told-2
-enum-told-2 c = search needs
-
-same-length : tie.Need-same-length
-same-length c = search needs
-
 returns : tie.Need-returns
 returns c =
     let s = c .before .before .before .before .before .before .before .before in
     let call = c .before .before .before .before .before .save .ensures in
     in-front (planOf (s .args .planner)) (now (s .args .buffer)) (s .pre .0) (s .pre .1) (call .0) (call .1) _ (ap saveOf (c .before .size .given .1))
 
-same-length-2 : tie.Need-same-length-2
-same-length-2 c = search needs
-
 returns-2 : tie.Need-returns-2
 returns-2 c =
     let s = c .before .before .before .before .before .before .before in
     let call = c .before .before .before .before .save .ensures in
     absurd (not-refused (planOf (s .args .planner)) (now (s .args .buffer)) (s .pre .0) (s .pre .1) (call .0) (call .1) _ _ (ap saveOf (c .enum-told .given .1)))
-
-same-length-3 : tie.Need-same-length-3
-same-length-3 c = search needs
 
 returns-3 : tie.Need-returns-3
 returns-3 c =
@@ -51,13 +30,13 @@ pub saved-spec : {M : Type 1} → statement M
 saved-spec =
     tie.close
     (tie.spec
-    save-requires
-    enum-known-size
-    enum-told
-    enum-told-2
-    same-length
+    (λ c κs. search needs)
+    (λ c. search needs)
+    (λ c. search needs)
+    (λ c. search needs)
+    (λ c. search needs)
     returns
-    same-length-2
+    (λ c. search needs)
     returns-2
-    same-length-3
+    (λ c. search needs)
     returns-3)

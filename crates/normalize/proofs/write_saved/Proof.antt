@@ -11,16 +11,22 @@ slice-aggregate-saved c = search needs
 saved-requires : tie.Need-saved-requires
 saved-requires c κs = search needs
 
+standard-output-requires : tie.Need-standard-output-requires
+standard-output-requires c κs = search needs
+
 array-share-prefix-buffer : tie.Need-array-share-prefix-buffer
 array-share-prefix-buffer c = search needs
 
 slice-aggregate-say : tie.Need-slice-aggregate-say
 slice-aggregate-say c =
-    let saved = c .before .before .saved in
+    let saved = c .before .before .before .saved in
     omega (arith, saved .ensures .within, length-take (saved .result) (saved .last .1 .0))
 
 say-requires : tie.Need-say-requires
 say-requires c κs = search needs
+
+finish-requires : tie.Need-finish-requires
+finish-requires c κs = search needs
 
 returns : tie.Need-returns
 returns c = search needs
@@ -31,7 +37,9 @@ write-saved-spec =
     (tie.spec
     slice-aggregate-saved
     saved-requires
+    standard-output-requires
     array-share-prefix-buffer
     slice-aggregate-say
     say-requires
+    finish-requires
     returns)

@@ -31,7 +31,7 @@ module _ (s : List ℕ) (at : ℕ) where
   unfolding headAt
   head-whole e = rw e
 
-  pub head-cut : wholeAt s at ≡ false → headAt s at ≡ cut
+  pub head-cut : wholeAt s at ≡ false → headAt s at ≡ cut 2
   unfolding headAt
   head-cut e = rw e
 
@@ -41,7 +41,7 @@ module _ (s : List ℕ) (at : ℕ) where
     where
       go : (b : Bool) → wholeAt s at ≡ b → wholeAt s at ≡ true
       go true w = w
-      go false w = let z : head tag size ≡ cut = e ∙ head-cut w in cc
+      go false w = let z : head tag size ≡ cut 2 = e ∙ head-cut w in cc
 
   pub read-tag : (tag size : ℕ) → head tag size ≡ headAt s at → tag ≡ tagAt s at
   read-tag tag size e = let z : head tag size ≡ head (tagAt s at) (sizeAt s at) = e ∙ head-whole (read-whole tag size e) in cc
@@ -53,12 +53,12 @@ module _ (s : List ℕ) (at : ℕ) where
   read-fits tag size e = omega (arith, read-size tag size e, whole-fits (read-whole tag size e))
 
   -- a cut one is not
-  pub read-cut : cut ≡ headAt s at → wholeAt s at ≡ false
+  pub read-cut : cut 2 ≡ headAt s at → wholeAt s at ≡ false
   read-cut e = go (wholeAt s at) refl
     where
       go : (b : Bool) → wholeAt s at ≡ b → wholeAt s at ≡ false
       go false w = w
-      go true w = let z : cut ≡ head (tagAt s at) (sizeAt s at) = e ∙ head-whole w in cc
+      go true w = let z : cut 2 ≡ head (tagAt s at) (sizeAt s at) = e ∙ head-whole w in cc
 
   -- the splitter's part is the value of a whole field, and nothing of any other
   pub part-whole : wholeAt s at ≡ true → partAt s at ≡ valueAt s at

@@ -10,3 +10,4 @@ pub mod SavedSlots
 pub mod SavedTables
 pub mod SavedRead
 pub mod SavedBack
+pub mod Counts

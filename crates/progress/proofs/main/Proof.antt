@@ -12,6 +12,9 @@ given-plan-requires c κs = search needs
 enum-known-answer : tie.Need-enum-known-answer
 enum-known-answer c = search needs
 
+standard-output-requires : tie.Need-standard-output-requires
+standard-output-requires c κs = search needs
+
 load-number-requires : tie.Need-load-number-requires
 load-number-requires c κs = search needs
 
@@ -24,11 +27,11 @@ enum-told c = search needs
 say-portions-requires : tie.Need-say-portions-requires
 say-portions-requires c κs = held-valid _ (c .before .before .before .before .given-plan .ensures) (ap loadOf (c .enum-told .given .1))
 
+finish-requires : tie.Need-finish-requires
+finish-requires c κs = search needs
+
 returns : tie.Need-returns
 returns c = search needs
-
-returns-2 : tie.Need-returns-2
-returns-2 c = search needs
 
 pub main-spec : {M : Type 1} → statement M
 main-spec =
@@ -36,9 +39,10 @@ main-spec =
     (tie.spec
     given-plan-requires
     enum-known-answer
+    standard-output-requires
     load-number-requires
     say-refused-plan-requires
     enum-told
     say-portions-requires
-    returns
-    returns-2)
+    finish-requires
+    returns)

@@ -32,84 +32,66 @@ single
     → plusSteps (start c .args .used) a ≡ fixedPointAnswer (plan (start c)) 1 (start c .args .used + portionSteps)
 single c e = ap (plusSteps (start c .args .used)) e ∙ sym (portioned (start c .pre) portionSteps)
 
-fixed-point-requires : tie.Need-fixed-point-requires
-fixed-point-requires c κs = search needs
-
-enum-known-answer : tie.Need-enum-known-answer
-enum-known-answer c = search needs
-
 add-t13 : tie.Need-add-t13
 add-t13 c =
     let f = c .before .before .before in
     let s = start f in
-    let e = rw (c .before .answer .given .1) at (f .fixed-point .ensures) in
+    let e = rw (c .before .answer .given .1) at (f .fixed-point .ensures .0) in
     record { fits = omega (arith, few s, found-within (s .pre) portionSteps e) }
-
-enum-told : tie.Need-enum-told
-enum-told c = search needs
-
-enum-told-2 : tie.Need-enum-told-2
-enum-told-2 c = search needs
-
-enum-known-answer-2 : tie.Need-enum-known-answer-2
-enum-known-answer-2 c = search needs
 
 add-t14 : tie.Need-add-t14
 add-t14 c =
     let f = c .before .before .before in
     let s = start f in
-    let e = rw (c .before .answer2 .given .1) at (f .fixed-point .ensures) in
+    let e = rw (c .before .answer2 .given .1) at (f .fixed-point .ensures .0) in
     record { fits = omega (arith, few s, none-within (s .pre) portionSteps e) }
-
-enum-known-answer-3 : tie.Need-enum-known-answer-3
-enum-known-answer-3 c = search needs
 
 add-t15 : tie.Need-add-t15
 add-t15 c =
     let f = c .before .before .before in
     let s = start f in
-    let e = rw (c .before .answer3 .given .1) at (f .fixed-point .ensures) in
+    let e = rw (c .before .answer3 .given .1) at (f .fixed-point .ensures .0) in
     record { fits = omega (arith, few s, stopped-within (s .pre) portionSteps e) }
 
 returns : tie.Need-returns
 returns c =
     let f = c .before .before .before in
-    single f (rw (c .before .answer .given .1) at (f .fixed-point .ensures))
+    single f (rw (c .before .answer .given .1) at (f .fixed-point .ensures .0))
 
 returns-2 : tie.Need-returns-2
 returns-2 c =
     let f = c .before .before in
-    absurd (not-20 (start f .pre) portionSteps (rw (c .enum-told .given .1) at (f .fixed-point .ensures)))
+    absurd (not-20 (start f .pre) portionSteps (rw (c .enum-told .given .1) at (f .fixed-point .ensures .0)))
 
 returns-3 : tie.Need-returns-3
 returns-3 c =
     let f = c .before .before in
-    absurd (not-10 (start f .pre) portionSteps (rw (c .enum-told2 .given .1) at (f .fixed-point .ensures)))
+    absurd (not-10 (start f .pre) portionSteps (rw (c .enum-told2 .given .1) at (f .fixed-point .ensures .0)))
 
 returns-4 : tie.Need-returns-4
 unfolding lastPlus
 returns-4 c =
     let f = c .before .before .before in
-    single f (rw (c .before .answer2 .given .1) at (f .fixed-point .ensures))
+    single f (rw (c .before .answer2 .given .1) at (f .fixed-point .ensures .0))
 
 returns-5 : tie.Need-returns-5
 unfolding lastPlus
 returns-5 c =
     let f = c .before .before .before in
-    single f (rw (c .before .answer3 .given .1) at (f .fixed-point .ensures))
+    single f (rw (c .before .answer3 .given .1) at (f .fixed-point .ensures .0))
 
 pub portion-spec : {M : Type 1} → statement M
 portion-spec =
     tie.close
     (tie.spec
-    fixed-point-requires
-    enum-known-answer
+    (λ c κs. search needs)
+    (λ c. search needs)
     add-t13
-    enum-told
-    enum-told-2
-    enum-known-answer-2
+    (λ c. search needs)
+    (λ c. search needs)
+    (λ c. search needs)
     add-t14
-    enum-known-answer-3
+    (λ c. search needs)
     add-t15
     returns
     returns-2

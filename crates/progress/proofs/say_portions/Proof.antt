@@ -9,13 +9,16 @@ use Rattle.progress.proofs.say_portions.Statement.{statement}
 use Rattle.progress.proofs.say_portions.Tie as tie
 
 abbrev Inv-loop : tie.InvT-loop
-Inv-loop planner at₀ used₀ at used = Reached (planOf planner) at used
+Inv-loop planner out₀ at₀ used₀ out at used = Reached (planOf planner) at used
 
 abbrev μ-loop : tie.MeasureT-loop
-μ-loop planner at₀ used₀ at used = planner .top - used
+μ-loop planner out₀ at₀ used₀ out at used = planner .top - used
+
+standard-output-requires : tie.Need-standard-output-requires Inv-loop μ-loop
+standard-output-requires c κs = search needs
 
 loop-holds : tie.Need-loop-holds Inv-loop μ-loop
-loop-holds c = reached-start _ (c .pre)
+loop-holds c = reached-start _ (c .before .pre)
 
 portion-requires : tie.Need-portion-requires Inv-loop μ-loop
 portion-requires c κs = c .loop .inv
@@ -24,23 +27,11 @@ portion-requires c κs = c .loop .inv
 further
     : (c : tie.After-say-reached Inv-loop μ-loop)
     → let d = c .before .before in
-    Reached (planOf (d .before .before .before .before .args .planner)) (d .answer .given .0 .0) (d .answer .given .0 .1 .0)
+    Reached (planOf (d .before .before .before .before .before .args .planner)) (d .answer .given .0 .0) (d .answer .given .0 .1 .0)
     × (d .before .before .before .loop .used < d .answer .given .0 .1 .0)
 further c =
     let d = c .before .before in
     reached-next (d .before .before .before .loop .inv) (rw (d .answer .given .1) at (d .before .before .portion .ensures))
-
-enum-known-answer : tie.Need-enum-known-answer Inv-loop μ-loop
-enum-known-answer c = search needs
-
-say-end-requires : tie.Need-say-end-requires Inv-loop μ-loop
-say-end-requires c κs = search needs
-
-returns : tie.Need-returns Inv-loop μ-loop
-returns c = tt
-
-say-reached-requires : tie.Need-say-reached-requires Inv-loop μ-loop
-say-reached-requires c κs = search needs
 
 loop-less : tie.Need-loop-less Inv-loop μ-loop
 loop-less c = omega (arith, further c .1, reached-few (further c .0))
@@ -54,11 +45,12 @@ say-portions-spec =
     (tie.spec
     Inv-loop
     μ-loop
+    standard-output-requires
     loop-holds
     portion-requires
-    enum-known-answer
-    say-end-requires
-    returns
-    say-reached-requires
+    (λ c. search needs)
+    (λ c κs. search needs)
+    (λ c. tt)
+    (λ c κs. search needs)
     loop-less
     loop-again)

@@ -1,9 +1,9 @@
 -- What a portion more gives, from where the steps before it stopped.
-use mathlib.Core.Path.{_≡_, refl, sym, ap, subst, _∙_}
+use mathlib.Core.Path.{_≡_, sym, ap, _∙_}
 use mathlib.Core.List.{[], _∷_}
 use mathlib.Core.Bool.{true}
 use Prim.Native.Nat.{ℕ, _+_, _≤_, _<_}
-use native.Mathlib.Nat.{le-refl, le-trans}
+use native.Mathlib.Nat.{le-refl}
 use native.Mathlib.Decide.{decLe}
 use native.Mathlib.Omega.{arith}
 use Rattle.cqf.specs.Plan.{Plan, validPlan}
@@ -12,9 +12,9 @@ use Rattle.cqf.specs.FixedPoint.{stepsFrom, Outcome, found, none, unfinished, i
 use Rattle.cqf.specs.laws.Ranges.{top-positive}
 use Rattle.cqf.specs.laws.Ended.{ended-found, ended-none, ended-finished}
 use Rattle.cqf.specs.laws.Converges.{converges, steps-top}
-use Rattle.answers.specs.Answer.{Answer, result, refusal, refusalNumber}
+use Rattle.answers.specs.Answer.{result, refusal, refusalNumber}
 use Rattle.answers.specs.Refusals.{badDuration, noPlanHeld, noLeast, notFinished}
-use Rattle.questions.specs.FixedPoint.{FixedPoint, outcomeAnswer, fixedPointAnswer}
+use Rattle.questions.specs.FixedPoint.{outcomeAnswer, fixedPointAnswer}
 use Rattle.sequences.specs.Iterations.{plusSteps}
 use Rattle.sequences.specs.laws.Iterations.{answers, of-result, of-none, of-unfinished, iterations}
 use Rattle.progress.specs.Portion.{portionSteps, Reached}

@@ -8,7 +8,7 @@ use native.Mathlib.Omega.{arith}
 use lib.Dec.{eqb}
 use borrow.Author.Tests.{lt-ltb}
 use Rattle.cqf.specs.Ceil.{ceilDiv}
-use Rattle.cqf.specs.Port.{bitsOf, blockingBitsOf, workloadOf}
+use Rattle.cqf.specs.Port.{bitsOf, workloadOf}
 use Rattle.cqf.specs.Need.{needBy}
 use Rattle.cqf.specs.Overflow.{mostDemand}
 

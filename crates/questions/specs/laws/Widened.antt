@@ -13,7 +13,7 @@ use Rattle.cqf.specs.Port.{wireBits}
 use Rattle.cqf.specs.Widened.{widenedBy, widened}
 use Rattle.cqf.specs.Condition.{framesBy, frames, demand}
 use Rattle.cqf.specs.laws.Begun.{widened-aligned, widened-most}
-use Rattle.cqf.specs.laws.Demand.{frames-by, share, demand-sum}
+use Rattle.cqf.specs.laws.Demand.{frames-by, demand-sum}
 use Rattle.cqf.specs.laws.Ranges.{top-most, drift-most, timing-most, extra-most}
 use Rattle.tables.specs.Columns.{columns}
 use Rattle.questions.specs.laws.Sums.{slot-in-range, demand-most}

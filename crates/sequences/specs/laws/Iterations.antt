@@ -1,24 +1,21 @@
 -- The answers of the fixed-point iteration for a valid plan and a start from 1 to top.
 use mathlib.Core.Path.{_≡_, refl, sym, ap, _∙_}
-use mathlib.Core.Logic.{_↔_}
 use mathlib.Core.Bool.{Bool, true, false, cond}
-use mathlib.Core.List.{List, [], _∷_}
-use Prim.Native.Nat.{ℕ, _+_, _≤_, _<_}
+use mathlib.Core.List.{[], _∷_}
+use Prim.Native.Nat.{ℕ, _+_, _≤_}
 use native.Mathlib.Nat.{le-refl, le-trans}
 use native.Mathlib.Omega.{arith}
 use lib.Dec.{leb}
-use lib.ListN.{length, getD}
 use borrow.Author.Tests.{le-leb}
 use Rattle.cqf.specs.Bounded.{within}
-use Rattle.cqf.specs.Limits.{portSlots}
 use Rattle.cqf.specs.Plan.{Plan, validPlan}
-use Rattle.cqf.specs.Condition.{admissible, failing, lowestFailing, least}
-use Rattle.cqf.specs.FixedPoint.{visited, stepsFrom, Outcome, found, none, unfinished, afterSteps, iterate, LeastAdmissible, Converges}
+use Rattle.cqf.specs.Condition.{least}
+use Rattle.cqf.specs.FixedPoint.{stepsFrom, Outcome, found, none, unfinished, afterSteps, iterate, Converges}
 use Rattle.cqf.specs.laws.Ranges.{top-positive}
 use Rattle.cqf.specs.laws.Converges.{converges, converges-least}
 use Rattle.answers.specs.Answer.{Answer, result, refusal, refusalNumber}
 use Rattle.answers.specs.Refusals.{noLeast, notFinished}
-use Rattle.questions.specs.Outcome.{failingAt, foundAnswer, leastAnswer}
+use Rattle.questions.specs.Outcome.{failingAt}
 use Rattle.questions.specs.FixedPoint.{FixedPoint, outcomeAnswer, fixedPointAnswer}
 use Rattle.sequences.specs.Iterations.{lastPlus, plusSteps, butLast, withoutSteps, Iterations, AgreesWithLeast}
 use Rattle.questions.specs.laws.Answers.{fixed-point-within}

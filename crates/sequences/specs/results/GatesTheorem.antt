@@ -17,6 +17,7 @@ use Rattle.plan_reading.specs.laws.fields.Within.{within-low, within-high}
 use Rattle.answers.specs.Answer.{result}
 use Rattle.questions.specs.Outcome.{checkAnswer}
 use Rattle.gate_writing.specs.Gates.{queuesOk, gatesAnswer, gatesLeaves}
+use Rattle.sequences.specs.GatesMeaning.{GatesMean}
 use Rattle.sequences.specs.Scheduled.{listSize, Schedules, Writable}
 use Rattle.sequences.specs.Calls.{Call, after, heldBytes}
 use Rattle.questions.specs.laws.Answers.{check-accepts}
@@ -89,3 +90,12 @@ held-schedules calls mode bytes held p ports flows reads T even odd buffer n e =
     subst (λ (q : Plan). Schedules q T even odd buffer (gatesLeaves (after calls) T even odd buffer) n)
     (after-held calls mode bytes held p ports flows reads)
     (schedules (after calls) T even odd buffer n e)
+
+-- what the answer that a list was written means
+pub gates-mean
+    : (tables : Plan) (T even odd : ℕ) (buffer : List ℕ)
+    → GatesMean tables T even odd buffer (gatesLeaves tables T even odd buffer) (gatesAnswer tables T even odd buffer)
+gates-mean tables T even odd buffer calls mode bytes p ports flows left held reads n e =
+    subst (λ (q : Plan). Schedules q T even odd buffer (gatesLeaves tables T even odd buffer) n)
+    (left ∙ after-held calls mode bytes held p ports flows reads)
+    (schedules tables T even odd buffer n e)

@@ -15,6 +15,7 @@ use Rattle.plan_reading.specs.Reading.{accepted, Mode, loose, strict, readAs, r
 use Rattle.plan_reading.specs.Sized.{Sized}
 use Rattle.plan_reading.specs.Saved.{savedBytes, NoneSaysNothing}
 use Rattle.plan_reading.specs.Tidy.{tidied}
+use Rattle.plan_reading.specs.results.StrictTheorem.{read-loosely}
 use Rattle.plan_reading.specs.laws.saved.SavedBack.{saved-back}
 use Rattle.plan_reading.specs.laws.saved.SavedLength.{valid-hops, saved-length}
 use Rattle.plan_reading.specs.laws.saved.SavedRead.{saved-read, saved-again}
@@ -35,31 +36,31 @@ module _
     (valid : validPlan p ≡ true)
     (reads : (mode : Mode) → readAs mode (savedBytes p) ≡ accepted q ports flows)
   where
-    saved-as : SavedAs p q
+    saved-as : SavedAs p q ports flows
     unfolding loadAnswer loadLeaves
     saved-as buffer n answer =
         let front = save-front p buffer valid n answer in
         let holds : (mode : Mode) (held : Plan) → loadLeaves mode held (take n (saveLeaves p buffer)) ≡ q = λ mode held. rw front (ap (readingLeaves held) (reads mode)) in
         record {
           most = omega (arith, save-size p buffer valid n answer, saved-length p valid);
-          ports = ports;
-          flows = flows;
           accepted = λ mode. rw front (ap readingAnswer (reads mode));
           holds = holds;
           alike = λ mode held x. ap (λ (r : Plan). reply r x) (holds mode held);
           rest = save-rest p buffer valid n answer;
         }
 
--- After every sequence of calls that leaves a plan held: what saving wrote is a plan that either load accepts and that holds the
--- same plan.
-pub held-saved : (calls : List Call) (bytes : List ℕ) → heldBytes calls ≡ some bytes → SavedAs (after calls) (after calls)
-unfolding readPlan
-held-saved calls bytes held =
-    let p = after calls in
-    let l = after-loaded calls bytes held in
-    saved-as p p (countTo portSlots (λ q. ltb 0 (rateOf p q))) (countTo flowSlots (λ f. ltb 0 (periodOf p f)))
-    (accepted-valid bytes p (l .ports) (l .flows) (l .reads))
-    (λ mode. saved-again loose mode bytes p (l .ports) (l .flows) (l .reads))
+-- After every sequence of calls that leaves a plan held: what saving wrote is a plan that either load accepts, with the numbers of
+-- port and flow fields that the load of the held bytes gave, and that holds the same plan.
+pub held-saved
+    : (calls : List Call) (mode : Mode) (bytes : List ℕ) (p : Plan) (ports flows : ℕ)
+    → heldBytes calls ≡ some bytes
+    → readAs mode bytes ≡ accepted p ports flows
+    → SavedAs (after calls) p ports flows
+held-saved calls mode bytes p ports flows held reads =
+    rw (after-held calls mode bytes held p ports flows reads)
+    (saved-as p p ports flows
+    (accepted-valid bytes p ports flows (read-loosely mode bytes p ports flows reads))
+    (λ other. saved-again mode other bytes p ports flows reads))
 
 -- and a buffer of the longest plan's length has room for it
 pub held-room
@@ -90,13 +91,14 @@ held-saved-back calls bytes p ports flows held octets reads tells buffer n answe
     ∙ ap savedBytes (after-held calls strict bytes held p ports flows reads)
     ∙ saved-back bytes p ports flows octets reads tells
 
--- Tables that no call made, where they are valid and so are not answered 20: what saving wrote holds the same numbers, each flow has
--- the same route, and each place of the table of routes past a flow's hops has 0.
+-- Tables that no call made, where they are valid and so are not answered 20: what saving wrote holds the same numbers, and as many
+-- port and flow fields as the tables have, each flow has the same route, and each place of the table of routes past a flow's hops has 0.
 pub unmade-saved
     : (p : Plan)
     → validPlan p ≡ true
     → Sized p
-    → SavedAs p (tidied p) × ((f : ℕ) → f < flowSlots → routeOf (tidied p) f ≡ routeOf p f)
+    → SavedAs p (tidied p) (countTo portSlots (λ q. ltb 0 (rateOf p q))) (countTo flowSlots (λ f. ltb 0 (periodOf p f)))
+    × ((f : ℕ) → f < flowSlots → routeOf (tidied p) f ≡ routeOf p f)
 unmade-saved p valid sized = (
   saved-as p (tidied p) (countTo portSlots (λ q. ltb 0 (rateOf p q))) (countTo flowSlots (λ f. ltb 0 (periodOf p f))) valid
       (λ mode. saved-read p valid sized mode),

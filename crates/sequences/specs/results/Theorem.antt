@@ -41,6 +41,7 @@ plain-means p T h = go (admissible p T) refl
             λ r. let z : _≡_ {A = ℕ} 0 1 = cc (r .is) in absurd (omega arith),
             λ c. absurd (true≢false (sym e ∙ h .refused .1 c)),
           );
+          refused-in-order = λ r. let z : _≡_ {A = ℕ} 0 1 = cc (r .is) in absurd (omega arith);
           accepted = (λ r c. true≢false (sym e ∙ h .refused .1 c), λ none. refl);
           on-time = λ r. h .accepted e;
         }
@@ -50,6 +51,7 @@ plain-means p T h = go (admissible p T) refl
             λ r. h .refused .0 e,
             λ c. record { lowest = lowestFailing p T; count = failing p T; is = refl },
           );
+          refused-in-order = λ r. h .refused-in-order e;
           accepted = (
             λ r. let z : _≡_ {A = ℕ} 0 1 = cc in absurd (omega arith),
             λ none. absurd (none (h .refused .0 e)),

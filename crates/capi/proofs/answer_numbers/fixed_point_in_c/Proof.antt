@@ -4,45 +4,6 @@ use Rattle.capi.specs.laws.Numbers.{steps-with-number}
 use Rattle.capi.proofs.answer_numbers.fixed_point_in_c.Statement.{statement}
 use Rattle.capi.proofs.answer_numbers.fixed_point_in_c.Tie as tie
 
-fixed-point-number-requires : tie.Need-fixed-point-number-requires
-fixed-point-number-requires c κs = search needs
-
-enum-known-answer : tie.Need-enum-known-answer
-enum-known-answer c = search needs
-
-stepped-requires : tie.Need-stepped-requires
-stepped-requires c κs = search needs
-
-enum-told : tie.Need-enum-told
-enum-told c = search needs
-
-stepped-requires-2 : tie.Need-stepped-requires-2
-stepped-requires-2 c κs = search needs
-
-enum-told-2 : tie.Need-enum-told-2
-enum-told-2 c = search needs
-
-stepped-requires-3 : tie.Need-stepped-requires-3
-stepped-requires-3 c κs = search needs
-
-enum-known-answer-2 : tie.Need-enum-known-answer-2
-enum-known-answer-2 c = search needs
-
-cast-stepped : tie.Need-cast-stepped
-cast-stepped c = search needs
-
-cast-stepped-2 : tie.Need-cast-stepped-2
-cast-stepped-2 c = search needs
-
-stepped-requires-4 : tie.Need-stepped-requires-4
-stepped-requires-4 c κs = search needs
-
-enum-known-answer-3 : tie.Need-enum-known-answer-3
-enum-known-answer-3 c = search needs
-
-stepped-requires-5 : tie.Need-stepped-requires-5
-stepped-requires-5 c κs = search needs
-
 returns : tie.Need-returns
 returns c =
     let case = c .before .before .answer .given .1 in
@@ -72,19 +33,19 @@ pub fixed-point-in-c-spec : {M : Type 1} → statement M
 fixed-point-in-c-spec =
     tie.close
     (tie.spec
-    fixed-point-number-requires
-    enum-known-answer
-    stepped-requires
-    enum-told
-    stepped-requires-2
-    enum-told-2
-    stepped-requires-3
-    enum-known-answer-2
-    cast-stepped
-    cast-stepped-2
-    stepped-requires-4
-    enum-known-answer-3
-    stepped-requires-5
+    (λ c κs. search needs)
+    (λ c. search needs)
+    (λ c κs. search needs)
+    (λ c. search needs)
+    (λ c κs. search needs)
+    (λ c. search needs)
+    (λ c κs. search needs)
+    (λ c. search needs)
+    (λ c. search needs)
+    (λ c. search needs)
+    (λ c κs. search needs)
+    (λ c. search needs)
+    (λ c κs. search needs)
     returns
     returns-2
     returns-3

@@ -3,14 +3,8 @@ use borrow.Author.Needs.{needs}
 use Rattle.capi.proofs.answer_numbers.least_in_c.Statement.{statement}
 use Rattle.capi.proofs.answer_numbers.least_in_c.Tie as tie
 
-least-number-requires : tie.Need-least-number-requires
-least-number-requires c κs = search needs
-
-search-in-c-requires : tie.Need-search-in-c-requires
-search-in-c-requires c κs = search needs
-
 returns : tie.Need-returns
 returns c = c .search-in-c .ensures _ (c .before .least-number .ensures)
 
 pub least-in-c-spec : {M : Type 1} → statement M
-least-in-c-spec = tie.close (tie.spec least-number-requires search-in-c-requires returns)
+least-in-c-spec = tie.close (tie.spec (λ c κs. search needs) (λ c κs. search needs) returns)

@@ -5,21 +5,6 @@ use Rattle.capi.specs.laws.Numbers.{slack-with-number}
 use Rattle.capi.proofs.answer_numbers.slack_in_c.Statement.{statement}
 use Rattle.capi.proofs.answer_numbers.slack_in_c.Tie as tie
 
-slack-number-requires : tie.Need-slack-number-requires
-slack-number-requires c κs = search needs
-
-enum-known-answer : tie.Need-enum-known-answer
-enum-known-answer c = search needs
-
-enum-told : tie.Need-enum-told
-enum-told c = search needs
-
-enum-told-2 : tie.Need-enum-told-2
-enum-told-2 c = search needs
-
-enum-told-3 : tie.Need-enum-told-3
-enum-told-3 c = search needs
-
 returns : tie.Need-returns
 returns c =
     let case = c .before .answer .given .1 in
@@ -44,11 +29,11 @@ pub slack-in-c-spec : {M : Type 1} → statement M
 slack-in-c-spec =
     tie.close
     (tie.spec
-    slack-number-requires
-    enum-known-answer
-    enum-told
-    enum-told-2
-    enum-told-3
+    (λ c κs. search needs)
+    (λ c. search needs)
+    (λ c. search needs)
+    (λ c. search needs)
+    (λ c. search needs)
     returns
     returns-2
     returns-3

@@ -4,27 +4,6 @@ use Rattle.capi.specs.laws.Numbers.{with-number}
 use Rattle.capi.proofs.written.save_in_c.Statement.{statement}
 use Rattle.capi.proofs.written.save_in_c.Tie as tie
 
-save-number-requires : tie.Need-save-number-requires
-save-number-requires c κs = search needs
-
-enum-known-answer : tie.Need-enum-known-answer
-enum-known-answer c = search needs
-
-numbered-requires : tie.Need-numbered-requires
-numbered-requires c κs = search needs
-
-enum-told : tie.Need-enum-told
-enum-told c = search needs
-
-numbered-requires-2 : tie.Need-numbered-requires-2
-numbered-requires-2 c κs = search needs
-
-enum-known-answer-2 : tie.Need-enum-known-answer-2
-enum-known-answer-2 c = search needs
-
-numbered-requires-3 : tie.Need-numbered-requires-3
-numbered-requires-3 c κs = search needs
-
 returns : tie.Need-returns
 returns c =
     let case = c .before .before .answer .given .1 in
@@ -44,13 +23,13 @@ pub save-in-c-spec : {M : Type 1} → statement M
 save-in-c-spec =
     tie.close
     (tie.spec
-    save-number-requires
-    enum-known-answer
-    numbered-requires
-    enum-told
-    numbered-requires-2
-    enum-known-answer-2
-    numbered-requires-3
+    (λ c κs. search needs)
+    (λ c. search needs)
+    (λ c κs. search needs)
+    (λ c. search needs)
+    (λ c κs. search needs)
+    (λ c. search needs)
+    (λ c κs. search needs)
     returns
     returns-2
     returns-3)

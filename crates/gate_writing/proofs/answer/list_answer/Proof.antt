@@ -8,9 +8,6 @@ use Rattle.gate_writing.proofs.answer.list_answer.Tie as tie
 returns : tie.Need-returns
 returns c = rw (not-true (c .before .args .queues) (c .if1 .taken))
 
-has-room-requires : tie.Need-has-room-requires
-has-room-requires c κs = search needs
-
 returns-2 : tie.Need-returns-2
 returns-2 c =
     let a = c .before .before .before .args in
@@ -24,4 +21,4 @@ returns-3 c =
     rw (not-false (a .queues) (c .before .before .if1 .left), enough)
 
 pub list-answer-spec : {M : Type 1} → statement M
-list-answer-spec = tie.close (tie.spec returns has-room-requires returns-2 returns-3)
+list-answer-spec = tie.close (tie.spec returns (λ c κs. search needs) returns-2 returns-3)

@@ -4,9 +4,6 @@ use borrow.Author.Tests.{lt-ltb, le-ltb}
 use Rattle.gate_writing.proofs.gate.lasting_size.Statement.{statement}
 use Rattle.gate_writing.proofs.gate.lasting_size.Tie as tie
 
-add-result : tie.Need-add-result
-add-result c = search needs
-
 returns : tie.Need-returns
 returns c = rw (lt-ltb 0 (c .before .args .interval) (c .if1 .taken))
 
@@ -14,4 +11,4 @@ returns-2 : tie.Need-returns-2
 returns-2 c = rw (le-ltb 0 (c .before .args .interval) (c .if1 .left))
 
 pub lasting-size-spec : {M : Type 1} → statement M
-lasting-size-spec = tie.close (tie.spec add-result returns returns-2)
+lasting-size-spec = tie.close (tie.spec (λ c. search needs) returns returns-2)

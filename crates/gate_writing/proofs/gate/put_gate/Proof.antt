@@ -13,46 +13,10 @@ use Rattle.gate_writing.specs.List.{gateOf}
 use Rattle.gate_writing.proofs.gate.put_gate.Statement.{statement}
 use Rattle.gate_writing.proofs.gate.put_gate.Tie as tie
 
-add-if1 : tie.Need-add-if1
-add-if1 c = search needs
-
 returns : tie.Need-returns
 returns c =
     let a = c .before .before .args in
     sym (laid-short (gateOf (a .states) (a .interval)) (now (a .out)) (omega arith))
-
-cast-put-head : tie.Need-cast-put-head
-cast-put-head c = search needs
-
-put-head-requires : tie.Need-put-head-requires
-put-head-requires c κs = search needs
-
-sub-put1 : tie.Need-sub-put1
-sub-put1 c = search needs
-
-part-put1-start : tie.Need-part-put1-start
-part-put1-start c = search needs
-
-part-put1-end : tie.Need-part-put1-end
-part-put1-end c = search needs
-
-put1-requires : tie.Need-put1-requires
-put1-requires c κs = search needs
-
-sub-put4 : tie.Need-sub-put4
-sub-put4 c = search needs
-
-part-put4-start : tie.Need-part-put4-start
-part-put4-start c = search needs
-
-part-put4-end : tie.Need-part-put4-end
-part-put4-end c = search needs
-
-put4-requires : tie.Need-put4-requires
-put4-requires c κs = search needs
-
-same-length : tie.Need-same-length
-same-length c = search needs
 
 returns-2 : tie.Need-returns-2
 returns-2 c =
@@ -71,17 +35,17 @@ pub put-gate-spec : {M : Type 1} → statement M
 put-gate-spec =
     tie.close
     (tie.spec
-    add-if1
+    (λ c. search needs)
     returns
-    cast-put-head
-    put-head-requires
-    sub-put1
-    part-put1-start
-    part-put1-end
-    put1-requires
-    sub-put4
-    part-put4-start
-    part-put4-end
-    put4-requires
-    same-length
+    (λ c. search needs)
+    (λ c κs. search needs)
+    (λ c. search needs)
+    (λ c. search needs)
+    (λ c. search needs)
+    (λ c κs. search needs)
+    (λ c. search needs)
+    (λ c. search needs)
+    (λ c. search needs)
+    (λ c κs. search needs)
+    (λ c. search needs)
     returns-2)

@@ -10,12 +10,6 @@ returns c =
     let a = c .before .before .args in
     put-none (a .states) (a .interval) (now (a .out)) (c .if1 .taken)
 
-put-gate-requires : tie.Need-put-gate-requires
-put-gate-requires c κs = search needs
-
-same-length : tie.Need-same-length
-same-length c = search needs
-
 returns-2 : tie.Need-returns-2
 returns-2 c =
     let written = c .before .before in
@@ -24,4 +18,4 @@ returns-2 c =
     put-some (a .states) (a .interval) (now (a .out)) (left .if1 .left) (written .put-gate .ensures)
 
 pub put-lasting-spec : {M : Type 1} → statement M
-put-lasting-spec = tie.close (tie.spec returns put-gate-requires same-length returns-2)
+put-lasting-spec = tie.close (tie.spec returns (λ c κs. search needs) (λ c. search needs) returns-2)

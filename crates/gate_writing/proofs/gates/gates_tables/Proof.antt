@@ -44,21 +44,6 @@ module _ (c : tie.Else1) where
   is-list : isResult (gatesOf (answered .answer-by .result)) ≡ true
   is-list = sym (c .before .writes .ensures) ∙ not-false _ (c .if1 .left)
 
-check-tables-requires : tie.Need-check-tables-requires
-check-tables-requires c κs = search needs
-
-list-size-requires : tie.Need-list-size-requires
-list-size-requires c κs = search needs
-
-queues-ok-requires : tie.Need-queues-ok-requires
-queues-ok-requires c κs = search needs
-
-answer-by-requires : tie.Need-answer-by-requires
-answer-by-requires c κs = search needs
-
-writes-requires : tie.Need-writes-requires
-writes-requires c κs = search needs
-
 returns : tie.Need-returns
 returns c =
     let at = c .before .before in
@@ -72,9 +57,6 @@ put-list-requires c κs =
     let a = begin at .args in
     writable (plan at) (a .duration) (a .even) (a .odd) (given at) (said at) (is-list (c .before))
 
-same-length : tie.Need-same-length
-same-length c = search needs
-
 returns-2 : tie.Need-returns-2
 returns-2 c =
     let put = c .before .before in
@@ -87,12 +69,12 @@ pub gates-tables-spec : {M : Type 1} → statement M
 gates-tables-spec =
     tie.close
     (tie.spec
-    check-tables-requires
-    list-size-requires
-    queues-ok-requires
-    answer-by-requires
-    writes-requires
+    (λ c κs. search needs)
+    (λ c κs. search needs)
+    (λ c κs. search needs)
+    (λ c κs. search needs)
+    (λ c κs. search needs)
     returns
     put-list-requires
-    same-length
+    (λ c. search needs)
     returns-2)

@@ -5,35 +5,23 @@ use Rattle.gate_writing.specs.laws.List.{size-most}
 use Rattle.gate_writing.proofs.list.cycle_size.Statement.{statement}
 use Rattle.gate_writing.proofs.list.cycle_size.Tie as tie
 
-lasting-size-requires : tie.Need-lasting-size-requires
-lasting-size-requires c κs = search needs
-
-lasting-size-requires-2 : tie.Need-lasting-size-requires-2
-lasting-size-requires-2 c κs = search needs
-
 add-result : tie.Need-add-result
 add-result c =
     let a = c .before .before .args in
     omega (arith, size-most (a .guard), size-most (a .window), c .before .lasting-size .ensures, c .lasting-size2 .ensures)
-
-lasting-size-requires-3 : tie.Need-lasting-size-requires-3
-lasting-size-requires-3 c κs = search needs
 
 add-result-2 : tie.Need-add-result-2
 add-result-2 c =
     let a = c .before .before .before .args in
     omega (arith, size-most (a .guard), size-most (a .window), c .before .before .lasting-size .ensures, c .before .lasting-size2 .ensures, c .lasting-size3 .ensures)
 
-returns : tie.Need-returns
-returns c = search needs
-
 pub cycle-size-spec : {M : Type 1} → statement M
 cycle-size-spec =
     tie.close
     (tie.spec
-    lasting-size-requires
-    lasting-size-requires-2
+    (λ c κs. search needs)
+    (λ c κs. search needs)
     add-result
-    lasting-size-requires-3
+    (λ c κs. search needs)
     add-result-2
-    returns)
+    (λ c. search needs))

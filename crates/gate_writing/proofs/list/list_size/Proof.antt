@@ -5,12 +5,6 @@ use Rattle.gate_writing.specs.laws.List.{cycle-most}
 use Rattle.gate_writing.proofs.list.list_size.Statement.{statement}
 use Rattle.gate_writing.proofs.list.list_size.Tie as tie
 
-window-requires : tie.Need-window-requires
-window-requires c κs = search needs
-
-cycle-size-requires : tie.Need-cycle-size-requires
-cycle-size-requires c κs = search needs
-
 mul-result : tie.Need-mul-result
 mul-result c =
     omega (arith, c .cycle-size .ensures, cycle-most (c .before .before .args .guard) (c .before .window .result))
@@ -19,4 +13,4 @@ returns : tie.Need-returns
 returns c = rw (c .cycle-size .ensures, c .before .window .ensures)
 
 pub list-size-spec : {M : Type 1} → statement M
-list-size-spec = tie.close (tie.spec window-requires cycle-size-requires mul-result returns)
+list-size-spec = tie.close (tie.spec (λ c κs. search needs) (λ c κs. search needs) mul-result returns)

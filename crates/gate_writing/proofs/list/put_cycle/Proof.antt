@@ -27,12 +27,6 @@ module _ (c : tie.After-lasting-size2) where
   next-is : c .lasting-size2 .result ≡ lastingSize (begin .args .window)
   next-is = c .lasting-size2 .ensures
 
-lasting-size-requires : tie.Need-lasting-size-requires
-lasting-size-requires c κs = search needs
-
-lasting-size-requires-2 : tie.Need-lasting-size-requires-2
-lasting-size-requires-2 c κs = search needs
-
 add-second : tie.Need-add-second
 add-second c = omega (arith, first-is c, next-is c, size-most (begin c .args .guard), size-most (begin c .args .window))
 
@@ -46,36 +40,6 @@ returns c =
     sym
     (laid-short (cycleOf (a .closed) (a .opened) (a .guard) (a .window)) (entry at)
     (omega (arith, cycle-length (a .closed) (a .opened) (a .guard) (a .window), first-is at, next-is at, c .if1 .taken)))
-
-put-lasting-requires : tie.Need-put-lasting-requires
-put-lasting-requires c κs = search needs
-
-sub-put-lasting : tie.Need-sub-put-lasting
-sub-put-lasting c = search needs
-
-part-put-lasting-start : tie.Need-part-put-lasting-start
-part-put-lasting-start c = search needs
-
-part-put-lasting-end : tie.Need-part-put-lasting-end
-part-put-lasting-end c = search needs
-
-put-lasting-requires-2 : tie.Need-put-lasting-requires-2
-put-lasting-requires-2 c κs = search needs
-
-sub-put-lasting-2 : tie.Need-sub-put-lasting-2
-sub-put-lasting-2 c = search needs
-
-part-put-lasting-start-2 : tie.Need-part-put-lasting-start-2
-part-put-lasting-start-2 c = search needs
-
-part-put-lasting-end-2 : tie.Need-part-put-lasting-end-2
-part-put-lasting-end-2 c = search needs
-
-put-lasting-requires-3 : tie.Need-put-lasting-requires-3
-put-lasting-requires-3 c κs = search needs
-
-same-length : tie.Need-same-length
-same-length c = search needs
 
 returns-2 : tie.Need-returns-2
 returns-2 c =
@@ -104,19 +68,19 @@ pub put-cycle-spec : {M : Type 1} → statement M
 put-cycle-spec =
     tie.close
     (tie.spec
-    lasting-size-requires
-    lasting-size-requires-2
+    (λ c κs. search needs)
+    (λ c κs. search needs)
     add-second
     add-if1
     returns
-    put-lasting-requires
-    sub-put-lasting
-    part-put-lasting-start
-    part-put-lasting-end
-    put-lasting-requires-2
-    sub-put-lasting-2
-    part-put-lasting-start-2
-    part-put-lasting-end-2
-    put-lasting-requires-3
-    same-length
+    (λ c κs. search needs)
+    (λ c. search needs)
+    (λ c. search needs)
+    (λ c. search needs)
+    (λ c κs. search needs)
+    (λ c. search needs)
+    (λ c. search needs)
+    (λ c. search needs)
+    (λ c κs. search needs)
+    (λ c. search needs)
     returns-2)

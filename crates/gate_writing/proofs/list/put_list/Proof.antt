@@ -33,26 +33,11 @@ module _ (c : tie.After-cycle-size) where
   list-is : length list ≡ 2 * c .cycle-size .result
   list-is = let a = begin .args in list-length (a .guard) (a .duration) (a .even) (a .odd) ∙ ap (λ (n : ℕ). 2 * n) (sym size-is)
 
-window-requires : tie.Need-window-requires
-window-requires c κs = search needs
-
-cast-lasts : tie.Need-cast-lasts
-cast-lasts c = search needs
-
-cast-cycle-size : tie.Need-cast-cycle-size
-cast-cycle-size c = search needs
-
-cycle-size-requires : tie.Need-cycle-size-requires
-cycle-size-requires c κs = search needs
-
 mul-if1 : tie.Need-mul-if1
 mul-if1 c = omega (arith, size-is c, cycle-most (begin c .args .guard) (windowOf (begin c .args .guard) (begin c .args .duration)))
 
 returns : tie.Need-returns
 returns c = sym (laid-short (list (c .before)) (entry (c .before)) (omega (arith, list-is (c .before), c .if1 .taken)))
-
-both-closed-requires : tie.Need-both-closed-requires
-both-closed-requires c κs = search needs
 
 queue-bit-requires : tie.Need-queue-bit-requires
 queue-bit-requires c κs =
@@ -65,18 +50,6 @@ add-put-cycle c =
     let s = begin (closed .before .before) in
     omega (arith, even-fits (s .args .even) (s .args .odd) (s .pre .queues), odd-fits (s .args .even) (s .args .odd) (s .pre .queues), closed .both-closed .ensures, c .queue-bit .ensures)
 
-put-cycle-requires : tie.Need-put-cycle-requires
-put-cycle-requires c κs = search needs
-
-sub-put-cycle : tie.Need-sub-put-cycle
-sub-put-cycle c = search needs
-
-part-put-cycle-start : tie.Need-part-put-cycle-start
-part-put-cycle-start c = search needs
-
-part-put-cycle-end : tie.Need-part-put-cycle-end
-part-put-cycle-end c = search needs
-
 queue-bit-requires-2 : tie.Need-queue-bit-requires-2
 queue-bit-requires-2 c κs =
     let s = c .before .before .before .before .before .before .before .before .before .before .before in
@@ -87,12 +60,6 @@ add-put-cycle-2 c =
     let closed = c .before .before .before .before .before .before .before in
     let s = begin (closed .before .before) in
     omega (arith, even-fits (s .args .even) (s .args .odd) (s .pre .queues), odd-fits (s .args .even) (s .args .odd) (s .pre .queues), closed .both-closed .ensures, c .queue-bit2 .ensures)
-
-put-cycle-requires-2 : tie.Need-put-cycle-requires-2
-put-cycle-requires-2 c κs = search needs
-
-same-length : tie.Need-same-length
-same-length c = search needs
 
 returns-2 : tie.Need-returns-2
 unfolding listOf
@@ -120,21 +87,21 @@ pub put-list-spec : {M : Type 1} → statement M
 put-list-spec =
     tie.close
     (tie.spec
-    window-requires
-    cast-lasts
-    cast-cycle-size
-    cycle-size-requires
+    (λ c κs. search needs)
+    (λ c. search needs)
+    (λ c. search needs)
+    (λ c κs. search needs)
     mul-if1
     returns
-    both-closed-requires
+    (λ c κs. search needs)
     queue-bit-requires
     add-put-cycle
-    put-cycle-requires
-    sub-put-cycle
-    part-put-cycle-start
-    part-put-cycle-end
+    (λ c κs. search needs)
+    (λ c. search needs)
+    (λ c. search needs)
+    (λ c. search needs)
     queue-bit-requires-2
     add-put-cycle-2
-    put-cycle-requires-2
-    same-length
+    (λ c κs. search needs)
+    (λ c. search needs)
     returns-2)

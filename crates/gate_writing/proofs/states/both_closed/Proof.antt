@@ -10,9 +10,6 @@ use Rattle.gate_writing.proofs.states.both_closed.Tie as tie
 queue-bit-requires : tie.Need-queue-bit-requires
 queue-bit-requires c κs = omega (arith, even-below (c .args .even) (c .args .odd) (c .pre))
 
-sub-result : tie.Need-sub-result
-sub-result c = search needs
-
 queue-bit-requires-2 : tie.Need-queue-bit-requires-2
 queue-bit-requires-2 c κs =
     let s = c .before in
@@ -29,4 +26,4 @@ returns c = cc (c .before .queue-bit .ensures, c .queue-bit2 .ensures)
 
 pub both-closed-spec : {M : Type 1} → statement M
 both-closed-spec =
-    tie.close (tie.spec queue-bit-requires sub-result queue-bit-requires-2 sub-result-2 returns)
+    tie.close (tie.spec queue-bit-requires (λ c. search needs) queue-bit-requires-2 sub-result-2 returns)

@@ -7,19 +7,10 @@ use Rattle.gates.specs.laws.Decimal.{capped-same, capped-above}
 use Rattle.gates.proofs.decimal.with_digit.Statement.{statement}
 use Rattle.gates.proofs.decimal.with_digit.Tie as tie
 
-sub-room : tie.Need-sub-room
-sub-room c = search needs
-
 returns : tie.Need-returns
 returns c =
     let a = c .before .args in
     sym (capped-above (10 * a .value + a .digit) (omega arith))
-
-mul-result : tie.Need-mul-result
-mul-result c = search needs
-
-add-result : tie.Need-add-result
-add-result c = search needs
 
 returns-2 : tie.Need-returns-2
 returns-2 c =
@@ -27,4 +18,4 @@ returns-2 c =
     sym (capped-same (10 * a .value + a .digit) (omega arith))
 
 pub with-digit-spec : {M : Type 1} → statement M
-with-digit-spec = tie.close (tie.spec sub-room returns mul-result add-result returns-2)
+with-digit-spec = tie.close (tie.spec (λ c. search needs) returns (λ c. search needs) (λ c. search needs) returns-2)

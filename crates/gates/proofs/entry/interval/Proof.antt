@@ -7,42 +7,6 @@ use Rattle.gates.specs.laws.Entry.{halves}
 use Rattle.gates.proofs.entry.interval.Statement.{statement}
 use Rattle.gates.proofs.entry.interval.Tie as tie
 
-sub-first-number : tie.Need-sub-first-number
-sub-first-number c = search needs
-
-part-first-number-start : tie.Need-part-first-number-start
-part-first-number-start c = search needs
-
-part-first-number-end : tie.Need-part-first-number-end
-part-first-number-end c = search needs
-
-first-number-requires : tie.Need-first-number-requires
-first-number-requires c κs = search needs
-
-sub-first-number-2 : tie.Need-sub-first-number-2
-sub-first-number-2 c = search needs
-
-part-first-number-start-2 : tie.Need-part-first-number-start-2
-part-first-number-start-2 c = search needs
-
-part-first-number-end-2 : tie.Need-part-first-number-end-2
-part-first-number-end-2 c = search needs
-
-first-number-requires-2 : tie.Need-first-number-requires-2
-first-number-requires-2 c κs = search needs
-
-cast-result : tie.Need-cast-result
-cast-result c = search needs
-
-mul-result : tie.Need-mul-result
-mul-result c = search needs
-
-cast-result-2 : tie.Need-cast-result-2
-cast-result-2 c = search needs
-
-add-result : tie.Need-add-result
-add-result c = search needs
-
 returns : tie.Need-returns
 returns c =
     let bytes = now (c .before .before .before .before .before .args .bytes) in
@@ -52,16 +16,16 @@ pub interval-spec : {M : Type 1} → statement M
 interval-spec =
     tie.close
     (tie.spec
-    sub-first-number
-    part-first-number-start
-    part-first-number-end
-    first-number-requires
-    sub-first-number-2
-    part-first-number-start-2
-    part-first-number-end-2
-    first-number-requires-2
-    cast-result
-    mul-result
-    cast-result-2
-    add-result
+    (λ c. search needs)
+    (λ c. search needs)
+    (λ c. search needs)
+    (λ c κs. search needs)
+    (λ c. search needs)
+    (λ c. search needs)
+    (λ c. search needs)
+    (λ c κs. search needs)
+    (λ c. search needs)
+    (λ c. search needs)
+    (λ c. search needs)
+    (λ c. search needs)
     returns)

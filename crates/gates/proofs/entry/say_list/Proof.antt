@@ -6,10 +6,13 @@ use Rattle.gates.proofs.entry.say_list.Statement.{statement}
 use Rattle.gates.proofs.entry.say_list.Tie as tie
 
 abbrev Inv-loop : tie.InvT-loop
-Inv-loop list at₀ at = at ≤ length list
+Inv-loop list out₀ at₀ out at = at ≤ length list
 
 abbrev μ-loop : tie.MeasureT-loop
-μ-loop list at₀ at = length list - at
+μ-loop list out₀ at₀ out at = length list - at
+
+standard-output-requires : tie.Need-standard-output-requires Inv-loop μ-loop
+standard-output-requires c κs = search needs
 
 loop-holds : tie.Need-loop-holds Inv-loop μ-loop
 loop-holds c = search needs
@@ -53,6 +56,7 @@ say-list-spec =
     (tie.spec
     Inv-loop
     μ-loop
+    standard-output-requires
     loop-holds
     sub-loop
     sub-field

@@ -7,11 +7,8 @@ use Rattle.loading.proofs.field.is_late.Tie as tie
 returns : tie.Need-returns
 returns c = rw (not-true (c .before .args .strict) (c .if1 .taken))
 
-key-of-requires : tie.Need-key-of-requires
-key-of-requires c κs = search needs
-
 returns-2 : tie.Need-returns-2
 returns-2 c = rw (not-false (c .before .before .args .strict) (c .before .if1 .left), c .key-of .ensures)
 
 pub is-late-spec : {M : Type 1} → statement M
-is-late-spec = tie.close (tie.spec returns key-of-requires returns-2)
+is-late-spec = tie.close (tie.spec returns (λ c κs. search needs) returns-2)

@@ -16,22 +16,10 @@ held c =
     draftOf (c .args .totals) (now (c .args .rates)) (now (c .args .blockings)) (now (c .args .extras)) (now (c .args .periods)) (now (c .args .counts))
     (now (c .args .lengths)) (now (c .args .jitters)) (now (c .args .hops)) (now (c .args .routes)) (now (c .args .seen))
 
-read-field-requires : tie.Need-read-field-requires
-read-field-requires c κs = search needs
-
-enum-known-field : tie.Need-enum-known-field
-enum-known-field c = search needs
-
 take-field-requires : tie.Need-take-field-requires
 take-field-requires c κs =
     let a = c .before .before .before .before .before .before .before .before .before .before .before .before .before .before .before in
     (a .pre .0, a .pre .1, sym (c .before .before .before .before .before .before .before .before .before .before .before .before .before .read-field .ensures) ∙ ap fieldReadOf (c .before .before .before .before .before .before .before .before .before .before .before .field .given .1))
-
-enum-known-fault : tie.Need-enum-known-fault
-enum-known-fault c = search needs
-
-returns : tie.Need-returns
-returns c = search needs
 
 returns-2 : tie.Need-returns-2
 returns-2 c =
@@ -42,9 +30,9 @@ pub step-spec : {M : Type 1} → statement M
 step-spec =
     tie.close
     (tie.spec
-    read-field-requires
-    enum-known-field
+    (λ c κs. search needs)
+    (λ c. search needs)
     take-field-requires
-    enum-known-fault
-    returns
+    (λ c. search needs)
+    (λ c. search needs)
     returns-2)

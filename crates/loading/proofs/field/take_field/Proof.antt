@@ -1,6 +1,6 @@
 -- `take_field` meets its contract: the tests 6, 12 and 7 of a field that was read, and the field stored.
 use Prim.Native.Nat.{ℕ}
-use mathlib.Core.Path.{_≡_, refl, sym, ap, _∙_}
+use mathlib.Core.Path.{_≡_, sym, ap, _∙_}
 use mathlib.Core.Bool.{false}
 use native.Mathlib.Omega.{arith}
 use borrow.Author.Tests.{lt-ltb, le-ltb}
@@ -58,9 +58,6 @@ repeats-read : (c : tie.After-field-repeats) →
     c .field-repeats .result ≡ fieldRepeats (fieldOf (a .args .x)) (routeAt (now (a .args .plan)) (a .args .at))
 repeats-read c = c .field-repeats .ensures ∙ rw (route-read (c .before))
 
-key-of-requires : tie.Need-key-of-requires
-key-of-requires c κs = search needs
-
 element-copy-out-if1 : tie.Need-element-copy-out-if1
 element-copy-out-if1 c = omega (arith, c .key-of .ensures, key-below (fieldOf (c .before .before .args .x)) (found-numbers _ _ _ _ (c .before .before .pre .2)))
 
@@ -70,9 +67,6 @@ returns c =
     sym (step-taken (modeOf (a .args .strict)) _ _ _ (held a) (fieldOf (a .args .x)) (a .args .next) (a .pre .2)
     (rw (← c .before .before .key-of .ensures) (lt-ltb _ _ (c .if1 .taken))))
 
-is-late-requires : tie.Need-is-late-requires
-is-late-requires c κs = search needs
-
 returns-2 : tie.Need-returns-2
 returns-2 c =
     let six = c .before .before in
@@ -80,15 +74,6 @@ returns-2 c =
     sym (step-late (modeOf (a .args .strict)) _ _ _ (held a) (fieldOf (a .args .x)) (a .args .next) (a .pre .2)
     (free six)
     (sym (c .before .is-late .ensures) ∙ c .if2 .taken))
-
-field-value-requires : tie.Need-field-value-requires
-field-value-requires c κs = search needs
-
-route-bytes-requires : tie.Need-route-bytes-requires
-route-bytes-requires c κs = search needs
-
-field-repeats-requires : tie.Need-field-repeats-requires
-field-repeats-requires c κs = search needs
 
 returns-3 : tie.Need-returns-3
 returns-3 c =
@@ -124,14 +109,14 @@ pub take-field-spec : {M : Type 1} → statement M
 take-field-spec =
     tie.close
     (tie.spec
-    key-of-requires
+    (λ c κs. search needs)
     element-copy-out-if1
     returns
-    is-late-requires
+    (λ c κs. search needs)
     returns-2
-    field-value-requires
-    route-bytes-requires
-    field-repeats-requires
+    (λ c κs. search needs)
+    (λ c κs. search needs)
+    (λ c κs. search needs)
     returns-3
     store-field-requires
     returns-4)

@@ -10,15 +10,6 @@ use Rattle.loading.proofs.first.extra_absent.Tie as tie
 returns : tie.Need-returns
 returns c = sym (absent-plain _ _ _ (λ e. c .if1 .taken (c .before .before .pre .1 ∙ e)))
 
-field-value-requires : tie.Need-field-value-requires
-field-value-requires c κs = search needs
-
-first-number-requires : tie.Need-first-number-requires
-first-number-requires c κs = search needs
-
-has-port-requires : tie.Need-has-port-requires
-has-port-requires c κs = search needs
-
 returns-2 : tie.Need-returns-2
 returns-2 c =
     let a = c .before .before .before .before .before .args in
@@ -29,4 +20,4 @@ returns-2 c =
 pub extra-absent-spec : {M : Type 1} → statement M
 extra-absent-spec =
     tie.close
-    (tie.spec returns field-value-requires first-number-requires has-port-requires returns-2)
+    (tie.spec returns (λ c κs. search needs) (λ c κs. search needs) (λ c κs. search needs) returns-2)

@@ -6,17 +6,11 @@ use Rattle.plan_reading.specs.laws.reading.Absent.{first-route, first-jitter, f
 use Rattle.loading.proofs.first.first_absent.Statement.{statement}
 use Rattle.loading.proofs.first.first_absent.Tie as tie
 
-first-field-requires : tie.Need-first-field-requires
-first-field-requires c κs = search needs
-
 returns : tie.Need-returns
 returns c =
     let a = c .before .before .before .args in
     let f = c .before .first-field .ensures in
     f ∙ sym (first-route (now (a .rates)) (now (a .periods)) (now (a .plan)) (rw f at (c .if1 .taken)))
-
-first-field-requires-2 : tie.Need-first-field-requires-2
-first-field-requires-2 c κs = search needs
 
 returns-2 : tie.Need-returns-2
 returns-2 c =
@@ -25,9 +19,6 @@ returns-2 c =
     let f = past .before .first-field .ensures in
     let g = c .before .first-field2 .ensures in
     g ∙ sym (first-jitter (now (a .rates)) (now (a .periods)) (now (a .plan)) (rw f at (past .if1 .left)) (rw g at (c .if2 .taken)))
-
-first-field-requires-3 : tie.Need-first-field-requires-3
-first-field-requires-3 c κs = search needs
 
 returns-3 : tie.Need-returns-3
 returns-3 c =
@@ -42,4 +33,4 @@ returns-3 c =
 pub first-absent-spec : {M : Type 1} → statement M
 first-absent-spec =
     tie.close
-    (tie.spec first-field-requires returns first-field-requires-2 returns-2 first-field-requires-3 returns-3)
+    (tie.spec (λ c κs. search needs) returns (λ c κs. search needs) returns-2 (λ c κs. search needs) returns-3)

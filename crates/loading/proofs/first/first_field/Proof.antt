@@ -58,12 +58,6 @@ module _ (c : tie.After-known-told Inv-loop μ-loop) where
 loop-holds : tie.Need-loop-holds Inv-loop μ-loop
 loop-holds c = (omega arith, refl)
 
-split-head-requires : tie.Need-split-head-requires Inv-loop μ-loop
-split-head-requires c κs = tt
-
-enum-known-tag : tie.Need-enum-known-tag Inv-loop μ-loop
-enum-known-tag c = search needs
-
 is-sought-requires : tie.Need-is-sought-requires Inv-loop μ-loop
 is-sought-requires c κs = (is-whole c, read-tag (bytes c) (offset c) (tag c) (size c) (head-read c))
 
@@ -89,9 +83,6 @@ loop-again c =
           ∙ rw (is-size w) (first-past (seeks w) (bytes w) (offset w) (is-whole w) (sym (c .before .is-sought .ensures) ∙ c .if1 .left)),
     )
 
-enum-told : tie.Need-enum-told Inv-loop μ-loop
-enum-told c = search needs
-
 returns-2 : tie.Need-returns-2 Inv-loop μ-loop
 returns-2 c =
     let a = c .before .before .before .before .before .args in
@@ -106,13 +97,13 @@ first-field-spec =
     Inv-loop
     μ-loop
     loop-holds
-    split-head-requires
-    enum-known-tag
+    (λ c κs. tt)
+    (λ c. search needs)
     is-sought-requires
     returns
     add-at
     add-at-2
     loop-less
     loop-again
-    enum-told
+    (λ c. search needs)
     returns-2)

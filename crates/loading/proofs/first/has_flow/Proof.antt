@@ -10,9 +10,6 @@ use Rattle.plan_reading.specs.laws.fields.Within.{within-low, slot-below}
 use Rattle.loading.proofs.first.has_flow.Statement.{statement}
 use Rattle.loading.proofs.first.has_flow.Tie as tie
 
-flow-ok-requires : tie.Need-flow-ok-requires
-flow-ok-requires c κs = search needs
-
 returns : tie.Need-returns
 returns c = rw (sym (c .before .flow-ok .ensures), not-true (c .before .flow-ok .result) (c .if1 .taken))
 
@@ -22,12 +19,6 @@ in-range c = sym (c .before .flow-ok .ensures) ∙ not-false (c .before .flow-ok
 
 sub-slot : tie.Need-sub-slot
 sub-slot c = within-low 1 flowSlots _ (in-range c)
-
-cast-slot : tie.Need-cast-slot
-cast-slot c = search needs
-
-mul-result : tie.Need-mul-result
-mul-result c = search needs
 
 element-copy-out-result : tie.Need-element-copy-out-result
 element-copy-out-result c = slot-below flowSlots _ (in-range c)
@@ -39,10 +30,10 @@ pub has-flow-spec : {M : Type 1} → statement M
 has-flow-spec =
     tie.close
     (tie.spec
-    flow-ok-requires
+    (λ c κs. search needs)
     returns
     sub-slot
-    cast-slot
-    mul-result
+    (λ c. search needs)
+    (λ c. search needs)
     element-copy-out-result
     returns-2)

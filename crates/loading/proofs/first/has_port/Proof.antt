@@ -10,9 +10,6 @@ use Rattle.plan_reading.specs.laws.fields.Within.{within-low, slot-below}
 use Rattle.loading.proofs.first.has_port.Statement.{statement}
 use Rattle.loading.proofs.first.has_port.Tie as tie
 
-port-ok-requires : tie.Need-port-ok-requires
-port-ok-requires c κs = search needs
-
 returns : tie.Need-returns
 returns c = rw (sym (c .before .port-ok .ensures), not-true (c .before .port-ok .result) (c .if1 .taken))
 
@@ -22,12 +19,6 @@ in-range c = sym (c .before .port-ok .ensures) ∙ not-false (c .before .port-ok
 
 sub-slot : tie.Need-sub-slot
 sub-slot c = within-low 1 portSlots _ (in-range c)
-
-cast-slot : tie.Need-cast-slot
-cast-slot c = search needs
-
-mul-result : tie.Need-mul-result
-mul-result c = search needs
 
 element-copy-out-result : tie.Need-element-copy-out-result
 element-copy-out-result c = slot-below portSlots _ (in-range c)
@@ -39,10 +30,10 @@ pub has-port-spec : {M : Type 1} → statement M
 has-port-spec =
     tie.close
     (tie.spec
-    port-ok-requires
+    (λ c κs. search needs)
     returns
     sub-slot
-    cast-slot
-    mul-result
+    (λ c. search needs)
+    (λ c. search needs)
     element-copy-out-result
     returns-2)

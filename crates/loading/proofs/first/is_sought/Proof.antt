@@ -3,24 +3,6 @@ use borrow.Author.Needs.{needs}
 use Rattle.loading.proofs.first.is_sought.Statement.{statement}
 use Rattle.loading.proofs.first.is_sought.Tie as tie
 
-enum-told : tie.Need-enum-told
-enum-told c = search needs
-
-names-absent-requires : tie.Need-names-absent-requires
-names-absent-requires c κs = search needs
-
-enum-told-2 : tie.Need-enum-told-2
-enum-told-2 c = search needs
-
-jitter-absent-requires : tie.Need-jitter-absent-requires
-jitter-absent-requires c κs = search needs
-
-enum-told-3 : tie.Need-enum-told-3
-enum-told-3 c = search needs
-
-extra-absent-requires : tie.Need-extra-absent-requires
-extra-absent-requires c κs = search needs
-
 returns : tie.Need-returns
 returns c = rw (c .before .enum-told .given .1) (c .names-absent .ensures)
 
@@ -34,12 +16,12 @@ pub is-sought-spec : {M : Type 1} → statement M
 is-sought-spec =
     tie.close
     (tie.spec
-    enum-told
-    names-absent-requires
-    enum-told-2
-    jitter-absent-requires
-    enum-told-3
-    extra-absent-requires
+    (λ c. search needs)
+    (λ c κs. search needs)
+    (λ c. search needs)
+    (λ c κs. search needs)
+    (λ c. search needs)
+    (λ c κs. search needs)
     returns
     returns-2
     returns-3)

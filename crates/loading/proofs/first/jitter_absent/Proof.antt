@@ -10,15 +10,6 @@ use Rattle.loading.proofs.first.jitter_absent.Tie as tie
 returns : tie.Need-returns
 returns c = sym (absent-steady _ _ _ (λ e. c .if1 .taken (c .before .before .pre .1 ∙ e)))
 
-field-value-requires : tie.Need-field-value-requires
-field-value-requires c κs = search needs
-
-first-number-requires : tie.Need-first-number-requires
-first-number-requires c κs = search needs
-
-has-flow-requires : tie.Need-has-flow-requires
-has-flow-requires c κs = search needs
-
 returns-2 : tie.Need-returns-2
 returns-2 c =
     let a = c .before .before .before .before .before .args in
@@ -29,4 +20,4 @@ returns-2 c =
 pub jitter-absent-spec : {M : Type 1} → statement M
 jitter-absent-spec =
     tie.close
-    (tie.spec returns field-value-requires first-number-requires has-flow-requires returns-2)
+    (tie.spec returns (λ c κs. search needs) (λ c κs. search needs) (λ c κs. search needs) returns-2)

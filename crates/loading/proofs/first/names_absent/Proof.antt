@@ -11,15 +11,6 @@ use Rattle.loading.proofs.first.names_absent.Tie as tie
 returns : tie.Need-returns
 returns c = sym (absent-other _ _ _ (λ e. c .if1 .taken (c .before .before .pre .1 ∙ e)))
 
-field-value-requires : tie.Need-field-value-requires
-field-value-requires c κs = search needs
-
-route-bytes-requires : tie.Need-route-bytes-requires
-route-bytes-requires c κs = search needs
-
-route-absent-requires : tie.Need-route-absent-requires
-route-absent-requires c κs = search needs
-
 returns-2 : tie.Need-returns-2
 unfolding routeIn
 returns-2 c =
@@ -32,4 +23,4 @@ returns-2 c =
 pub names-absent-spec : {M : Type 1} → statement M
 names-absent-spec =
     tie.close
-    (tie.spec returns field-value-requires route-bytes-requires route-absent-requires returns-2)
+    (tie.spec returns (λ c κs. search needs) (λ c κs. search needs) (λ c κs. search needs) returns-2)

@@ -30,17 +30,8 @@ step c =
     rw (c .has-port .ensures, c .before .route-port .ensures)
     (at .inv ∙ every-step (now (a .route)) (portIn (now (a .rates))) (at .i) (omega arith))
 
-route-len-requires : tie.Need-route-len-requires Inv-loop μ-loop
-route-len-requires c κs = tt
-
 loop-holds : tie.Need-loop-holds Inv-loop μ-loop
 loop-holds c = refl
-
-route-port-requires : tie.Need-route-port-requires Inv-loop μ-loop
-route-port-requires c κs = tt
-
-has-port-requires : tie.Need-has-port-requires Inv-loop μ-loop
-has-port-requires c κs = tt
 
 returns : tie.Need-returns Inv-loop μ-loop
 returns c = rw (step (c .before), not-true (c .before .has-port .result) (c .if1 .taken))
@@ -65,10 +56,10 @@ route-absent-spec =
     (tie.spec
     Inv-loop
     μ-loop
-    route-len-requires
+    (λ c κs. tt)
     loop-holds
-    route-port-requires
-    has-port-requires
+    (λ c κs. tt)
+    (λ c κs. tt)
     returns
     add-i
     loop-less

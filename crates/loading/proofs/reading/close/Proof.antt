@@ -1,8 +1,6 @@
 -- `close` meets its contract: test 8, then test 9.
-use Prim.Native.Nat.{ℕ}
-use mathlib.Core.Path.{_≡_, sym, ap, _∙_}
+use mathlib.Core.Path.{_≡_, sym}
 use mathlib.Core.Bool.{true}
-use mathlib.Core.List.{List}
 use native.Mathlib.Omega.{arith}
 use borrow.Author.Tests.{lt-ltb}
 use lib.ListN.{getD}
@@ -30,17 +28,11 @@ found : (c : tie.After-first-absent) (p : Plan)
     → c .first-absent .result ≡ firstAbsent (p .rates) (p .periods) (now (c .before .before .before .before .before .args .plan))
 found c p e g = rw (e, g) (c .first-absent .ensures)
 
-element-copy-out-if1 : tie.Need-element-copy-out-if1
-element-copy-out-if1 c = search needs
-
 returns : tie.Need-returns
 returns c = λ p e g. sym (close-headless (now (c .before .before .before .args .plan)) (closed (c .before .before .before) p) (rw (c .if1 .taken)))
 
 returns-2 : tie.Need-returns-2
 returns-2 c = λ p e g. sym (close-flowless (now (c .before .before .before .before .args .plan)) (closed (c .before .before .before .before) p) (c .if2 .taken))
-
-first-absent-requires : tie.Need-first-absent-requires
-first-absent-requires c κs = search needs
 
 returns-3 : tie.Need-returns-3
 returns-3 c = λ p e g.
@@ -55,4 +47,4 @@ returns-4 c = λ p e g.
 pub close-spec : {M : Type 1} → statement M
 close-spec =
     tie.close
-    (tie.spec element-copy-out-if1 returns returns-2 first-absent-requires returns-3 returns-4)
+    (tie.spec (λ c. search needs) returns returns-2 (λ c κs. search needs) returns-3 returns-4)

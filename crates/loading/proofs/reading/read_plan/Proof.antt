@@ -116,9 +116,6 @@ at-end c =
     ∙ read-end (mode l) (bytes l) (here l) (last l) (held l) _ (c .before .before .before .before .loop-test .left)
     ∙ sym (c .close .ensures (held l .tables) refl refl)
 
-size-ok-requires : tie.Need-size-ok-requires Inv-loop μ-loop
-size-ok-requires c κs = tt
-
 returns : tie.Need-returns Inv-loop μ-loop
 returns c =
     let m = modeOf (c .before .before .before .args .strict) in
@@ -136,9 +133,6 @@ step-requires c κs =
     let most = within-high 1 maxBytes (length (bytes l)) (sized l) in
     (omega (arith, i .inside, i .ports, most), omega (arith, i .inside, i .flows, most))
 
-enum-known-next : tie.Need-enum-known-next Inv-loop μ-loop
-enum-known-next c = search needs
-
 loop-less : tie.Need-loop-less Inv-loop μ-loop
 loop-less c = omega (arith, goes-on c .forward, goes-on c .inside)
 
@@ -153,9 +147,6 @@ loop-again c =
       rest = i .rest ∙ read-more (mode l) (bytes l) (here l) (last l) (held l) (tested c .loop-test .taken) (next c) (key c) (read c) (stepped c);
     }
 
-enum-known-fault : tie.Need-enum-known-fault Inv-loop μ-loop
-enum-known-fault c = search needs
-
 returns-2 : tie.Need-returns-2 Inv-loop μ-loop
 returns-2 c =
     let test = in-turn (c .before .before .before .before) in
@@ -165,15 +156,6 @@ returns-2 c =
     ∙ read-stop (mode l) (bytes l) (here l) (last l) (held l) (test .loop-test .taken) _ _
     (sym (c .before .before .before .step .ensures) ∙ ap (stepped-as (c .before .before .before)) (c .before .fault .given .1)) in
     record { leaves = sym (refused-leaves (mode l) _ (bytes l) _ _ e); answers = sym (refused-answer (mode l) (bytes l) _ _ e) }
-
-close-requires : tie.Need-close-requires Inv-loop μ-loop
-close-requires c κs = tt
-
-enum-told : tie.Need-enum-told Inv-loop μ-loop
-enum-told c = search needs
-
-enum-told-2 : tie.Need-enum-told-2 Inv-loop μ-loop
-enum-told-2 c = search needs
 
 returns-3 : tie.Need-returns-3 Inv-loop μ-loop
 returns-3 c =
@@ -201,17 +183,17 @@ read-plan-spec =
     (tie.spec
     Inv-loop
     μ-loop
-    size-ok-requires
+    (λ c κs. tt)
     returns
     loop-holds
     step-requires
-    enum-known-next
+    (λ c. search needs)
     loop-less
     loop-again
-    enum-known-fault
+    (λ c. search needs)
     returns-2
-    close-requires
-    enum-told
-    enum-told-2
+    (λ c κs. tt)
+    (λ c. search needs)
+    (λ c. search needs)
     returns-3
     returns-4)

@@ -9,17 +9,11 @@ use Rattle.loading.proofs.store.store_extra.Tie as tie
 sub-slot : tie.Need-sub-slot
 sub-slot c = within-low 1 portSlots _ (c .before .pre .number)
 
-cast-slot : tie.Need-cast-slot
-cast-slot c = search needs
-
 cast-extras : tie.Need-cast-extras
 cast-extras c = omega (arith, within-high 0 maxExtra (c .before .before .args .x .extra) (c .before .before .pre .bytes))
 
 element-write-extras : tie.Need-element-write-extras
 element-write-extras c = slot-below portSlots _ (c .before .before .pre .number)
 
-returns : tie.Need-returns
-returns c = search needs
-
 pub store-extra-spec : {M : Type 1} → statement M
-store-extra-spec = tie.close (tie.spec sub-slot cast-slot cast-extras element-write-extras returns)
+store-extra-spec = tie.close (tie.spec sub-slot (λ c. search needs) cast-extras element-write-extras (λ c. search needs))

@@ -60,47 +60,20 @@ flow-added
 unfolding added store
 flow-added d field x r key kind k a b c e f = rw (k, kind, a, b, c, e, f, add-zero (d .ports))
 
-key-of-requires : tie.Need-key-of-requires
-key-of-requires c κs = search needs
-
 element-write-seen : tie.Need-element-write-seen
 element-write-seen c = omega (arith, c .key-of .ensures, key-below (fieldOf (c .before .before .args .field)) (c .before .before .pre .2))
-
-enum-known-field : tie.Need-enum-known-field
-enum-known-field c = search needs
-
-enum-known-field-2 : tie.Need-enum-known-field-2
-enum-known-field-2 c = search needs
 
 store-port-requires : tie.Need-store-port-requires
 store-port-requires c κs = rw (c .before .before .before .field2 .given .1) at (c .before .before .before .before .before .before .before .pre .2)
 
-add-sums : tie.Need-add-sums
-add-sums c = search needs
-
-enum-known-field-3 : tie.Need-enum-known-field-3
-enum-known-field-3 c = search needs
-
 store-flow-requires : tie.Need-store-flow-requires
 store-flow-requires c κs = (rw (c .before .before .before .before .before .before .field3 .given .1) at (c .before .before .before .before .before .before .before .before .before .before .pre .2), rw (c .before .before .before .before .before .before .field3 .given .1) at (c .before .before .before .before .before .before .before .before .before .before .pre .3))
-
-add-sums-2 : tie.Need-add-sums-2
-add-sums-2 c = search needs
-
-enum-known-field-4 : tie.Need-enum-known-field-4
-enum-known-field-4 c = search needs
 
 store-extra-requires : tie.Need-store-extra-requires
 store-extra-requires c κs = rw (c .before .before .field4 .given .1) at (c .before .before .before .before .before .before .pre .2)
 
-enum-known-field-5 : tie.Need-enum-known-field-5
-enum-known-field-5 c = search needs
-
 store-jitter-requires : tie.Need-store-jitter-requires
 store-jitter-requires c κs = rw (c .before .before .field5 .given .1) at (c .before .before .before .before .before .before .pre .2)
-
-enum-known-field-6 : tie.Need-enum-known-field-6
-enum-known-field-6 c = search needs
 
 returns : tie.Need-returns
 unfolding added store
@@ -135,20 +108,20 @@ pub store-field-spec : {M : Type 1} → statement M
 store-field-spec =
     tie.close
     (tie.spec
-    key-of-requires
+    (λ c κs. search needs)
     element-write-seen
-    enum-known-field
-    enum-known-field-2
+    (λ c. search needs)
+    (λ c. search needs)
     store-port-requires
-    add-sums
-    enum-known-field-3
+    (λ c. search needs)
+    (λ c. search needs)
     store-flow-requires
-    add-sums-2
-    enum-known-field-4
+    (λ c. search needs)
+    (λ c. search needs)
     store-extra-requires
-    enum-known-field-5
+    (λ c. search needs)
     store-jitter-requires
-    enum-known-field-6
+    (λ c. search needs)
     returns
     returns-2
     returns-3

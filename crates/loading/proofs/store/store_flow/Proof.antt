@@ -8,23 +8,11 @@ use Rattle.loading.proofs.store.store_flow.Tie as tie
 sub-slot : tie.Need-sub-slot
 sub-slot c = within-low 1 flowSlots _ (c .before .before .pre .0 .number)
 
-cast-slot : tie.Need-cast-slot
-cast-slot c = search needs
-
-mul-periods : tie.Need-mul-periods
-mul-periods c = search needs
-
 element-write-periods : tie.Need-element-write-periods
 element-write-periods c = slot-below flowSlots _ (c .before .before .pre .0 .number)
 
-mul-counts : tie.Need-mul-counts
-mul-counts c = search needs
-
 element-write-counts : tie.Need-element-write-counts
 element-write-counts c = slot-below flowSlots _ (c .before .before .pre .0 .number)
-
-mul-lengths : tie.Need-mul-lengths
-mul-lengths c = search needs
 
 element-write-lengths : tie.Need-element-write-lengths
 element-write-lengths c = slot-below flowSlots _ (c .before .before .pre .0 .number)
@@ -32,32 +20,23 @@ element-write-lengths c = slot-below flowSlots _ (c .before .before .pre .0 .num
 element-write-hops : tie.Need-element-write-hops
 element-write-hops c = slot-below flowSlots _ (c .before .before .pre .0 .number)
 
-mul-store-route : tie.Need-mul-store-route
-mul-store-route c = search needs
-
-cast-store-route : tie.Need-cast-store-route
-cast-store-route c = search needs
-
 store-route-requires : tie.Need-store-route-requires
 store-route-requires c κs = (sublist-below _ _ (c .before .before .before .before .pre .0 .number) (c .before .before .before .before .pre .0 .hops), c .before .before .before .before .pre .1)
-
-returns : tie.Need-returns
-returns c = search needs
 
 pub store-flow-spec : {M : Type 1} → statement M
 store-flow-spec =
     tie.close
     (tie.spec
     sub-slot
-    cast-slot
-    mul-periods
+    (λ c. search needs)
+    (λ c. search needs)
     element-write-periods
-    mul-counts
+    (λ c. search needs)
     element-write-counts
-    mul-lengths
+    (λ c. search needs)
     element-write-lengths
     element-write-hops
-    mul-store-route
-    cast-store-route
+    (λ c. search needs)
+    (λ c. search needs)
     store-route-requires
-    returns)
+    (λ c. search needs))

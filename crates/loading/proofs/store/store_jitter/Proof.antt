@@ -9,17 +9,8 @@ use Rattle.loading.proofs.store.store_jitter.Tie as tie
 sub-jitters : tie.Need-sub-jitters
 sub-jitters c = omega (arith, within-low 1 flowSlots (c .before .args .x .number) (c .before .pre .number))
 
-cast-jitters : tie.Need-cast-jitters
-cast-jitters c = search needs
-
-mul-jitters : tie.Need-mul-jitters
-mul-jitters c = search needs
-
 element-write-jitters : tie.Need-element-write-jitters
 element-write-jitters c = omega (arith, within-low 1 flowSlots (c .before .args .x .number) (c .before .pre .number), within-high 1 flowSlots (c .before .args .x .number) (c .before .pre .number))
 
-returns : tie.Need-returns
-returns c = search needs
-
 pub store-jitter-spec : {M : Type 1} → statement M
-store-jitter-spec = tie.close (tie.spec sub-jitters cast-jitters mul-jitters element-write-jitters returns)
+store-jitter-spec = tie.close (tie.spec sub-jitters (λ c. search needs) (λ c. search needs) element-write-jitters (λ c. search needs))

@@ -8,32 +8,20 @@ use Rattle.loading.proofs.store.store_port.Tie as tie
 sub-slot : tie.Need-sub-slot
 sub-slot c = within-low 1 portSlots _ (c .before .pre .number)
 
-cast-slot : tie.Need-cast-slot
-cast-slot c = search needs
-
-mul-rates : tie.Need-mul-rates
-mul-rates c = search needs
-
 element-write-rates : tie.Need-element-write-rates
 element-write-rates c = slot-below portSlots _ (c .before .pre .number)
 
-mul-blockings : tie.Need-mul-blockings
-mul-blockings c = search needs
-
 element-write-blockings : tie.Need-element-write-blockings
 element-write-blockings c = slot-below portSlots _ (c .before .pre .number)
-
-returns : tie.Need-returns
-returns c = search needs
 
 pub store-port-spec : {M : Type 1} → statement M
 store-port-spec =
     tie.close
     (tie.spec
     sub-slot
-    cast-slot
-    mul-rates
+    (λ c. search needs)
+    (λ c. search needs)
     element-write-rates
-    mul-blockings
+    (λ c. search needs)
     element-write-blockings
-    returns)
+    (λ c. search needs))

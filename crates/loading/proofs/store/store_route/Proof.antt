@@ -35,9 +35,6 @@ module _ (c : tie.After-route-port Inv-loop μ-loop) where
 loop-holds : tie.Need-loop-holds Inv-loop μ-loop
 loop-holds c = (omega arith, refl)
 
-route-port-requires : tie.Need-route-port-requires Inv-loop μ-loop
-route-port-requires c κs = tt
-
 cast-routes : tie.Need-cast-routes Inv-loop μ-loop
 cast-routes c = omega (arith, within-high 1 portSlots (c .route-port .result) (in-range c))
 
@@ -71,7 +68,7 @@ store-route-spec =
     Inv-loop
     μ-loop
     loop-holds
-    route-port-requires
+    (λ c κs. tt)
     cast-routes
     add-routes
     element-write-routes

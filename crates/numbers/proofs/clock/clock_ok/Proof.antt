@@ -6,20 +6,11 @@ use borrow.Author.Tests.{not-true, not-false}
 use Rattle.numbers.proofs.clock.clock_ok.Statement.{statement}
 use Rattle.numbers.proofs.clock.clock_ok.Tie as tie
 
-drift-ok-requires : tie.Need-drift-ok-requires
-drift-ok-requires c κs = search needs
-
 returns : tie.Need-returns
 returns c = simp (sym (c .before .drift-ok .ensures) ∙ not-true _ (c .if1 .taken))
 
-timing-jitter-ok-requires : tie.Need-timing-jitter-ok-requires
-timing-jitter-ok-requires c κs = search needs
-
 returns-2 : tie.Need-returns-2
 returns-2 c = simp (sym (c .before .timing-jitter-ok .ensures) ∙ not-true _ (c .if2 .taken), and-false)
-
-sync-error-ok-requires : tie.Need-sync-error-ok-requires
-sync-error-ok-requires c κs = search needs
 
 returns-3 : tie.Need-returns-3
 returns-3 c =
@@ -37,9 +28,9 @@ pub clock-ok-spec : {M : Type 1} → statement M
 clock-ok-spec =
     tie.close
     (tie.spec
-    drift-ok-requires
+    (λ c κs. search needs)
     returns
-    timing-jitter-ok-requires
+    (λ c κs. search needs)
     returns-2
-    sync-error-ok-requires
+    (λ c κs. search needs)
     returns-3)

@@ -17,9 +17,6 @@ product-most c =
 mul-result : tie.Need-mul-result
 mul-result c = omega (arith, product-most c)
 
-sub-result : tie.Need-sub-result
-sub-result c = search needs
-
 add-result : tie.Need-add-result
 add-result c = omega (arith, product-most c)
 
@@ -28,4 +25,4 @@ unfolding ceilDiv
 returns c = refl
 
 pub drifted-spec : {M : Type 1} → statement M
-drifted-spec = tie.close (tie.spec mul-result sub-result add-result returns)
+drifted-spec = tie.close (tie.spec mul-result (λ c. search needs) add-result returns)

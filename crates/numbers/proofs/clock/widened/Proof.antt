@@ -16,43 +16,22 @@ drifted-most c =
     let product : a .duration * a .clock .drift ≤ 2 ^ 62 * million = le-trans (mul-le-mul duration drift) (omega arith) in
     rw (c .drifted .ensures) (ceil-least (a .duration * a .clock .drift) (2 ^ 62) (omega arith) product)
 
-drifted-requires : tie.Need-drifted-requires
-drifted-requires c κs = search needs
-
 add-apart : tie.Need-add-apart
 add-apart c = omega (arith, drifted-most c)
 
-cast-apart : tie.Need-cast-apart
-cast-apart c = search needs
-
 add-apart-2 : tie.Need-add-apart-2
 add-apart-2 c = omega (arith, drifted-most (c .before))
-
-cast-clocksEqual : tie.Need-cast-clocksEqual
-cast-clocksEqual c = search needs
-
-mul-clocksEqual : tie.Need-mul-clocksEqual
-mul-clocksEqual c = search needs
-
-add-clocksEqual : tie.Need-add-clocksEqual
-add-clocksEqual c = search needs
-
-returns : tie.Need-returns
-returns c = search needs
-
-returns-2 : tie.Need-returns-2
-returns-2 c = search needs
 
 pub widened-spec : {M : Type 1} → statement M
 widened-spec =
     tie.close
     (tie.spec
-    drifted-requires
+    (λ c κs. search needs)
     add-apart
-    cast-apart
+    (λ c. search needs)
     add-apart-2
-    cast-clocksEqual
-    mul-clocksEqual
-    add-clocksEqual
-    returns
-    returns-2)
+    (λ c. search needs)
+    (λ c. search needs)
+    (λ c. search needs)
+    (λ c. search needs)
+    (λ c. search needs))

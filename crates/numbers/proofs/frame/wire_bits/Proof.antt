@@ -1,7 +1,6 @@
 -- `numbers::frame::wire_bits` meets its contract.
 use mathlib.Core.Path.{refl}
 use native.Mathlib.Omega.{arith}
-use Rattle.cqf.specs.Port.{bitsOf}
 use Rattle.numbers.proofs.frame.wire_bits.Statement.{statement}
 use Rattle.numbers.proofs.frame.wire_bits.Tie as tie
 

@@ -8,11 +8,8 @@ use Rattle.numbers.proofs.limits.blocking_ok.Tie as tie
 returns : tie.Need-returns
 returns c = sym (simp (eq-eqb _ _ (c .if1 .taken)))
 
-length-ok-requires : tie.Need-length-ok-requires
-length-ok-requires c κs = search needs
-
 returns-2 : tie.Need-returns-2
 returns-2 c = c .length-ok .ensures ∙ sym (simp (ne-eqb _ _ (c .before .if1 .left)))
 
 pub blocking-ok-spec : {M : Type 1} → statement M
-blocking-ok-spec = tie.close (tie.spec returns length-ok-requires returns-2)
+blocking-ok-spec = tie.close (tie.spec returns (λ c κs. search needs) returns-2)

@@ -3,11 +3,8 @@ use borrow.Author.Needs.{needs}
 use Rattle.numbers.proofs.limits.guard_ok.Statement.{statement}
 use Rattle.numbers.proofs.limits.guard_ok.Tie as tie
 
-between-requires : tie.Need-between-requires
-between-requires c κs = search needs
-
 returns : tie.Need-returns
 returns c = c .between .ensures
 
 pub guard-ok-spec : {M : Type 1} → statement M
-guard-ok-spec = tie.close (tie.spec between-requires returns)
+guard-ok-spec = tie.close (tie.spec (λ c κs. search needs) returns)

@@ -3,11 +3,8 @@ use borrow.Author.Needs.{needs}
 use Rattle.numbers.proofs.limits.rate_ok.Statement.{statement}
 use Rattle.numbers.proofs.limits.rate_ok.Tie as tie
 
-between-requires : tie.Need-between-requires
-between-requires c κs = search needs
-
 returns : tie.Need-returns
 returns c = c .between .ensures
 
 pub rate-ok-spec : {M : Type 1} → statement M
-rate-ok-spec = tie.close (tie.spec between-requires returns)
+rate-ok-spec = tie.close (tie.spec (λ c κs. search needs) returns)

@@ -8,8 +8,5 @@ use Rattle.numbers.proofs.port.failing_ports.Tie as tie
 add-t3 : tie.Need-add-t3
 add-t3 c = omega (arith, trailing-le 64 (c .args .set), leading-le 64 (c .args .set))
 
-returns : tie.Need-returns
-returns c = search needs
-
 pub failing-ports-spec : {M : Type 1} → statement M
-failing-ports-spec = tie.close (tie.spec add-t3 returns)
+failing-ports-spec = tie.close (tie.spec add-t3 (λ c. search needs))

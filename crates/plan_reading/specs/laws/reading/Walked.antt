@@ -70,6 +70,18 @@ accepted-row mode s p m k e =
     let t = walk-fresh s (length s) (w .walk) (omega arith) in
     record { fresh = t .0; tables = ap (λ (d : Draft). d .tables) (t .1) ∙ closing-accepted s (w .final) p m k (w .closes) .plan }
 
+-- and the numbers of port and flow fields among them
+pub accepted-counts
+    : (mode : Mode) (s : List ℕ) (p : Plan) (ports flows : ℕ)
+    → readAs mode s ≡ accepted p ports flows
+    → (addedAll blank (fieldsIn s) .ports ≡ ports) × (addedAll blank (fieldsIn s) .flows ≡ flows)
+unfolding fieldsIn
+accepted-counts mode s p m k e =
+    let w = read-as mode s p m k e in
+    let t = walk-fresh s (length s) (w .walk) (omega arith) .1 in
+    let c = closing-accepted s (w .final) p m k (w .closes) in
+    (ap (λ (d : Draft). d .ports) t ∙ c .ports-read, ap (λ (d : Draft). d .flows) t ∙ c .flows-read)
+
 -- every accepted plan has tables of their sizes
 pub accepted-sized : (mode : Mode) (s : List ℕ) (p : Plan) (ports flows : ℕ) → readAs mode s ≡ accepted p ports flows → Sized p
 unfolding blank

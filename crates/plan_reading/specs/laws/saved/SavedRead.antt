@@ -1,6 +1,6 @@
 -- A valid plan is saved as bytes that either reading accepts, and that hold the same plan.
 use Prim.Native.Nat.{ℕ}
-use mathlib.Core.Path.{_≡_, refl, _∙_}
+use mathlib.Core.Path.{_≡_, refl, sym, _∙_}
 use mathlib.Core.List.{List}
 use mathlib.Core.Bool.{true}
 use lib.Dec.{ltb}
@@ -19,6 +19,7 @@ use Rattle.plan_reading.specs.laws.saved.Says.{portsOn}
 use Rattle.plan_reading.specs.laws.saved.SavedOk.{saved-ok, saved-rising, saved-present, saved-header}
 use Rattle.plan_reading.specs.laws.saved.Tidy.{tidied-same}
 use Rattle.plan_reading.specs.laws.reading.Walked.{accepted-sized, accepted-tidy}
+use Rattle.plan_reading.specs.laws.saved.Counts.{ports-counted, flows-counted}
 use Rattle.plan_reading.specs.laws.saved.SavedTables.{saved-tables}
 use Rattle.plan_reading.specs.laws.saved.SavedCounts.{saved-ports, saved-flows, saved-some}
 
@@ -58,11 +59,11 @@ module _ (p : Plan) (valid : validPlan p ≡ true) (sized : Sized p) where
       saved-read mode
       ∙ (λ i. accepted (tidied-same p sized tidy i) (countTo portSlots (λ q. ltb 0 (rateOf p q))) (countTo flowSlots (λ f. ltb 0 (periodOf p f))))
 
--- so saving a plan that a reading accepted, and reading it again in either way, gives the plan
+-- so saving a plan that a reading accepted, and reading it again in either way, gives the plan and its numbers of port and flow fields
 pub saved-again
     : (mode other : Mode) (s : List ℕ) (p : Plan) (ports flows : ℕ)
     → readAs mode s ≡ accepted p ports flows
-    → readAs other (savedBytes p)
-    ≡ accepted p (countTo portSlots (λ q. ltb 0 (rateOf p q))) (countTo flowSlots (λ f. ltb 0 (periodOf p f)))
+    → readAs other (savedBytes p) ≡ accepted p ports flows
 saved-again mode other s p m k e =
     saved-held p (accepted-valid s p m k (read-loosely mode s p m k e)) (accepted-sized mode s p m k e) (accepted-tidy mode s p m k e) other
+    ∙ (λ i. accepted p (sym (ports-counted mode s p m k e) i) (sym (flows-counted mode s p m k e) i))

@@ -1,7 +1,26 @@
--- `planner::calls::gates` meets its contract: the columns are lent on.
+-- `planner::calls::gates` meets its contract: the columns are lent on, and what was written plays two cycles.
+use mathlib.Core.Path.{_≡_, sym, subst}
+use mathlib.Core.List.{List}
+use Prim.Native.Nat.{ℕ}
 use borrow.Author.Needs.{needs}
+use Rattle.cqf.specs.Plan.{Plan}
+use Rattle.answers.specs.Answer.{Answer}
+use Rattle.gate_writing.specs.Gates.{gatesAnswer, gatesLeaves}
+use Rattle.sequences.specs.GatesMeaning.{GatesMean}
+use Rattle.sequences.specs.results.GatesTheorem.{gates-mean}
 use Rattle.planner.proofs.calls.gates.Statement.{statement}
 use Rattle.planner.proofs.calls.gates.Tie as tie
+
+-- the answer of the definition and what it leaves, and with them what they mean
+told
+    : (p : Plan) (T even odd : ℕ) (buffer exit : List ℕ) (a : Answer ℕ)
+    → (a ≡ gatesAnswer p T even odd buffer) × (exit ≡ gatesLeaves p T even odd buffer)
+    → ((a ≡ gatesAnswer p T even odd buffer) × (exit ≡ gatesLeaves p T even odd buffer)) × GatesMean p T even odd buffer exit a
+told p T even odd buffer exit a e = (
+  e,
+  subst (λ (x : List ℕ). GatesMean p T even odd buffer x a) (sym (e .1))
+      (subst (λ (x : Answer ℕ). GatesMean p T even odd buffer (gatesLeaves p T even odd buffer) x) (sym (e .0)) (gates-mean p T even odd buffer)),
+)
 
 gates-tables-requires : tie.Need-gates-tables-requires
 gates-tables-requires c κs = tt
@@ -10,7 +29,7 @@ same-length : tie.Need-same-length
 same-length c = search needs
 
 returns : tie.Need-returns
-returns c = c .before .before .gates-tables .ensures
+returns c = told _ _ _ _ _ _ _ (c .before .before .gates-tables .ensures)
 
 pub gates-spec : {M : Type 1} → statement M
 gates-spec = tie.close (tie.spec gates-tables-requires same-length returns)

@@ -4,14 +4,8 @@ use Rattle.questions.specs.laws.Searched.{least-ends}
 use Rattle.planner.proofs.calls.least.Statement.{statement}
 use Rattle.planner.proofs.calls.least.Tie as tie
 
-search-tables-requires : tie.Need-search-tables-requires
-search-tables-requires c κs = tt
-
-same-length : tie.Need-same-length
-same-length c = search needs
-
 returns : tie.Need-returns
 returns c = least-ends _ _ (c .before .before .search-tables .ensures)
 
 pub least-spec : {M : Type 1} → statement M
-least-spec = tie.close (tie.spec search-tables-requires same-length returns)
+least-spec = tie.close (tie.spec (λ c κs. tt) (λ c. search needs) returns)

@@ -24,23 +24,8 @@ start c = c .before .before .before
 enough : (s : tie.Start) → plan s .top ≤ 18446744073709551615
 enough s = omega (arith, top-most (plan s) (s .pre .0))
 
-add-above : tie.Need-add-above
-add-above c = search needs
-
 iterate-requires : tie.Need-iterate-requires
 iterate-requires c κs = let s = c .before .before in (s .pre, (le-refl 1, top-positive (plan s) (s .pre .0)))
-
-enum-known-iterated : tie.Need-enum-known-iterated
-enum-known-iterated c = search needs
-
-enum-told : tie.Need-enum-told
-enum-told c = search needs
-
-enum-told-2 : tie.Need-enum-told-2
-enum-told-2 c = search needs
-
-same-length : tie.Need-same-length
-same-length c = search needs
 
 returns : tie.Need-returns
 returns c =
@@ -48,17 +33,11 @@ returns c =
     let s = start i in
     ascended-found (plan s) (s .pre .0) _ (enough s) (rw (c .before .iterated .given .1) at (i .iterate .ensures))
 
-same-length-2 : tie.Need-same-length-2
-same-length-2 c = search needs
-
 returns-2 : tie.Need-returns-2
 returns-2 c =
     let i = c .before .before .before .before in
     let s = start i in
     ascended-none (plan s) (s .pre .0) _ (enough s) (rw (c .enum-told .given .1) at (i .iterate .ensures))
-
-same-length-3 : tie.Need-same-length-3
-same-length-3 c = search needs
 
 returns-3 : tie.Need-returns-3
 returns-3 c =
@@ -70,14 +49,14 @@ pub ascend-spec : {M : Type 1} → statement M
 ascend-spec =
     tie.close
     (tie.spec
-    add-above
+    (λ c. search needs)
     iterate-requires
-    enum-known-iterated
-    enum-told
-    enum-told-2
-    same-length
+    (λ c. search needs)
+    (λ c. search needs)
+    (λ c. search needs)
+    (λ c. search needs)
     returns
-    same-length-2
+    (λ c. search needs)
     returns-2
-    same-length-3
+    (λ c. search needs)
     returns-3)

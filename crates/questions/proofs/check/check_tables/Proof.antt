@@ -45,25 +45,16 @@ past c = c .before
 many : (c : tie.After-failing-at) → c .failing-at .result .count ≡ failing (held (begin (past (c .before)))) (begin (past (c .before)) .args .duration)
 many c = c .failing-at .ensures .many ∙ topped-failing (held (begin (past (c .before)))) _ _
 
-valid-tables-requires : tie.Need-valid-tables-requires
-valid-tables-requires c κs = tt
-
 returns : tie.Need-returns
 returns c =
     let s = start (c .before) in
     sym (check-none (held s) _ (sym (c .before .valid-tables .ensures) ∙ not-true _ (c .if1 .taken)))
-
-between-requires : tie.Need-between-requires
-between-requires c κs = tt
 
 returns-2 : tie.Need-returns-2
 returns-2 c =
     let first = c .before .before in
     let s = start (first .before) in
     sym (check-out (held s) _ (valid first) (sym (c .before .between .ensures) ∙ not-true _ (c .if2 .taken)))
-
-slice-aggregate-failing-at : tie.Need-slice-aggregate-failing-at
-slice-aggregate-failing-at c = search needs
 
 failing-at-requires : tie.Need-failing-at-requires
 failing-at-requires c κs =
@@ -88,11 +79,11 @@ pub check-tables-spec : {M : Type 1} → statement M
 check-tables-spec =
     tie.close
     (tie.spec
-    valid-tables-requires
+    (λ c κs. tt)
     returns
-    between-requires
+    (λ c κs. tt)
     returns-2
-    slice-aggregate-failing-at
+    (λ c. search needs)
     failing-at-requires
     returns-3
     returns-4)

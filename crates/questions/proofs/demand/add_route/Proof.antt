@@ -66,12 +66,6 @@ loop-holds : tie.Need-loop-holds Inv-loop μ-loop
 unfolding sublist
 loop-holds c = (omega arith, refl, mark-none (c .before .args .out .now) _)
 
-add-q : tie.Need-add-q Inv-loop μ-loop
-add-q c = search needs
-
-element-copy-out-q : tie.Need-element-copy-out-q Inv-loop μ-loop
-element-copy-out-q c = search needs
-
 cast-q : tie.Need-cast-q Inv-loop μ-loop
 cast-q c = omega (arith, next (c .before))
 
@@ -87,9 +81,6 @@ slice-read-out c = omega (arith, next (c .before .before))
 element-copy-out-wire-bits : tie.Need-element-copy-out-wire-bits Inv-loop μ-loop
 element-copy-out-wire-bits c = omega (arith, next (c .before .before))
 
-wire-bits-requires : tie.Need-wire-bits-requires Inv-loop μ-loop
-wire-bits-requires c κs = tt
-
 mul-out-2 : tie.Need-mul-out-2 Inv-loop μ-loop
 mul-out-2 c = omega (arith, bits-fit c)
 
@@ -101,12 +92,6 @@ mul-out-3 c = omega (arith, next (inside c))
 
 slice-write-out : tie.Need-slice-write-out Inv-loop μ-loop
 slice-write-out c = omega (arith, next (inside c))
-
-add-i : tie.Need-add-i Inv-loop μ-loop
-add-i c = search needs
-
-loop-less : tie.Need-loop-less Inv-loop μ-loop
-loop-less c = search needs
 
 loop-again : tie.Need-loop-again Inv-loop μ-loop
 loop-again c =
@@ -130,9 +115,6 @@ loop-again c =
           (ap₂ (λ (x y : ℕ). x + y) (same at) (bits-are c)),
     )
 
-same-length : tie.Need-same-length Inv-loop μ-loop
-same-length c = search needs
-
 returns : tie.Need-returns Inv-loop μ-loop
 returns c =
     let all : c .before .loop .i ≡ begin (c .before) .args .hops = omega arith in
@@ -145,20 +127,20 @@ add-route-spec =
     Inv-loop
     μ-loop
     loop-holds
-    add-q
-    element-copy-out-q
+    (λ c. search needs)
+    (λ c. search needs)
     cast-q
     sub-q
     mul-out
     slice-read-out
     element-copy-out-wire-bits
-    wire-bits-requires
+    (λ c κs. tt)
     mul-out-2
     add-out
     mul-out-3
     slice-write-out
-    add-i
-    loop-less
+    (λ c. search needs)
+    (λ c. search needs)
     loop-again
-    same-length
+    (λ c. search needs)
     returns)

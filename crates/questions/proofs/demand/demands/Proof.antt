@@ -68,9 +68,6 @@ clear-requires c κs = c .before .before .pre .1 .1
 cast-at : tie.Need-cast-at Inv-loop μ-loop
 cast-at c = omega (arith, start (c .before .before) .pre .1 .0)
 
-widened-requires : tie.Need-widened-requires Inv-loop μ-loop
-widened-requires c κs = tt
-
 cast-over : tie.Need-cast-over Inv-loop μ-loop
 cast-over c = omega (arith, c .widened .ensures, start (c .before .before .before) .pre .1 .0)
 
@@ -80,44 +77,14 @@ loop-holds c =
     let s = start clear in
     (omega arith, clear .clear .kept .0 ∙ s .pre .1 .1, sums-none (plan s) (c .widened .result) (clear .clear .last .0) (clear .clear .ensures))
 
-mul-period : tie.Need-mul-period Inv-loop μ-loop
-mul-period c = search needs
-
-element-copy-out-period : tie.Need-element-copy-out-period Inv-loop μ-loop
-element-copy-out-period c = search needs
-
-mul-flow-frames : tie.Need-mul-flow-frames Inv-loop μ-loop
-mul-flow-frames c = search needs
-
-element-copy-out-flow-frames : tie.Need-element-copy-out-flow-frames Inv-loop μ-loop
-element-copy-out-flow-frames c = search needs
-
-mul-flow-frames-2 : tie.Need-mul-flow-frames-2 Inv-loop μ-loop
-mul-flow-frames-2 c = search needs
-
-element-copy-out-flow-frames-2 : tie.Need-element-copy-out-flow-frames-2 Inv-loop μ-loop
-element-copy-out-flow-frames-2 c = search needs
-
 flow-frames-requires : tie.Need-flow-frames-requires Inv-loop μ-loop
 flow-frames-requires c κs =
     let at = c .before .before .before .before in
     let r = slot at in
     (r .period-least (c .before .before .if1 .taken), r .period-most, r .count-most, jitter-within (begin (at .before)) (omega arith), omega (arith, counted-over (at .before), begin (at .before) .pre .1 .0))
 
-mul-add-route : tie.Need-mul-add-route Inv-loop μ-loop
-mul-add-route c = search needs
-
-element-copy-out-add-route : tie.Need-element-copy-out-add-route Inv-loop μ-loop
-element-copy-out-add-route c = search needs
-
 cast-add-route : tie.Need-cast-add-route Inv-loop μ-loop
 cast-add-route c = omega (arith, slot (c .before .before .before .before .before .before) .hops-most)
-
-mul-add-route-2 : tie.Need-mul-add-route-2 Inv-loop μ-loop
-mul-add-route-2 c = search needs
-
-element-copy-out-add-route-2 : tie.Need-element-copy-out-add-route-2 Inv-loop μ-loop
-element-copy-out-add-route-2 c = search needs
 
 add-route-requires : tie.Need-add-route-requires Inv-loop μ-loop
 add-route-requires c κs =
@@ -139,12 +106,6 @@ add-route-requires c κs =
       ),
     )
 
-add-f : tie.Need-add-f Inv-loop μ-loop
-add-f c = search needs
-
-loop-less : tie.Need-loop-less Inv-loop μ-loop
-loop-less c = search needs
-
 loop-again : tie.Need-loop-again Inv-loop μ-loop
 loop-again c =
     let at = c .before .before in
@@ -163,9 +124,6 @@ loop-again c =
     (omega arith, rw (w .1) (at .before .loop .inv .1), rw (w .1) (sums-skip p T f out (slot at .absent (w .0 .left)) sums)))
     (c .if1 .came)
 
-same-length : tie.Need-same-length Inv-loop μ-loop
-same-length c = search needs
-
 returns : tie.Need-returns Inv-loop μ-loop
 returns c =
     let s = begin (c .before) in
@@ -182,24 +140,24 @@ demands-spec =
     μ-loop
     clear-requires
     cast-at
-    widened-requires
+    (λ c κs. tt)
     cast-over
     loop-holds
-    mul-period
-    element-copy-out-period
-    mul-flow-frames
-    element-copy-out-flow-frames
-    mul-flow-frames-2
-    element-copy-out-flow-frames-2
+    (λ c. search needs)
+    (λ c. search needs)
+    (λ c. search needs)
+    (λ c. search needs)
+    (λ c. search needs)
+    (λ c. search needs)
     flow-frames-requires
-    mul-add-route
-    element-copy-out-add-route
+    (λ c. search needs)
+    (λ c. search needs)
     cast-add-route
-    mul-add-route-2
-    element-copy-out-add-route-2
+    (λ c. search needs)
+    (λ c. search needs)
     add-route-requires
-    add-f
-    loop-less
+    (λ c. search needs)
+    (λ c. search needs)
     loop-again
-    same-length
+    (λ c. search needs)
     returns)

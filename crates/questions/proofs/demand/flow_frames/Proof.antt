@@ -9,12 +9,6 @@ use Rattle.cqf.specs.laws.Begun.{begun-most}
 use Rattle.questions.proofs.demand.flow_frames.Statement.{statement}
 use Rattle.questions.proofs.demand.flow_frames.Tie as tie
 
-periods-begun-requires : tie.Need-periods-begun-requires
-periods-begun-requires c κs = search needs
-
-cast-result : tie.Need-cast-result
-cast-result c = search needs
-
 mul-result : tie.Need-mul-result
 mul-result c =
     let s = c .before in
@@ -26,4 +20,4 @@ returns : tie.Need-returns
 returns c = ap (λ (n : ℕ). c .before .args .count * n) (c .periods-begun .ensures)
 
 pub flow-frames-spec : {M : Type 1} → statement M
-flow-frames-spec = tie.close (tie.spec periods-begun-requires cast-result mul-result returns)
+flow-frames-spec = tie.close (tie.spec (λ c κs. search needs) (λ c. search needs) mul-result returns)

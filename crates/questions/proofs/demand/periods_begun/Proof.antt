@@ -7,21 +7,9 @@ use Rattle.cqf.specs.Ceil.{ceilDiv}
 use Rattle.questions.proofs.demand.periods_begun.Statement.{statement}
 use Rattle.questions.proofs.demand.periods_begun.Tie as tie
 
-add-result : tie.Need-add-result
-add-result c = search needs
-
-sub-result : tie.Need-sub-result
-sub-result c = search needs
-
-add-result-2 : tie.Need-add-result-2
-add-result-2 c = search needs
-
-div-result : tie.Need-div-result
-div-result c = search needs
-
 returns : tie.Need-returns
 unfolding ceilDiv
 returns c = ap (λ (n : ℕ). (c .args .widened + c .args .jitter + n) / c .args .period) (sub-one (c .args .period))
 
 pub periods-begun-spec : {M : Type 1} → statement M
-periods-begun-spec = tie.close (tie.spec add-result sub-result add-result-2 div-result returns)
+periods-begun-spec = tie.close (tie.spec (λ c. search needs) (λ c. search needs) (λ c. search needs) (λ c. search needs) returns)

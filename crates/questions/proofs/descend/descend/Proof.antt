@@ -77,9 +77,6 @@ largest-need-requires c κs =
     let f = full (filling c) in
     (filled-length f, λ q l. (filled-most f q l, filled-served f q l))
 
-larger-requires : tie.Need-larger-requires Inv-loop μ-loop
-larger-requires c κs = tt
-
 add-found : tie.Need-add-found Inv-loop μ-loop
 add-found c = omega (arith, filled-short (full (demanded (c .before))))
 
@@ -133,7 +130,7 @@ descend-spec =
     loop-holds
     demands-requires
     largest-need-requires
-    larger-requires
+    (λ c κs. tt)
     add-found
     sub-below
     loop-less

@@ -35,16 +35,10 @@ demands-requires c κs =
     let s = c .before .before in
     ((record { slot = slot-in-range (plan s) (s .pre .0) }, extra-most (plan s) (s .pre .0)), (widened-fits (plan s) (s .pre .0) _ (le-refl _), s .pre .1))
 
-window-requires : tie.Need-window-requires
-window-requires c κs = tt
-
 failing-set-requires : tie.Need-failing-set-requires
 failing-set-requires c κs =
     let f = at-duration (filling (c .before)) in
     (filled-length f, omega (arith, c .before .window .ensures, filled-short f), filled-most f)
-
-failing-ports-requires : tie.Need-failing-ports-requires
-failing-ports-requires c κs = tt
 
 same-length : tie.Need-same-length
 same-length c =
@@ -69,8 +63,8 @@ failing-at-spec =
     tie.close
     (tie.spec
     demands-requires
-    window-requires
+    (λ c κs. tt)
     failing-set-requires
-    failing-ports-requires
+    (λ c κs. tt)
     same-length
     returns)

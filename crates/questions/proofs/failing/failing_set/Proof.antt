@@ -21,41 +21,11 @@ loop-holds : tie.Need-loop-holds Inv-loop μ-loop
 unfolding setTo
 loop-holds c = search needs
 
-mul-port-fails : tie.Need-mul-port-fails Inv-loop μ-loop
-mul-port-fails c = search needs
-
-element-copy-out-port-fails : tie.Need-element-copy-out-port-fails Inv-loop μ-loop
-element-copy-out-port-fails c = search needs
-
-mul-port-fails-2 : tie.Need-mul-port-fails-2 Inv-loop μ-loop
-mul-port-fails-2 c = search needs
-
-element-copy-out-port-fails-2 : tie.Need-element-copy-out-port-fails-2 Inv-loop μ-loop
-element-copy-out-port-fails-2 c = search needs
-
-element-copy-out-port-fails-3 : tie.Need-element-copy-out-port-fails-3 Inv-loop μ-loop
-element-copy-out-port-fails-3 c = search needs
-
-mul-port-fails-3 : tie.Need-mul-port-fails-3 Inv-loop μ-loop
-mul-port-fails-3 c = search needs
-
-shared-slice-read-port-fails : tie.Need-shared-slice-read-port-fails Inv-loop μ-loop
-shared-slice-read-port-fails c = search needs
-
 port-fails-requires : tie.Need-port-fails-requires Inv-loop μ-loop
 port-fails-requires c κs =
     let at = c .before .before .before .before in
     let start = at .before .before .before in
     (start .pre .1, start .pre .2 (at .before .loop .q) (at .loop-test .taken))
-
-shl-set : tie.Need-shl-set Inv-loop μ-loop
-shl-set c = search needs
-
-add-q : tie.Need-add-q Inv-loop μ-loop
-add-q c = search needs
-
-loop-less : tie.Need-loop-less Inv-loop μ-loop
-loop-less c = search needs
 
 loop-again : tie.Need-loop-again Inv-loop μ-loop
 loop-again c =
@@ -78,16 +48,16 @@ failing-set-spec =
     Inv-loop
     μ-loop
     loop-holds
-    mul-port-fails
-    element-copy-out-port-fails
-    mul-port-fails-2
-    element-copy-out-port-fails-2
-    element-copy-out-port-fails-3
-    mul-port-fails-3
-    shared-slice-read-port-fails
+    (λ c. search needs)
+    (λ c. search needs)
+    (λ c. search needs)
+    (λ c. search needs)
+    (λ c. search needs)
+    (λ c. search needs)
+    (λ c. search needs)
     port-fails-requires
-    shl-set
-    add-q
-    loop-less
+    (λ c. search needs)
+    (λ c. search needs)
+    (λ c. search needs)
     loop-again
     returns)

@@ -18,9 +18,6 @@ mul-result c =
     let most : a .rate * a .window ≤ 2 ^ 32 * maxTop = mul-le-mul rate (c .before .pre .0) in
     omega arith
 
-workload-requires : tie.Need-workload-requires
-workload-requires c κs = search needs
-
 returns-2 : tie.Need-returns-2
 returns-2 c =
     let bits = c .before .before .args .bits in
@@ -28,4 +25,4 @@ returns-2 c =
     rw (lt-ltb 0 bits some, c .workload .ensures)
 
 pub port-fails-spec : {M : Type 1} → statement M
-port-fails-spec = tie.close (tie.spec returns mul-result workload-requires returns-2)
+port-fails-spec = tie.close (tie.spec returns mul-result (λ c κs. search needs) returns-2)

@@ -6,9 +6,6 @@ use Rattle.questions.specs.laws.PortNeed.{blocking-most}
 use Rattle.questions.proofs.failing.workload.Statement.{statement}
 use Rattle.questions.proofs.failing.workload.Tie as tie
 
-blocking-bits-requires : tie.Need-blocking-bits-requires
-blocking-bits-requires c κs = tt
-
 add-result : tie.Need-add-result
 add-result c =
     let a = c .before .args in
@@ -23,4 +20,4 @@ returns : tie.Need-returns
 returns c = ap (λ (n : ℕ). 1000 * (c .before .args .bits + n)) (c .blocking-bits .ensures)
 
 pub workload-spec : {M : Type 1} → statement M
-workload-spec = tie.close (tie.spec blocking-bits-requires add-result mul-result returns)
+workload-spec = tie.close (tie.spec (λ c κs. tt) add-result mul-result returns)

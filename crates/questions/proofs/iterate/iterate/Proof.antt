@@ -93,9 +93,6 @@ demands-requires c κs =
     let s = start l in
     ((record { slot = slot-in-range (plan s) (s .pre .0 .0) }, extra-most (plan s) (s .pre .0 .0)), (widened-fits (plan s) (s .pre .0 .0) _ (l .loop .inv .1 .within), l .loop .inv .0))
 
-window-requires : tie.Need-window-requires Inv-ports μ-ports Inv-loop μ-loop
-window-requires c κs = tt
-
 ports-holds : tie.Need-ports-holds Inv-ports μ-ports Inv-loop μ-loop
 ports-holds c =
     let d = filling c in
@@ -234,7 +231,7 @@ iterate-spec =
     loop-holds
     add-used
     demands-requires
-    window-requires
+    (λ c κs. tt)
     ports-holds
     mul-port-fails
     element-copy-out-port-fails

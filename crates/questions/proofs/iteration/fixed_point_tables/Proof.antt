@@ -35,16 +35,10 @@ module _ (c : tie.Else2) where
   ranged : within 1 (held begin .top) (begin .args .start) ≡ true
   ranged = sym (c .before .between .ensures) ∙ not-false _ (c .if2 .left)
 
-valid-tables-requires : tie.Need-valid-tables-requires
-valid-tables-requires c κs = tt
-
 returns : tie.Need-returns
 returns c =
     let s = start (c .before) in
     sym (fixed-point-none (held s) _ _ (sym (c .before .valid-tables .ensures) ∙ not-true _ (c .if1 .taken)))
-
-between-requires : tie.Need-between-requires
-between-requires c κs = tt
 
 returns-2 : tie.Need-returns-2
 returns-2 c =
@@ -65,9 +59,9 @@ pub fixed-point-tables-spec : {M : Type 1} → statement M
 fixed-point-tables-spec =
     tie.close
     (tie.spec
-    valid-tables-requires
+    (λ c κs. tt)
     returns
-    between-requires
+    (λ c κs. tt)
     returns-2
     steps-answer-requires
     returns-3)

@@ -24,27 +24,6 @@ start c = c .before .before
 abbrev answer : tie.Start → Outcome → Answer FixedPoint
 answer s = outcomeAnswer (plan s) (s .args .steps)
 
-slice-aggregate-iterate : tie.Need-slice-aggregate-iterate
-slice-aggregate-iterate c = search needs
-
-iterate-requires : tie.Need-iterate-requires
-iterate-requires c κs = search needs
-
-enum-known-iterated : tie.Need-enum-known-iterated
-enum-known-iterated c = search needs
-
-enum-known-iterated-2 : tie.Need-enum-known-iterated-2
-enum-known-iterated-2 c = search needs
-
-enum-known-iterated-3 : tie.Need-enum-known-iterated-3
-enum-known-iterated-3 c = search needs
-
-slice-aggregate-failing-at : tie.Need-slice-aggregate-failing-at
-slice-aggregate-failing-at c = search needs
-
-failing-at-requires : tie.Need-failing-at-requires
-failing-at-requires c κs = search needs
-
 returns : tie.Need-returns
 returns c =
     let i = c .before .before .before .before in
@@ -66,13 +45,13 @@ pub steps-answer-spec : {M : Type 1} → statement M
 steps-answer-spec =
     tie.close
     (tie.spec
-    slice-aggregate-iterate
-    iterate-requires
-    enum-known-iterated
-    enum-known-iterated-2
-    enum-known-iterated-3
-    slice-aggregate-failing-at
-    failing-at-requires
+    (λ c. search needs)
+    (λ c κs. search needs)
+    (λ c. search needs)
+    (λ c. search needs)
+    (λ c. search needs)
+    (λ c. search needs)
+    (λ c κs. search needs)
     returns
     returns-2
     returns-3)

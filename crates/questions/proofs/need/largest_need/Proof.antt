@@ -27,40 +27,10 @@ loop-holds : tie.Need-loop-holds Inv-loop μ-loop
 unfolding maxTo
 loop-holds c = search needs
 
-mul-need : tie.Need-mul-need Inv-loop μ-loop
-mul-need c = search needs
-
-element-copy-out-need : tie.Need-element-copy-out-need Inv-loop μ-loop
-element-copy-out-need c = search needs
-
-mul-need-2 : tie.Need-mul-need-2 Inv-loop μ-loop
-mul-need-2 c = search needs
-
-element-copy-out-need-2 : tie.Need-element-copy-out-need-2 Inv-loop μ-loop
-element-copy-out-need-2 c = search needs
-
-element-copy-out-need-3 : tie.Need-element-copy-out-need-3 Inv-loop μ-loop
-element-copy-out-need-3 c = search needs
-
-mul-need-3 : tie.Need-mul-need-3 Inv-loop μ-loop
-mul-need-3 c = search needs
-
-shared-slice-read-need : tie.Need-shared-slice-read-need Inv-loop μ-loop
-shared-slice-read-need c = search needs
-
 need-requires : tie.Need-need-requires Inv-loop μ-loop
 need-requires c κs =
     let at = c .before .before .before .before in
     at .before .before .before .pre .1 (at .before .loop .q) (at .loop-test .taken)
-
-larger-requires : tie.Need-larger-requires Inv-loop μ-loop
-larger-requires c κs = tt
-
-add-q : tie.Need-add-q Inv-loop μ-loop
-add-q c = search needs
-
-loop-less : tie.Need-loop-less Inv-loop μ-loop
-loop-less c = search needs
 
 loop-again : tie.Need-loop-again Inv-loop μ-loop
 loop-again c =
@@ -79,16 +49,16 @@ largest-need-spec =
     Inv-loop
     μ-loop
     loop-holds
-    mul-need
-    element-copy-out-need
-    mul-need-2
-    element-copy-out-need-2
-    element-copy-out-need-3
-    mul-need-3
-    shared-slice-read-need
+    (λ c. search needs)
+    (λ c. search needs)
+    (λ c. search needs)
+    (λ c. search needs)
+    (λ c. search needs)
+    (λ c. search needs)
+    (λ c. search needs)
     need-requires
-    larger-requires
-    add-q
-    loop-less
+    (λ c κs. tt)
+    (λ c. search needs)
+    (λ c. search needs)
     loop-again
     returns)

@@ -13,12 +13,6 @@ served c = c .before .before .pre .1 (omega (arith, c .before .if1 .left))
 returns : tie.Need-returns
 returns c = rw (c .if1 .taken)
 
-workload-requires : tie.Need-workload-requires
-workload-requires c κs = search needs
-
-mul-result : tie.Need-mul-result
-mul-result c = search needs
-
 sub-result : tie.Need-sub-result
 sub-result c = omega (arith, served c)
 
@@ -47,8 +41,8 @@ need-spec =
     tie.close
     (tie.spec
     returns
-    workload-requires
-    mul-result
+    (λ c κs. search needs)
+    (λ c. search needs)
     sub-result
     add-result
     div-result

@@ -15,12 +15,6 @@ bits-are
     → (let a = c .before .before .args in c .before .flow-frames .result * c .wire-bits .result ≡ framesBy (a .count) (a .widened) (a .jitter) (a .period) * bitsOf (a .bytes) (a .extra))
 bits-are c = ap₂ (λ (n b : ℕ). n * b) (c .before .flow-frames .ensures) (c .wire-bits .ensures)
 
-flow-frames-requires : tie.Need-flow-frames-requires
-flow-frames-requires c κs = search needs
-
-wire-bits-requires : tie.Need-wire-bits-requires
-wire-bits-requires c κs = tt
-
 mul-result : tie.Need-mul-result
 mul-result c =
     let s = c .before .before in
@@ -30,4 +24,4 @@ returns : tie.Need-returns
 returns c = bits-are c
 
 pub flow-bits-spec : {M : Type 1} → statement M
-flow-bits-spec = tie.close (tie.spec flow-frames-requires wire-bits-requires mul-result returns)
+flow-bits-spec = tie.close (tie.spec (λ c κs. search needs) (λ c κs. tt) mul-result returns)

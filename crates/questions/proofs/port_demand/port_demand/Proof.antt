@@ -73,9 +73,6 @@ crossing c = sym (c .before .route-holds .ensures) ∙ c .if1 .taken
 cast-at : tie.Need-cast-at Inv-loop μ-loop
 cast-at c = omega (arith, c .pre .1 .0)
 
-widened-requires : tie.Need-widened-requires Inv-loop μ-loop
-widened-requires c κs = tt
-
 cast-over : tie.Need-cast-over Inv-loop μ-loop
 cast-over c = omega (arith, c .widened .ensures, c .before .pre .1 .0)
 
@@ -83,44 +80,11 @@ loop-holds : tie.Need-loop-holds Inv-loop μ-loop
 unfolding sumTo
 loop-holds c = search needs
 
-mul-route-holds : tie.Need-mul-route-holds Inv-loop μ-loop
-mul-route-holds c = search needs
-
-element-copy-out-route-holds : tie.Need-element-copy-out-route-holds Inv-loop μ-loop
-element-copy-out-route-holds c = search needs
-
 cast-route-holds : tie.Need-cast-route-holds Inv-loop μ-loop
 cast-route-holds c = omega (arith, slot (c .before) .hops-most)
 
 route-holds-requires : tie.Need-route-holds-requires Inv-loop μ-loop
 route-holds-requires c κs = (omega (arith, slot (c .before) .hops-most), start (c .before) .pre .1 .1)
-
-mul-flow-bits : tie.Need-mul-flow-bits Inv-loop μ-loop
-mul-flow-bits c = search needs
-
-element-copy-out-flow-bits : tie.Need-element-copy-out-flow-bits Inv-loop μ-loop
-element-copy-out-flow-bits c = search needs
-
-mul-flow-bits-2 : tie.Need-mul-flow-bits-2 Inv-loop μ-loop
-mul-flow-bits-2 c = search needs
-
-element-copy-out-flow-bits-2 : tie.Need-element-copy-out-flow-bits-2 Inv-loop μ-loop
-element-copy-out-flow-bits-2 c = search needs
-
-mul-flow-bits-3 : tie.Need-mul-flow-bits-3 Inv-loop μ-loop
-mul-flow-bits-3 c = search needs
-
-element-copy-out-flow-bits-3 : tie.Need-element-copy-out-flow-bits-3 Inv-loop μ-loop
-element-copy-out-flow-bits-3 c = search needs
-
-mul-flow-bits-4 : tie.Need-mul-flow-bits-4 Inv-loop μ-loop
-mul-flow-bits-4 c = search needs
-
-element-copy-out-flow-bits-4 : tie.Need-element-copy-out-flow-bits-4 Inv-loop μ-loop
-element-copy-out-flow-bits-4 c = search needs
-
-element-copy-out-flow-bits-5 : tie.Need-element-copy-out-flow-bits-5 Inv-loop μ-loop
-element-copy-out-flow-bits-5 c = search needs
 
 flow-bits-requires : tie.Need-flow-bits-requires Inv-loop μ-loop
 flow-bits-requires c κs =
@@ -141,12 +105,6 @@ add-bits c =
     let next : f + 1 ≤ flowSlots = omega (arith, at .loop-test .taken) in
     omega
     (arith, sum-crossing p (s .args .q) (over (at .before)) f (at .before .loop .inv .1) (crossing branch) (is (at .before)) (c .flow-bits .ensures), sum-most p (s .pre .0 .0 .slot) (s .pre .0 .1) (over (at .before)) (fits (at .before)) (s .args .q) (f + 1) (s .pre .1 .1) next)
-
-add-f : tie.Need-add-f Inv-loop μ-loop
-add-f c = search needs
-
-loop-less : tie.Need-loop-less Inv-loop μ-loop
-loop-less c = search needs
 
 loop-again : tie.Need-loop-again Inv-loop μ-loop
 loop-again c =
@@ -179,25 +137,25 @@ port-demand-spec =
     Inv-loop
     μ-loop
     cast-at
-    widened-requires
+    (λ c κs. tt)
     cast-over
     loop-holds
-    mul-route-holds
-    element-copy-out-route-holds
+    (λ c. search needs)
+    (λ c. search needs)
     cast-route-holds
     route-holds-requires
-    mul-flow-bits
-    element-copy-out-flow-bits
-    mul-flow-bits-2
-    element-copy-out-flow-bits-2
-    mul-flow-bits-3
-    element-copy-out-flow-bits-3
-    mul-flow-bits-4
-    element-copy-out-flow-bits-4
-    element-copy-out-flow-bits-5
+    (λ c. search needs)
+    (λ c. search needs)
+    (λ c. search needs)
+    (λ c. search needs)
+    (λ c. search needs)
+    (λ c. search needs)
+    (λ c. search needs)
+    (λ c. search needs)
+    (λ c. search needs)
     flow-bits-requires
     add-bits
-    add-f
-    loop-less
+    (λ c. search needs)
+    (λ c. search needs)
     loop-again
     returns)

@@ -15,33 +15,15 @@ Inv-loop routes base hops q port i₀ i = (i ≤ hops) × (elem (suc q) (sublist
 abbrev μ-loop : tie.MeasureT-loop
 μ-loop routes base hops q port i₀ i = hops - i
 
-add-port : tie.Need-add-port Inv-loop μ-loop
-add-port c = search needs
-
-cast-port : tie.Need-cast-port Inv-loop μ-loop
-cast-port c = search needs
-
 loop-holds : tie.Need-loop-holds Inv-loop μ-loop
 unfolding elem sublist
 loop-holds c = search needs
-
-add-if1 : tie.Need-add-if1 Inv-loop μ-loop
-add-if1 c = search needs
-
-element-copy-out-if1 : tie.Need-element-copy-out-if1 Inv-loop μ-loop
-element-copy-out-if1 c = search needs
 
 returns : tie.Need-returns Inv-loop μ-loop
 returns c =
     let at = c .before .before .before in
     let a = at .before .args in
     sym (elem-here (a .routes .now) (a .base) (a .hops) (at .loop .i) (suc (a .q)) (omega arith) (omega (arith, c .if1 .taken)))
-
-add-i : tie.Need-add-i Inv-loop μ-loop
-add-i c = search needs
-
-loop-less : tie.Need-loop-less Inv-loop μ-loop
-loop-less c = search needs
 
 loop-again : tie.Need-loop-again Inv-loop μ-loop
 loop-again c =
@@ -60,13 +42,13 @@ route-holds-spec =
     (tie.spec
     Inv-loop
     μ-loop
-    add-port
-    cast-port
+    (λ c. search needs)
+    (λ c. search needs)
     loop-holds
-    add-if1
-    element-copy-out-if1
+    (λ c. search needs)
+    (λ c. search needs)
     returns
-    add-i
-    loop-less
+    (λ c. search needs)
+    (λ c. search needs)
     loop-again
     returns-2)

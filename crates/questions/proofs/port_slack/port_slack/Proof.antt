@@ -29,9 +29,6 @@ workload-most c = rw (c .workload .ensures) (go (eqb (c .before .args .blocking)
 mul-capacity : tie.Need-mul-capacity
 mul-capacity c = omega (arith, capacity-most c)
 
-workload-requires : tie.Need-workload-requires
-workload-requires c κs = search needs
-
 cast-result : tie.Need-cast-result
 cast-result c = record { sfits = omega (arith, capacity-most (c .before)) }
 
@@ -52,4 +49,4 @@ returns c =
 pub port-slack-spec : {M : Type 1} → statement M
 port-slack-spec =
     tie.close
-    (tie.spec mul-capacity workload-requires cast-result cast-result-2 sub-result returns)
+    (tie.spec mul-capacity (λ c κs. search needs) cast-result cast-result-2 sub-result returns)

@@ -90,25 +90,16 @@ module _ (c : tie.After-port-demand) where
       let at = second (past c) in
       omega (arith, bits-are, demand-fits p (valid (first at)) (asked (past c) .args .duration) (within-top at) (slot (past c)) (small (past c)))
 
-valid-tables-requires : tie.Need-valid-tables-requires
-valid-tables-requires c κs = tt
-
 returns : tie.Need-returns
 returns c =
     let p = held (start (c .before)) in
     sym (slack-none p _ _ (sym (c .before .valid-tables .ensures) ∙ not-true _ (c .if1 .taken)))
-
-between-requires : tie.Need-between-requires
-between-requires c κs = tt
 
 returns-2 : tie.Need-returns-2
 returns-2 c =
     let first = c .before .before in
     sym
     (slack-out (held (start (first .before))) _ _ (valid first) (sym (c .before .between .ensures) ∙ not-true _ (c .if2 .taken)))
-
-between-requires-2 : tie.Need-between-requires-2
-between-requires-2 c κs = tt
 
 returns-3 : tie.Need-returns-3
 returns-3 c =
@@ -123,9 +114,6 @@ port-demand-requires : tie.Need-port-demand-requires
 port-demand-requires c κs =
     let at = second c in
     ((record { slot = slot-in-range (held (asked c)) (valid (first at)) }, extra-most (held (asked c)) (valid (first at))), (fits at, small c))
-
-window-requires : tie.Need-window-requires
-window-requires c κs = tt
 
 mul-port-slack : tie.Need-mul-port-slack
 mul-port-slack c = omega (arith, small (past (c .before .before)))
@@ -176,15 +164,15 @@ pub slack-tables-spec : {M : Type 1} → statement M
 slack-tables-spec =
     tie.close
     (tie.spec
-    valid-tables-requires
+    (λ c κs. tt)
     returns
-    between-requires
+    (λ c κs. tt)
     returns-2
-    between-requires-2
+    (λ c κs. tt)
     returns-3
     sub-q
     port-demand-requires
-    window-requires
+    (λ c κs. tt)
     mul-port-slack
     element-copy-out-port-slack
     mul-port-slack-2

@@ -28,9 +28,6 @@ none c = c .before .before .before
 seek-requires : tie.Need-seek-requires
 seek-requires c κs = c .before .before .pre
 
-same-length : tie.Need-same-length
-same-length c = search needs
-
 returns : tie.Need-returns
 returns c =
     let sought = c .before .before .before in
@@ -42,9 +39,6 @@ failing-at-requires c κs =
     let sought = none (c .before) in
     let s = start sought in
     (s .pre .0, sought .seek .kept .1 .1 .1 .1 .1 .1 .1 .1 .1 .1 .1 .1 .1 .0 ∙ s .pre .1)
-
-same-length-2 : tie.Need-same-length-2
-same-length-2 c = search needs
 
 returns-2 : tie.Need-returns-2
 returns-2 c =
@@ -59,8 +53,8 @@ answer-spec =
     tie.close
     (tie.spec
     seek-requires
-    same-length
+    (λ c. search needs)
     returns
     failing-at-requires
-    same-length-2
+    (λ c. search needs)
     returns-2)

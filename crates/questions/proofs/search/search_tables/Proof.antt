@@ -40,9 +40,6 @@ module _ (c : tie.Else2) where
   long : portSlots ≤ length (given begin)
   long = omega (arith, c .if2 .left)
 
-valid-tables-requires : tie.Need-valid-tables-requires
-valid-tables-requires c κs = tt
-
 returns : tie.Need-returns
 returns c =
     let s = start (c .before) in
@@ -64,9 +61,6 @@ slice-aggregate-answer c = simp length-take (omega (arith, slice-relend-prefix-a
 answer-requires : tie.Need-answer-requires
 answer-requires c κs = (valid (c .before .before), omega (arith, slice-aggregate-answer c))
 
-same-length : tie.Need-same-length
-same-length c = search needs
-
 returns-3 : tie.Need-returns-3
 returns-3 c =
     let answered = c .before .before in
@@ -78,11 +72,11 @@ pub search-tables-spec : {M : Type 1} → statement M
 search-tables-spec =
     tie.close
     (tie.spec
-    valid-tables-requires
+    (λ c κs. tt)
     returns
     returns-2
     slice-relend-prefix-answer
     slice-aggregate-answer
     answer-requires
-    same-length
+    (λ c. search needs)
     returns-3)

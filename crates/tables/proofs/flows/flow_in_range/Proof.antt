@@ -6,32 +6,17 @@ use borrow.Author.Tests.{not-true, not-false}
 use Rattle.tables.proofs.flows.flow_in_range.Statement.{statement}
 use Rattle.tables.proofs.flows.flow_in_range.Tie as tie
 
-period-ok-requires : tie.Need-period-ok-requires
-period-ok-requires c κs = search needs
-
 returns : tie.Need-returns
 returns c = simp (sym (c .before .period-ok .ensures) ∙ not-true _ (c .if1 .taken))
-
-count-ok-requires : tie.Need-count-ok-requires
-count-ok-requires c κs = search needs
 
 returns-2 : tie.Need-returns-2
 returns-2 c = simp (sym (c .before .count-ok .ensures) ∙ not-true _ (c .if2 .taken), and-false)
 
-length-ok-requires : tie.Need-length-ok-requires
-length-ok-requires c κs = search needs
-
 returns-3 : tie.Need-returns-3
 returns-3 c = simp (sym (c .before .length-ok .ensures) ∙ not-true _ (c .if3 .taken), and-false)
 
-jitter-ok-requires : tie.Need-jitter-ok-requires
-jitter-ok-requires c κs = search needs
-
 returns-4 : tie.Need-returns-4
 returns-4 c = simp (sym (c .before .jitter-ok .ensures) ∙ not-true _ (c .if4 .taken), and-false)
-
-hops-ok-requires : tie.Need-hops-ok-requires
-hops-ok-requires c κs = search needs
 
 returns-5 : tie.Need-returns-5
 returns-5 c =
@@ -53,13 +38,13 @@ pub flow-in-range-spec : {M : Type 1} → statement M
 flow-in-range-spec =
     tie.close
     (tie.spec
-    period-ok-requires
+    (λ c κs. search needs)
     returns
-    count-ok-requires
+    (λ c κs. search needs)
     returns-2
-    length-ok-requires
+    (λ c κs. search needs)
     returns-3
-    jitter-ok-requires
+    (λ c κs. search needs)
     returns-4
-    hops-ok-requires
+    (λ c κs. search needs)
     returns-5)

@@ -26,33 +26,6 @@ few c =
     (a .f)
     (sym (c .before .flow-in-range .ensures) ∙ not-false _ (c .if5 .left))
 
-mul-period : tie.Need-mul-period
-mul-period c = search needs
-
-element-copy-out-period : tie.Need-element-copy-out-period
-element-copy-out-period c = search needs
-
-mul-count : tie.Need-mul-count
-mul-count c = search needs
-
-element-copy-out-count : tie.Need-element-copy-out-count
-element-copy-out-count c = search needs
-
-mul-bytes : tie.Need-mul-bytes
-mul-bytes c = search needs
-
-element-copy-out-bytes : tie.Need-element-copy-out-bytes
-element-copy-out-bytes c = search needs
-
-mul-jitter : tie.Need-mul-jitter
-mul-jitter c = search needs
-
-element-copy-out-jitter : tie.Need-element-copy-out-jitter
-element-copy-out-jitter c = search needs
-
-element-copy-out-ports : tie.Need-element-copy-out-ports
-element-copy-out-ports c = search needs
-
 returns : tie.Need-returns
 returns c =
     sym (slot-count _ _ (c .before .if1 .taken) (c .if2 .taken))
@@ -66,14 +39,8 @@ returns-3 c = sym (slot-jitter _ _ (c .before .before .before .if1 .taken) (c .b
 returns-4 : tie.Need-returns-4
 returns-4 c = sym (slot-hops _ _ (c .before .before .before .if1 .taken) (c .before .before .if2 .left) (c .before .if3 .left) (c .if4 .left))
 
-flow-in-range-requires : tie.Need-flow-in-range-requires
-flow-in-range-requires c κs = search needs
-
 returns-5 : tie.Need-returns-5
 returns-5 c = sym (slot-range _ _ (c .before .before .if1 .left) (sym (c .before .flow-in-range .ensures) ∙ not-true _ (c .if5 .taken)))
-
-mul-valid-route : tie.Need-mul-valid-route
-mul-valid-route c = search needs
 
 cast-valid-route : tie.Need-cast-valid-route
 cast-valid-route c = omega (arith, few c)
@@ -88,22 +55,22 @@ pub valid-flow-spec : {M : Type 1} → statement M
 valid-flow-spec =
     tie.close
     (tie.spec
-    mul-period
-    element-copy-out-period
-    mul-count
-    element-copy-out-count
-    mul-bytes
-    element-copy-out-bytes
-    mul-jitter
-    element-copy-out-jitter
-    element-copy-out-ports
+    (λ c. search needs)
+    (λ c. search needs)
+    (λ c. search needs)
+    (λ c. search needs)
+    (λ c. search needs)
+    (λ c. search needs)
+    (λ c. search needs)
+    (λ c. search needs)
+    (λ c. search needs)
     returns
     returns-2
     returns-3
     returns-4
-    flow-in-range-requires
+    (λ c κs. search needs)
     returns-5
-    mul-valid-route
+    (λ c. search needs)
     cast-valid-route
     valid-route-requires
     returns-6)

@@ -24,19 +24,10 @@ loop-holds : tie.Need-loop-holds Inv-loop μ-loop
 unfolding allTo
 loop-holds c = search needs
 
-valid-flow-requires : tie.Need-valid-flow-requires Inv-loop μ-loop
-valid-flow-requires c κs = search needs
-
 returns : tie.Need-returns Inv-loop μ-loop
 returns c =
     let f = c .before .before .before .loop .f in
     sym (allTo-false flowSlots _ f (omega arith) (sym (c .before .valid-flow .ensures) ∙ not-true _ (c .if1 .taken)))
-
-add-f : tie.Need-add-f Inv-loop μ-loop
-add-f c = search needs
-
-loop-less : tie.Need-loop-less Inv-loop μ-loop
-loop-less c = search needs
 
 loop-again : tie.Need-loop-again Inv-loop μ-loop
 loop-again c =
@@ -57,9 +48,9 @@ valid-flows-spec =
     Inv-loop
     μ-loop
     loop-holds
-    valid-flow-requires
+    (λ c κs. search needs)
     returns
-    add-f
-    loop-less
+    (λ c. search needs)
+    (λ c. search needs)
     loop-again
     returns-2)

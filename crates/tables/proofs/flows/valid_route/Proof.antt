@@ -51,12 +51,6 @@ loop-holds : tie.Need-loop-holds Inv-loop μ-loop
 unfolding allTo elem sublist
 loop-holds c = (omega arith, refl, refl, λ q h. getD-replicate 64 q 0 0 h)
 
-add-n : tie.Need-add-n Inv-loop μ-loop
-add-n c = search needs
-
-element-copy-out-n : tie.Need-element-copy-out-n Inv-loop μ-loop
-element-copy-out-n c = search needs
-
 returns : tie.Need-returns Inv-loop μ-loop
 returns c =
     let at = c .before .before .before in
@@ -77,21 +71,12 @@ cast-q c = omega arith
 sub-q : tie.Need-sub-q Inv-loop μ-loop
 sub-q c = omega arith
 
-mul-if3 : tie.Need-mul-if3 Inv-loop μ-loop
-mul-if3 c = search needs
-
-element-copy-out-if3 : tie.Need-element-copy-out-if3 Inv-loop μ-loop
-element-copy-out-if3 c = search needs
-
 returns-3 : tie.Need-returns-3 Inv-loop μ-loop
 returns-3 c =
     let at = c .before .before .before .before .before .before in
     let a = at .before .args in
     outside (a .rates .now) (a .routes .now) (a .base) (a .hops) (at .loop .i) (omega arith)
     (portIn-absent (a .rates .now) (getD (a .routes .now) (a .base + at .loop .i) 0) (omega arith) (c .if3 .taken))
-
-array-read-if4 : tie.Need-array-read-if4 Inv-loop μ-loop
-array-read-if4 c = search needs
 
 returns-4 : tie.Need-returns-4 Inv-loop μ-loop
 returns-4 c =
@@ -100,15 +85,6 @@ returns-4 c =
     let n = getD (a .routes .now) (a .base + at .loop .i) 0 in
     twice (a .rates .now) (a .routes .now) (a .base) (a .hops) (at .loop .i) (omega arith)
     (marked-again (at .loop .seen) (sublist (a .routes .now) (a .base) (at .loop .i)) n (at .loop .inv .3) (omega arith) (omega arith) (c .if4 .taken))
-
-array-write-seen : tie.Need-array-write-seen Inv-loop μ-loop
-array-write-seen c = search needs
-
-add-i : tie.Need-add-i Inv-loop μ-loop
-add-i c = search needs
-
-loop-less : tie.Need-loop-less Inv-loop μ-loop
-loop-less c = search needs
 
 loop-again : tie.Need-loop-again Inv-loop μ-loop
 loop-again c =
@@ -137,19 +113,19 @@ valid-route-spec =
     Inv-loop
     μ-loop
     loop-holds
-    add-n
-    element-copy-out-n
+    (λ c. search needs)
+    (λ c. search needs)
     returns
     returns-2
     cast-q
     sub-q
-    mul-if3
-    element-copy-out-if3
+    (λ c. search needs)
+    (λ c. search needs)
     returns-3
-    array-read-if4
+    (λ c. search needs)
     returns-4
-    array-write-seen
-    add-i
-    loop-less
+    (λ c. search needs)
+    (λ c. search needs)
+    (λ c. search needs)
     loop-again
     returns-5)

@@ -12,14 +12,8 @@ returns c = simp (c .before .if1 .taken, ne-eqb _ _ (c .if2 .taken))
 returns-2 : tie.Need-returns-2
 returns-2 c = simp (c .before .if1 .taken, c .if2 .left, or-false)
 
-rate-ok-requires : tie.Need-rate-ok-requires
-rate-ok-requires c κs = search needs
-
 returns-3 : tie.Need-returns-3
 returns-3 c = simp (ne-eqb _ _ (c .before .before .if1 .left), sym (c .before .rate-ok .ensures) ∙ not-true _ (c .if3 .taken))
-
-blocking-ok-requires : tie.Need-blocking-ok-requires
-blocking-ok-requires c κs = search needs
 
 returns-4 : tie.Need-returns-4
 returns-4 c =
@@ -29,9 +23,6 @@ returns-4 c =
       sym (c .before .blocking-ok .ensures) ∙ not-true _ (c .if4 .taken),
       and-false,
     )
-
-extra-ok-requires : tie.Need-extra-ok-requires
-extra-ok-requires c κs = search needs
 
 returns-5 : tie.Need-returns-5
 returns-5 c =
@@ -50,9 +41,9 @@ valid-port-spec =
     (tie.spec
     returns
     returns-2
-    rate-ok-requires
+    (λ c κs. search needs)
     returns-3
-    blocking-ok-requires
+    (λ c κs. search needs)
     returns-4
-    extra-ok-requires
+    (λ c κs. search needs)
     returns-5)

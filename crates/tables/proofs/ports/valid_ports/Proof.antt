@@ -24,35 +24,11 @@ loop-holds : tie.Need-loop-holds Inv-loop μ-loop
 unfolding allTo
 loop-holds c = search needs
 
-mul-valid-port : tie.Need-mul-valid-port Inv-loop μ-loop
-mul-valid-port c = search needs
-
-element-copy-out-valid-port : tie.Need-element-copy-out-valid-port Inv-loop μ-loop
-element-copy-out-valid-port c = search needs
-
-mul-valid-port-2 : tie.Need-mul-valid-port-2 Inv-loop μ-loop
-mul-valid-port-2 c = search needs
-
-element-copy-out-valid-port-2 : tie.Need-element-copy-out-valid-port-2 Inv-loop μ-loop
-element-copy-out-valid-port-2 c = search needs
-
-element-copy-out-valid-port-3 : tie.Need-element-copy-out-valid-port-3 Inv-loop μ-loop
-element-copy-out-valid-port-3 c = search needs
-
-valid-port-requires : tie.Need-valid-port-requires Inv-loop μ-loop
-valid-port-requires c κs = search needs
-
 returns : tie.Need-returns Inv-loop μ-loop
 unfolding validPort
 returns c =
     let q = c .before .before .before .before .before .before .loop .q in
     sym (allTo-false portSlots _ q (omega arith) (sym (c .before .valid-port .ensures) ∙ not-true _ (c .if1 .taken)))
-
-add-q : tie.Need-add-q Inv-loop μ-loop
-add-q c = search needs
-
-loop-less : tie.Need-loop-less Inv-loop μ-loop
-loop-less c = search needs
 
 loop-again : tie.Need-loop-again Inv-loop μ-loop
 unfolding validPort
@@ -74,14 +50,14 @@ valid-ports-spec =
     Inv-loop
     μ-loop
     loop-holds
-    mul-valid-port
-    element-copy-out-valid-port
-    mul-valid-port-2
-    element-copy-out-valid-port-2
-    element-copy-out-valid-port-3
-    valid-port-requires
+    (λ c. search needs)
+    (λ c. search needs)
+    (λ c. search needs)
+    (λ c. search needs)
+    (λ c. search needs)
+    (λ c κs. search needs)
     returns
-    add-q
-    loop-less
+    (λ c. search needs)
+    (λ c. search needs)
     loop-again
     returns-2)

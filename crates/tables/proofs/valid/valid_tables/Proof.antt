@@ -28,14 +28,8 @@ past-clock c = c .before .before
 abbrev past-ports : tie.After-valid-flows → tie.After-valid-ports
 past-ports c = c .before .before
 
-top-ok-requires : tie.Need-top-ok-requires
-top-ok-requires c κs = tt
-
 returns : tie.Need-returns
 returns c = sym (valid-by (plan (c .before .before)) (sym (c .before .top-ok .ensures) ∙ not-true _ (c .if1 .taken)) refl refl refl refl refl)
-
-guard-ok-requires : tie.Need-guard-ok-requires
-guard-ok-requires c κs = tt
 
 returns-2 : tie.Need-returns-2
 returns-2 c =
@@ -43,18 +37,12 @@ returns-2 c =
     (valid-by (plan (past-top (c .before) .before)) refl (sym (c .before .guard-ok .ensures) ∙ not-true _ (c .if2 .taken)) refl refl refl refl
     ∙ simp and-false)
 
-clock-ok-requires : tie.Need-clock-ok-requires
-clock-ok-requires c κs = tt
-
 returns-3 : tie.Need-returns-3
 returns-3 c =
     let top = past-top (past-guard (c .before)) in
     sym
     (valid-by (plan (top .before)) refl refl (sym (c .before .clock-ok .ensures) ∙ not-true _ (c .if3 .taken)) refl refl refl
     ∙ simp and-false)
-
-valid-ports-requires : tie.Need-valid-ports-requires
-valid-ports-requires c κs = tt
 
 returns-4 : tie.Need-returns-4
 unfolding validPort
@@ -64,9 +52,6 @@ returns-4 c =
     (valid-by (plan (top .before)) refl refl refl (sym (c .before .valid-ports .ensures) ∙ not-true _ (c .if4 .taken)) refl refl
     ∙ simp and-false)
 
-valid-flows-requires : tie.Need-valid-flows-requires
-valid-flows-requires c κs = tt
-
 returns-5 : tie.Need-returns-5
 unfolding validFlow
 returns-5 c =
@@ -74,9 +59,6 @@ returns-5 c =
     sym
     (valid-by (plan (top .before)) refl refl refl refl (sym (c .before .valid-flows .ensures) ∙ not-true _ (c .if5 .taken)) refl
     ∙ simp and-false)
-
-any-present-requires : tie.Need-any-present-requires
-any-present-requires c κs = tt
 
 returns-6 : tie.Need-returns-6
 unfolding validPort validFlow
@@ -100,15 +82,15 @@ pub valid-tables-spec : {M : Type 1} → statement M
 valid-tables-spec =
     tie.close
     (tie.spec
-    top-ok-requires
+    (λ c κs. tt)
     returns
-    guard-ok-requires
+    (λ c κs. tt)
     returns-2
-    clock-ok-requires
+    (λ c κs. tt)
     returns-3
-    valid-ports-requires
+    (λ c κs. tt)
     returns-4
-    valid-flows-requires
+    (λ c κs. tt)
     returns-5
-    any-present-requires
+    (λ c κs. tt)
     returns-6)
