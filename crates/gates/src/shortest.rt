@@ -4,6 +4,7 @@ use console::say_number;
 use numbers::port::window;
 use planner::Planner;
 use tables::PORTS;
+use tables::columns;
 
 // The shortest entry in bits, times 1,000: one Mbit/s carries one bit in 1,000 ns.
 const SHORTEST_ENTRY: u64 = 480_000;
@@ -24,7 +25,7 @@ fn slower(rate: u64, other: u32) -> u64 {
 }
 
 // The rate of the slowest port; 0 where there is none.
-fn slowest<'a>(rates: &'a [u32; 64]) -> u64 {
+fn slowest<'a>(rates: &'a columns::Rates) -> u64 {
     let mut rate: u64 = 0;
     let mut q: usize = 0;
     while q < PORTS {

@@ -3,6 +3,7 @@ use crate::SaveAnswer;
 use crate::whole::put_fields;
 use crate::whole::saved_size;
 use numbers::clock::Clock;
+use tables::columns;
 use tables::valid_tables;
 ghost use mathlib.Core.Path.{_≡_};
 ghost use lib.Dec.{leb};
@@ -23,15 +24,15 @@ pub fn save_tables<'a>(
     guard: u32,
     top: u32,
     clock: Clock,
-    rates: &'a [u32; 64],
-    blockings: &'a [u16; 64],
-    extras: &'a [u8; 64],
-    periods: &'a [u32; 256],
-    counts: &'a [u16; 256],
-    lengths: &'a [u16; 256],
-    jitters: &'a [u32; 256],
-    hops: &'a [u8; 256],
-    routes: &'a [u8; 4096],
+    rates: &'a columns::Rates,
+    blockings: &'a columns::Blockings,
+    extras: &'a columns::Extras,
+    periods: &'a columns::Periods,
+    counts: &'a columns::Counts,
+    lengths: &'a columns::Lengths,
+    jitters: &'a columns::Jitters,
+    hops: &'a columns::Hops,
+    routes: &'a columns::Routes,
     buffer: &mut [u8],
 ) -> SaveAnswer
     ensures { λ r. ⌜ Saves (planBy guard top (clockOf clock) (now (rates .entry)) (now (blockings .entry)) (now (extras .entry)) (now (periods .entry)) (now (counts .entry)) (now (lengths .entry)) (now (jitters .entry)) (now (hops .entry)) (now (routes .entry))) (now (buffer .entry)) (saveOf r) (now (buffer .exit)) ⌝ }

@@ -6,6 +6,7 @@ use plan::optional::JITTER_SIZE;
 use plan::read::PORT_SIZE;
 use plan::route::FLOW_SIZE;
 use plan::split::HEAD_SIZE;
+use tables::columns;
 ghost use mathlib.Core.Path.{_≡_};
 ghost use mathlib.Core.Bool.{cond};
 ghost use mathlib.Core.List.{[]};
@@ -31,11 +32,11 @@ fn field_size(n: u32, value: usize) -> usize
 pub(crate) fn slot_size<'a>(
     kind: Kind,
     slot: usize,
-    rates: &'a [u32; 64],
-    extras: &'a [u8; 64],
-    periods: &'a [u32; 256],
-    jitters: &'a [u32; 256],
-    hops: &'a [u8; 256],
+    rates: &'a columns::Rates,
+    extras: &'a columns::Extras,
+    periods: &'a columns::Periods,
+    jitters: &'a columns::Jitters,
+    hops: &'a columns::Hops,
 ) -> usize
     requires { ⌜ (slot < slotsOf kind) × SlotsInRange (now extras) (now hops) ⌝ }
     ensures { λ r. ⌜ r ≡ slotSize kind (columns equalClocks (now (rates .entry)) [] (now (extras .entry)) (now (periods .entry)) [] [] (now (jitters .entry)) (now (hops .entry)) []) slot ⌝ }
@@ -51,11 +52,11 @@ pub(crate) fn slot_size<'a>(
 // The fields of this kind in all slots.
 pub(crate) fn slots_size<'a>(
     kind: Kind,
-    rates: &'a [u32; 64],
-    extras: &'a [u8; 64],
-    periods: &'a [u32; 256],
-    jitters: &'a [u32; 256],
-    hops: &'a [u8; 256],
+    rates: &'a columns::Rates,
+    extras: &'a columns::Extras,
+    periods: &'a columns::Periods,
+    jitters: &'a columns::Jitters,
+    hops: &'a columns::Hops,
 ) -> usize
     requires { ⌜ SlotsInRange (now extras) (now hops) ⌝ }
     ensures { λ r. ⌜ r ≡ kindSize kind (columns equalClocks (now (rates .entry)) [] (now (extras .entry)) (now (periods .entry)) [] [] (now (jitters .entry)) (now (hops .entry)) []) ⌝ }

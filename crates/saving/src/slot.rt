@@ -1,5 +1,6 @@
 // The field of each kind that is saved of one slot, if there is one.
 use tables::STRIDE;
+use tables::columns;
 use writing::field::put_extra;
 use writing::field::put_jitter;
 use writing::field::put_port;
@@ -17,8 +18,8 @@ ghost use Rattle.writing.specs.Laid.{laid};
 
 pub(crate) fn put_port_slot<'a>(
     slot: usize,
-    rates: &'a [u32; 64],
-    blockings: &'a [u16; 64],
+    rates: &'a columns::Rates,
+    blockings: &'a columns::Blockings,
     out: &mut [u8],
 )
     requires { ⌜ slot < portSlots ⌝ }
@@ -41,11 +42,11 @@ fn route_end(base: usize, hops: u8) -> usize
 
 pub(crate) fn put_flow_slot<'a>(
     slot: usize,
-    periods: &'a [u32; 256],
-    counts: &'a [u16; 256],
-    lengths: &'a [u16; 256],
-    hops: &'a [u8; 256],
-    routes: &'a [u8; 4096],
+    periods: &'a columns::Periods,
+    counts: &'a columns::Counts,
+    lengths: &'a columns::Lengths,
+    hops: &'a columns::Hops,
+    routes: &'a columns::Routes,
     out: &mut [u8],
 )
     requires { ⌜ (slot < flowSlots) × (getD (now hops) slot 0 ≤ maxHops) ⌝ }
@@ -68,7 +69,7 @@ pub(crate) fn put_flow_slot<'a>(
     );
 }
 
-pub(crate) fn put_extra_slot<'a>(slot: usize, extras: &'a [u8; 64], out: &mut [u8])
+pub(crate) fn put_extra_slot<'a>(slot: usize, extras: &'a columns::Extras, out: &mut [u8])
     requires { ⌜ (slot < portSlots) × (getD (now extras) slot 0 ≤ maxExtra) ⌝ }
     ensures { λ r. ⌜ now (out .exit) ≡ laid (rowBytes (extraFields (columns equalClocks [] [] (now (extras .entry)) [] [] [] [] [] []) slot)) (now (out .entry)) ⌝ }
 {
@@ -79,7 +80,7 @@ pub(crate) fn put_extra_slot<'a>(slot: usize, extras: &'a [u8; 64], out: &mut [u
     put_extra(out, (slot + 1) as u16, bytes as u16);
 }
 
-pub(crate) fn put_jitter_slot<'a>(slot: usize, jitters: &'a [u32; 256], out: &mut [u8])
+pub(crate) fn put_jitter_slot<'a>(slot: usize, jitters: &'a columns::Jitters, out: &mut [u8])
     requires { ⌜ slot < flowSlots ⌝ }
     ensures { λ r. ⌜ now (out .exit) ≡ laid (rowBytes (jitterFields (columns equalClocks [] [] [] [] [] [] (now (jitters .entry)) [] []) slot)) (now (out .entry)) ⌝ }
 {

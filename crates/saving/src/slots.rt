@@ -6,6 +6,7 @@ use crate::slot::put_extra_slot;
 use crate::slot::put_flow_slot;
 use crate::slot::put_jitter_slot;
 use crate::slot::put_port_slot;
+use tables::columns;
 ghost use mathlib.Core.Path.{_≡_};
 ghost use Prim.Native.Nat.{_≤_, _<_};
 ghost use lib.ListN.{length};
@@ -18,15 +19,15 @@ ghost use Rattle.saving.specs.Slots.{slotsOf, slotBytes, kindBytes, Slot
 fn put_slot<'a>(
     kind: Kind,
     slot: usize,
-    rates: &'a [u32; 64],
-    blockings: &'a [u16; 64],
-    extras: &'a [u8; 64],
-    periods: &'a [u32; 256],
-    counts: &'a [u16; 256],
-    lengths: &'a [u16; 256],
-    jitters: &'a [u32; 256],
-    hops: &'a [u8; 256],
-    routes: &'a [u8; 4096],
+    rates: &'a columns::Rates,
+    blockings: &'a columns::Blockings,
+    extras: &'a columns::Extras,
+    periods: &'a columns::Periods,
+    counts: &'a columns::Counts,
+    lengths: &'a columns::Lengths,
+    jitters: &'a columns::Jitters,
+    hops: &'a columns::Hops,
+    routes: &'a columns::Routes,
     out: &mut [u8],
 )
     requires { ⌜ (slot < slotsOf kind) × SlotsInRange (now extras) (now hops) ⌝ }
@@ -43,15 +44,15 @@ fn put_slot<'a>(
 // The fields of this kind in all slots; the answer is how many bytes they are.
 pub(crate) fn put_slots<'a>(
     kind: Kind,
-    rates: &'a [u32; 64],
-    blockings: &'a [u16; 64],
-    extras: &'a [u8; 64],
-    periods: &'a [u32; 256],
-    counts: &'a [u16; 256],
-    lengths: &'a [u16; 256],
-    jitters: &'a [u32; 256],
-    hops: &'a [u8; 256],
-    routes: &'a [u8; 4096],
+    rates: &'a columns::Rates,
+    blockings: &'a columns::Blockings,
+    extras: &'a columns::Extras,
+    periods: &'a columns::Periods,
+    counts: &'a columns::Counts,
+    lengths: &'a columns::Lengths,
+    jitters: &'a columns::Jitters,
+    hops: &'a columns::Hops,
+    routes: &'a columns::Routes,
     out: &mut [u8],
 ) -> usize
     requires { ⌜ SlotsInRange (now extras) (now hops) × (length (kindBytes kind (columns equalClocks (now rates) (now blockings) (now extras) (now periods) (now counts) (now lengths) (now jitters) (now hops) (now routes))) ≤ length (now out)) ⌝ }

@@ -8,6 +8,7 @@ use crate::slots::put_slots;
 use numbers::clock::Clock;
 use plan::read::HEADER_SIZE;
 use plan::split::HEAD_SIZE;
+use tables::columns;
 use writing::field::put_header;
 ghost use mathlib.Core.Path.{_≡_};
 ghost use mathlib.Core.List.{[]};
@@ -22,11 +23,11 @@ ghost use Rattle.saving.specs.Slots.{savedSize, SlotsInRange};
 // How many bytes they are.
 pub(crate) fn saved_size<'a>(
     clock: Clock,
-    rates: &'a [u32; 64],
-    extras: &'a [u8; 64],
-    periods: &'a [u32; 256],
-    jitters: &'a [u32; 256],
-    hops: &'a [u8; 256],
+    rates: &'a columns::Rates,
+    extras: &'a columns::Extras,
+    periods: &'a columns::Periods,
+    jitters: &'a columns::Jitters,
+    hops: &'a columns::Hops,
 ) -> usize
     requires { ⌜ SlotsInRange (now extras) (now hops) ⌝ }
     ensures { λ r. ⌜ r ≡ savedSize (columns (clockOf clock) (now (rates .entry)) [] (now (extras .entry)) (now (periods .entry)) [] [] (now (jitters .entry)) (now (hops .entry)) []) ⌝ }
@@ -45,15 +46,15 @@ pub(crate) fn put_fields<'a>(
     guard: u32,
     top: u32,
     clock: Clock,
-    rates: &'a [u32; 64],
-    blockings: &'a [u16; 64],
-    extras: &'a [u8; 64],
-    periods: &'a [u32; 256],
-    counts: &'a [u16; 256],
-    lengths: &'a [u16; 256],
-    jitters: &'a [u32; 256],
-    hops: &'a [u8; 256],
-    routes: &'a [u8; 4096],
+    rates: &'a columns::Rates,
+    blockings: &'a columns::Blockings,
+    extras: &'a columns::Extras,
+    periods: &'a columns::Periods,
+    counts: &'a columns::Counts,
+    lengths: &'a columns::Lengths,
+    jitters: &'a columns::Jitters,
+    hops: &'a columns::Hops,
+    routes: &'a columns::Routes,
     out: &mut [u8],
 )
     requires { ⌜ SlotsInRange (now extras) (now hops) × (length (savedBytes (planBy guard top (clockOf clock) (now rates) (now blockings) (now extras) (now periods) (now counts) (now lengths) (now jitters) (now hops) (now routes))) ≤ length (now out)) ⌝ }
