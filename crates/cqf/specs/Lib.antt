@@ -15,6 +15,7 @@ pub mod Run
 pub mod LargeEnough
 pub mod Lighter
 pub mod NoWorse
+pub mod Reprice
 pub mod laws
 pub mod results
 pub mod worked

@@ -32,3 +32,9 @@ pub mod FixedPoint
 pub mod MostSteps
 pub mod Converges
 pub mod Lighter
+pub mod Differences
+pub mod Reprice
+pub mod RepriceValid
+pub mod Replaced
+pub mod Repriced
+pub mod LongerSlack

@@ -5,3 +5,4 @@ pub mod Clock
 pub mod Cycles
 pub mod FixedPoint
 pub mod Lighter
+pub mod Reprice

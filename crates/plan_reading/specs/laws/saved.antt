@@ -11,3 +11,4 @@ pub mod SavedTables
 pub mod SavedRead
 pub mod SavedBack
 pub mod Counts
+pub mod Relength
