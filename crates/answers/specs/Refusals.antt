@@ -41,7 +41,7 @@ unknownPort = 9
 abbrev pub badDuration : ℕ
 badDuration = 10
 
--- scratch shorter than 64 numbers
+-- scratch, or in document 02 a list of slacks, shorter than 64 numbers
 abbrev pub shortScratch : ℕ
 shortScratch = 11
 
@@ -52,6 +52,10 @@ outOfOrder = 12
 -- document 02: a buffer too short for what is written
 abbrev pub shortBuffer : ℕ
 shortBuffer = 13
+
+-- document 02: a frame length outside its range
+abbrev pub badLength : ℕ
+badLength = 17
 
 -- document 02: not two different queues of the eight
 abbrev pub badQueue : ℕ
@@ -80,3 +84,7 @@ notCrossed = 24
 -- document 02: the steps did not suffice
 abbrev pub notFinished : ℕ
 notFinished = 26
+
+-- document 02: a flow that is not in the plan
+abbrev pub absentFlow : ℕ
+absentFlow = 29

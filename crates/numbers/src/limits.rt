@@ -12,9 +12,9 @@ pub const MAX_PORT: u64 = 64;
 
 const MAX_RATE: u64 = 100_000;
 
-const MIN_LENGTH: u64 = 64;
+pub const MIN_LENGTH: u64 = 64;
 
-const MAX_LENGTH: u64 = 2_000;
+pub const MAX_LENGTH: u64 = 2_000;
 
 const MAX_EXTRA: u64 = 64;
 

@@ -3,12 +3,13 @@ use Prim.Native.Nat.{ℕ}
 use mathlib.Core.List.{[], _∷_}
 use lib.IntN.{ℤ}
 use Rattle.answers.specs.Answer.{Answer, result, refusal}
-use Rattle.answers.specs.Refusals.{badDuration, shortScratch, noPlanHeld, notAdmissible, noLeast, noMarginSafe, notCrossed, notFinished}
+use Rattle.answers.specs.Refusals.{badDuration, shortScratch, badLength, noPlanHeld, notAdmissible, noLeast, noMarginSafe, notCrossed, notFinished, absentFlow}
 use Rattle.questions.specs.FixedPoint.{FixedPoint}
 use Rattle.questions.specs.declared.CheckAnswer.{CheckAnswer}
 use Rattle.questions.specs.declared.SlackAnswer.{SlackAnswer}
 use Rattle.questions.specs.declared.SearchAnswer.{SearchAnswer}
 use Rattle.questions.specs.declared.FixedPointAnswer.{FixedPointAnswer}
+use Rattle.questions.specs.declared.RepriceAnswer.{RepriceAnswer}
 
 abbrev pub checkOf : CheckAnswer → Answer (Unit {0})
 checkOf CheckAnswer.Admissible = result tt
@@ -43,3 +44,12 @@ fixedPointOf FixedPointAnswer.NoPlan = refusal noPlanHeld (0 ∷ [])
 fixedPointOf FixedPointAnswer.BadStart = refusal badDuration (0 ∷ [])
 fixedPointOf (FixedPointAnswer.Failing port count steps) = refusal noLeast (port ∷ count ∷ steps ∷ [])
 fixedPointOf (FixedPointAnswer.Unfinished duration steps) = refusal notFinished (duration ∷ steps ∷ [])
+
+-- the answer to another frame length
+abbrev pub repriceOf : RepriceAnswer → Answer (Unit {0})
+repriceOf RepriceAnswer.Repriced = result tt
+repriceOf RepriceAnswer.NoPlan = refusal noPlanHeld (0 ∷ [])
+repriceOf RepriceAnswer.BadDuration = refusal badDuration (0 ∷ [])
+repriceOf RepriceAnswer.ShortList = refusal shortScratch (0 ∷ [])
+repriceOf RepriceAnswer.BadLength = refusal badLength (0 ∷ [])
+repriceOf RepriceAnswer.AbsentFlow = refusal absentFlow (0 ∷ [])

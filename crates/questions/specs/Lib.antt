@@ -1,6 +1,7 @@
 -- The questions: what each answers and leaves.
 pub mod Outcome
 pub mod FixedPoint
+pub mod Reprice
 pub mod Answer
 pub mod laws
 pub mod Failing

@@ -12,3 +12,5 @@ pub mod PortTest
 pub mod Iteration
 pub mod Descent
 pub mod Searched
+pub mod Reprice
+pub mod RepriceRoute

@@ -9,12 +9,14 @@ mod iteration;
 mod need;
 mod port_demand;
 mod port_slack;
+mod reprice;
 mod search;
 mod seek;
 
 pub use check::check_tables;
 pub use iteration::fixed_point_tables;
 pub use port_slack::slack_tables;
+pub use reprice::reprice_tables;
 pub use search::search_tables;
 pub use seek::Goal;
 
@@ -45,4 +47,13 @@ pub enum FixedPointAnswer {
     BadStart,
     Failing { port: u32, count: u32, steps: u64 },
     Unfinished { duration: u64, steps: u64 },
+}
+
+pub enum RepriceAnswer {
+    Repriced,
+    NoPlan,
+    BadDuration,
+    ShortList,
+    BadLength,
+    AbsentFlow,
 }

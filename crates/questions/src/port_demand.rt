@@ -19,7 +19,14 @@ ghost use Rattle.numbers.specs.Clock.{clockOf};
 ghost use Rattle.tables.specs.Columns.{columns, FlowsInRange, ExtrasInRange};
 
 // The wire bits of the frames that a flow brings to a port.
-fn flow_bits(period: u32, count: u16, bytes: u16, jitter: u32, extra: u8, widened: u32) -> u64
+pub(crate) fn flow_bits(
+    period: u32,
+    count: u16,
+    bytes: u16,
+    jitter: u32,
+    extra: u8,
+    widened: u32,
+) -> u64
     requires { ⌜
         (minPeriod ≤ period)
         × (period ≤ maxPeriod)

@@ -20,7 +20,7 @@ ghost use Rattle.questions.specs.Answer.{slackOf};
 ghost use Rattle.questions.specs.Outcome.{slackAnswer};
 
 // The slack of a port, from two products: a signed number, exact at zero.
-fn port_slack(rate: u32, blocking: u16, extra: u8, window: u64, bits: u64) -> i64
+pub(crate) fn port_slack(rate: u32, blocking: u16, extra: u8, window: u64, bits: u64) -> i64
     requires { ⌜ (window ≤ maxTop) × (bits ≤ mostDemand) ⌝ }
     ensures { λ r. ⌜ r ≡ subℕ (capacityOf rate window) (workloadOf blocking extra bits) ⌝ }
 {
