@@ -19,6 +19,7 @@ static cp_slack_answer slacked;
 static cp_fixed_point_answer stepped;
 static cp_field_read field;
 static uint64_t scratch[PORTS];
+static int64_t list[PORTS];
 static uint8_t buffer[MAX_BYTES];
 static uint8_t repeats;
 
@@ -31,6 +32,9 @@ static cp_answer see_check(cp_planner p, uint64_t d) { SEEN; (void)p, (void)d; r
 static cp_slack_answer see_slack(cp_planner p, uint64_t n, uint64_t d) { SEEN; (void)p, (void)n, (void)d; return slacked; }
 static cp_answer see_search(cp_planner p, uint64_t *s, size_t n) { SEEN; (void)p, (void)s, (void)n; return answer; }
 static cp_fixed_point_answer see_steps(cp_planner p, uint64_t d, uint64_t n) { SEEN; (void)p, (void)d, (void)n; return stepped; }
+static cp_answer see_reprice(cp_planner p, uint64_t d, uint64_t f, uint64_t l, int64_t *s, size_t n) {
+  SEEN; (void)p, (void)d, (void)f, (void)l, (void)s, (void)n; return answer;
+}
 static cp_answer see_save(cp_planner p, uint8_t *b, size_t n) { SEEN; (void)p, (void)b, (void)n; return answer; }
 static cp_answer see_gates(cp_planner p, uint64_t d, uint64_t e, uint64_t o, uint8_t *b, size_t n) {
   SEEN; (void)p, (void)d, (void)e, (void)o, (void)b, (void)n; return answer;
@@ -118,6 +122,12 @@ MEASURED(on_fixed_point) {
   return unused;
 }
 
+MEASURED(on_reprice) {
+  MEASURE(cp_answer (*volatile call)(cp_planner, uint64_t, uint64_t, uint64_t, int64_t *, size_t), see_reprice, cp_reprice,
+          answer = call(held, held.top, 1, 64, list, PORTS));
+  return unused;
+}
+
 MEASURED(on_save) {
   MEASURE(cp_answer (*volatile call)(cp_planner, uint8_t *, size_t), see_save, cp_save,
           answer = call(held, buffer, MAX_BYTES));
@@ -192,6 +202,8 @@ int main(int count, char **paths) {
   row("cp_load_strict, refused", on_refused_load_strict, sizeof held, sizeof loaded);
   if (loaded.answer.refusal == 0) return 1;
   questions("cp_check", "cp_slack", "cp_least", "cp_margin_safe", "cp_fixed_point");
+  if (answer.refusal != 0) return 1;
+  row("cp_reprice", on_reprice, sizeof held, sizeof answer);
   if (answer.refusal != 0) return 1;
   row("cp_save", on_save, sizeof held, sizeof answer);
   if (answer.refusal != 0) return 1;

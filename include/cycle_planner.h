@@ -76,6 +76,12 @@ cp_answer cp_margin_safe(cp_planner planner, uint64_t *scratch, size_t length);
  * duration reached, second = 0, steps = those given; another call with that duration for its start goes on from there. */
 cp_fixed_point_answer cp_fixed_point(cp_planner planner, uint64_t start, uint64_t steps);
 
+/* What if a flow's frames had another length? The spares along its route at a duration go into the list, port n at n - 1. Result: 0, 0; the other numbers of the list remain, past the 64th too. Refusal 20, 10 (a duration outside 1
+ * to top), 11 (a list under 64 numbers), 17 (a length outside 64 to 2,000), 29 (a flow that is not in the plan), in this order: 0, 0,
+ * list untouched. The held plan remains. Where the list held the spare of each crossed port at that duration, it now holds those of
+ * the plan with that length. */
+cp_answer cp_reprice(cp_planner planner, uint64_t duration, uint64_t flow, uint64_t length, int64_t *list, size_t size);
+
 /* The held plan written into the buffer: its fields in strict order, without those that say what their absence says (extra bytes
  * or a jitter of 0, clocks that are all 0). Result: first = the length written, at most 15,002 bytes, second = 0; the bytes behind
  * it remain. Refusal 20: 0, 0. 13, the buffer is shorter than the plan: first = the length needed, second = 0. Neither writes a

@@ -113,6 +113,23 @@ fn measured_save(part: &str, planner: &Planner, buffer: &mut [u8; BUFFER]) -> An
     }
 }
 
+/// The spares along the route of a flow at top into a list: one call a port, or one call with the flow's own length.
+#[no_mangle]
+#[inline(never)]
+fn measured_reprice(part: &str, planner: &Planner, slot: usize, list: &mut [i64; 64]) -> Answer {
+    let duration = u64::from(planner.top);
+    match part {
+        "reprice" => ffi::reprice(planner, duration, slot as u64 + 1, u64::from(planner.lengths[slot]), list),
+        "slacks" => {
+            for port in &planner.routes[slot * 16..][..usize::from(planner.hops[slot])] {
+                list[usize::from(*port) - 1] = ffi::slack(planner, u64::from(*port), duration).slack;
+            }
+            Answer::new(0, 0, 0)
+        }
+        other => panic!("no such part: {other}"),
+    }
+}
+
 /// Durations a whole scan would try.
 fn whole(part: &str, planner: &Planner) -> u64 {
     let (mut scratch, top) = ([0; 64], planner.top as u64);
@@ -171,6 +188,17 @@ fn save(plan: &[u8], part: &str) {
     println!("{}", told(answer, buffer.into_iter().map(u64::from)));
 }
 
+/// The first flow with the longest route of a plan: how many ports, and the answer.
+fn reprice(plan: &[u8], part: &str) {
+    let (planner, loaded) = ffi::load(&ffi::empty(), plan);
+    assert_eq!(loaded.refusal, 0, "the plan is refused: {loaded:?}");
+    let longest = planner.hops.iter().max().expect("flows");
+    let slot = planner.hops.iter().position(|hops| hops == longest).expect("a flow");
+    let mut list = [7; 64];
+    let answer = measured_reprice(part, &planner, slot, &mut list);
+    println!("{} {longest}", told(answer, list.into_iter().map(|spare| spare as u64)));
+}
+
 fn main() {
     let arguments: Vec<String> = std::env::args().skip(1).collect();
     let arguments: Vec<&str> = arguments.iter().map(String::as_str).collect();
@@ -191,6 +219,7 @@ fn main() {
         }
         [part @ ("load" | "read" | "read-by-port"), name] => load(loaded(name).expect("no such plan"), part),
         [part @ ("save" | "write"), name] => save(loaded(name).expect("no such plan"), part),
+        [part @ ("reprice" | "slacks"), name] => reprice(&searched(name).bytes, part),
         [part, name] => search(searched(name), part),
         _ => panic!("searches, loads, paper, bytes PLAN, or PART PLAN"),
     }

@@ -6,6 +6,7 @@
 #include "strict.h"
 #include "save.h"
 #include "gates.h"
+#include "reprice.h"
 
 _Static_assert(sizeof(cp_planner) == 7892, "a planner has 7,892 bytes");
 _Static_assert(offsetof(cp_planner, clock) == 8, "clocks come after top");
@@ -120,6 +121,7 @@ int main(void) {
   strict(k);
   saving(k);
   gate_lists(cp_empty(), k);
+  repricing(cp_empty(), k);
   fields();
   printf("header: %u passed, %u failed\n", passed, failed);
   return failed != 0;

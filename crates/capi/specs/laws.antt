@@ -3,3 +3,4 @@ pub mod Numbers
 pub mod Meaning
 pub mod StepsMeaning
 pub mod GatesMeaning
+pub mod Reprice

@@ -10,6 +10,7 @@ use planner::CheckAnswer;
 use planner::FixedPointAnswer;
 use planner::LoadAnswer;
 use planner::LoadOutcome;
+use planner::RepriceAnswer;
 use planner::SearchAnswer;
 use planner::SlackAnswer;
 use planner::check_number;
@@ -17,6 +18,7 @@ use planner::fixed_point_number;
 use planner::least_number;
 use planner::load_number;
 use planner::margin_safe_number;
+use planner::reprice_number;
 use planner::slack_number;
 ghost use mathlib.Core.Path.{_≡_};
 ghost use Prim.Native.Nat.{ℕ};
@@ -24,7 +26,7 @@ ghost use Rattle.plan.specs.Answer.{fieldReadOf};
 ghost use Rattle.tables.specs.Tables.{planOf};
 ghost use Rattle.answers.specs.Answer.{refusalNumber};
 ghost use Rattle.loading.specs.Answer.{loadOf};
-ghost use Rattle.questions.specs.Answer.{checkOf, slackOf, searchOf, leastOf, marginSafeOf, fixedPointOf};
+ghost use Rattle.questions.specs.Answer.{checkOf, slackOf, searchOf, leastOf, marginSafeOf, fixedPointOf, repriceOf};
 ghost use Rattle.capi.specs.Numbers.{loadNumbers, checkNumbers, slackNumbers, searchNumbers, stepsNumbers, fieldNumbers};
 
 // The tags of the fields.
@@ -149,6 +151,13 @@ pub(crate) fn fixed_point_in_c(answer: FixedPointAnswer) -> FixedPointAnswerNumb
         }
         FixedPointAnswer::Unfinished { duration, steps } => stepped(refusal, duration, 0, steps),
     }
+}
+
+// No case carries another number.
+pub(crate) fn reprice_in_c(answer: RepriceAnswer) -> AnswerNumbers
+    ensures { λ r. ⌜ r ≡ checkNumbers (repriceOf answer) ⌝ }
+{
+    numbered(reprice_number(answer), 0, 0)
 }
 
 pub(crate) fn field_in_c(reading: FieldRead) -> FieldReadNumbers

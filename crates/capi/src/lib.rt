@@ -5,6 +5,7 @@ use crate::answer_numbers::fixed_point_in_c;
 use crate::answer_numbers::least_in_c;
 use crate::answer_numbers::margin_safe_in_c;
 use crate::answer_numbers::outcome_numbers;
+use crate::answer_numbers::reprice_in_c;
 use crate::answer_numbers::slack_in_c;
 use crate::written::gates_in_c;
 use crate::written::save_in_c;
@@ -17,6 +18,7 @@ ghost use Rattle.tables.specs.Tables.{planOf};
 ghost use Rattle.loading.specs.Outcome.{loadAnswer, loadLeaves};
 ghost use Rattle.questions.specs.Outcome.{checkAnswer, slackAnswer, leastAnswer, leastLeaves, marginSafeAnswer, marginSafeLeaves};
 ghost use Rattle.questions.specs.FixedPoint.{fixedPointAnswer};
+ghost use Rattle.questions.specs.Reprice.{repriceAnswer, repriceLeaves};
 ghost use Rattle.saving.specs.Save.{saveAnswer, saveLeaves};
 ghost use Rattle.gate_writing.specs.Gates.{gatesAnswer, gatesLeaves};
 ghost use Rattle.capi.specs.Meaning.{CheckNumbersMean, StepsNumbersMean, GatesNumbersMean};
@@ -148,6 +150,19 @@ pub extern "C" fn cp_fixed_point(
     ensures means { λ r. ⌜ StepsNumbersMean (planOf planner) start steps r ⌝ }
 {
     fixed_point_in_c(planner::fixed_point(planner, start, steps))
+}
+
+#[no_mangle]
+pub extern "C" fn cp_reprice(
+    planner: Planner,
+    duration: u64,
+    flow: u64,
+    length: u64,
+    out: &mut [i64],
+) -> AnswerNumbers
+    ensures { λ r. ⌜ (r ≡ checkNumbers (repriceAnswer (planOf planner) duration flow length (now (out .entry)))) × (now (out .exit) ≡ repriceLeaves (planOf planner) duration flow length (now (out .entry))) ⌝ }
+{
+    reprice_in_c(planner::reprice(planner, duration, flow, length, out))
 }
 
 #[no_mangle]

@@ -9,3 +9,4 @@ pub mod Strict
 pub mod Saved
 pub mod Gates
 pub mod FixedPoint
+pub mod Reprice

@@ -4,10 +4,12 @@ use gate_writing::gates_tables;
 use questions::CheckAnswer;
 use questions::FixedPointAnswer;
 use questions::Goal;
+use questions::RepriceAnswer;
 use questions::SearchAnswer;
 use questions::SlackAnswer;
 use questions::check_tables;
 use questions::fixed_point_tables;
+use questions::reprice_tables;
 use questions::search_tables;
 use questions::slack_tables;
 use saving::SaveAnswer;
@@ -15,12 +17,13 @@ use saving::save_tables;
 use tables::Planner;
 ghost use mathlib.Core.Path.{_≡_};
 ghost use Rattle.tables.specs.Tables.{planOf};
-ghost use Rattle.questions.specs.Answer.{checkOf, slackOf, leastOf, marginSafeOf, fixedPointOf};
+ghost use Rattle.questions.specs.Answer.{checkOf, slackOf, leastOf, marginSafeOf, fixedPointOf, repriceOf};
 ghost use Rattle.sequences.specs.Meaning.{CheckMeans};
 ghost use Rattle.sequences.specs.FixedPointMeaning.{FixedPointMeans};
 ghost use Rattle.sequences.specs.GatesMeaning.{GatesMean};
 ghost use Rattle.questions.specs.Outcome.{checkAnswer, slackAnswer, leastAnswer, leastLeaves, marginSafeAnswer, marginSafeLeaves};
 ghost use Rattle.questions.specs.FixedPoint.{fixedPointAnswer};
+ghost use Rattle.questions.specs.Reprice.{repriceAnswer, repriceLeaves};
 ghost use Rattle.saving.specs.Save.{saveAnswer, saveLeaves};
 ghost use Rattle.gate_writing.specs.Gates.{gatesAnswer, gatesLeaves};
 ghost use Rattle.saving.specs.Answer.{saveOf};
@@ -141,6 +144,37 @@ pub fn fixed_point(planner: Planner, start: u64, steps: u64) -> FixedPointAnswer
         &planner.routes,
         start,
         steps,
+    )
+}
+
+// What if the frames of this flow had this length? The slacks along its route go into the list, port n at position n - 1; 11 where the
+// list is under 64 numbers, 17 where the length is out of range, 29 where the flow is absent.
+pub fn reprice(
+    planner: Planner,
+    duration: u64,
+    flow: u64,
+    length: u64,
+    out: &mut [i64],
+) -> RepriceAnswer
+    ensures { λ r. ⌜ (repriceOf r ≡ repriceAnswer (planOf planner) duration flow length (now (out .entry))) × (now (out .exit) ≡ repriceLeaves (planOf planner) duration flow length (now (out .entry))) ⌝ }
+{
+    reprice_tables(
+        planner.guard,
+        planner.top,
+        planner.clock,
+        &planner.rates,
+        &planner.blockings,
+        &planner.extras,
+        &planner.periods,
+        &planner.counts,
+        &planner.lengths,
+        &planner.jitters,
+        &planner.hops,
+        &planner.routes,
+        duration,
+        flow,
+        length,
+        out,
     )
 }
 

@@ -4,13 +4,14 @@ use loading::LoadAnswer;
 use plan::fault_number;
 use questions::CheckAnswer;
 use questions::FixedPointAnswer;
+use questions::RepriceAnswer;
 use questions::SearchAnswer;
 use questions::SlackAnswer;
 use saving::SaveAnswer;
 ghost use mathlib.Core.Path.{_≡_};
 ghost use Rattle.answers.specs.Answer.{refusalNumber};
 ghost use Rattle.loading.specs.Answer.{loadOf};
-ghost use Rattle.questions.specs.Answer.{checkOf, slackOf, searchOf, leastOf, marginSafeOf, fixedPointOf};
+ghost use Rattle.questions.specs.Answer.{checkOf, slackOf, searchOf, leastOf, marginSafeOf, fixedPointOf, repriceOf};
 ghost use Rattle.saving.specs.Answer.{saveOf};
 ghost use Rattle.gate_writing.specs.Answer.{gatesOf};
 
@@ -19,6 +20,8 @@ const BAD_DURATION: u32 = 10;
 const SHORT_SCRATCH: u32 = 11;
 
 const SHORT_BUFFER: u32 = 13;
+
+const BAD_LENGTH: u32 = 17;
 
 const BAD_QUEUE: u32 = 18;
 
@@ -33,6 +36,8 @@ const NO_MARGIN_SAFE: u32 = 23;
 const NOT_CROSSED: u32 = 24;
 
 const UNFINISHED: u32 = 26;
+
+const ABSENT_FLOW: u32 = 29;
 
 pub fn load_number(answer: LoadAnswer) -> u32
     ensures { λ r. ⌜ r ≡ refusalNumber (loadOf answer) ⌝ }
@@ -108,6 +113,19 @@ pub fn fixed_point_number(answer: FixedPointAnswer) -> u32
             duration: _,
             steps: _,
         } => UNFINISHED,
+    }
+}
+
+pub fn reprice_number(answer: RepriceAnswer) -> u32
+    ensures { λ r. ⌜ r ≡ refusalNumber (repriceOf answer) ⌝ }
+{
+    match answer {
+        RepriceAnswer::Repriced => 0,
+        RepriceAnswer::NoPlan => NO_PLAN,
+        RepriceAnswer::BadDuration => BAD_DURATION,
+        RepriceAnswer::ShortList => SHORT_SCRATCH,
+        RepriceAnswer::BadLength => BAD_LENGTH,
+        RepriceAnswer::AbsentFlow => ABSENT_FLOW,
     }
 }
 

@@ -2,11 +2,13 @@
 use Prim.Native.Nat.{ℕ}
 use mathlib.Core.List.{List, [], _∷_}
 use mathlib.Core.Option.{Option, none, some}
+use lib.IntN.{ℤ}
 use Rattle.cqf.specs.Plan.{Plan, noPlan}
 use Rattle.plan_reading.specs.Reading.{PlanRead, accepted, rejected, Mode, readAs}
 use Rattle.loading.specs.Outcome.{loadLeaves}
 
--- a question, with what it is given; the two searches are lent a scratch, and those that write fields a buffer
+-- a question, with what it is given; the two searches are lent a scratch, those that write fields a buffer, and the
+-- question of another frame length a list of signed numbers
 pub data Question : Type 0 where
   check : (duration : ℕ) → Question
   slack : (port duration : ℕ) → Question
@@ -15,6 +17,7 @@ pub data Question : Type 0 where
   fixedPoint : (start steps : ℕ) → Question
   save : (buffer : List ℕ) → Question
   gates : (duration even odd : ℕ) (buffer : List ℕ) → Question
+  reprice : (duration flow bytes : ℕ) (out : List ℤ) → Question
 
 -- a load says in which reading
 pub data Call : Type 0 where

@@ -8,5 +8,6 @@ pub mod NoWorse
 pub mod Iterations
 pub mod FixedPointMeaning
 pub mod GatesMeaning
+pub mod Repriced
 pub mod laws
 pub mod results

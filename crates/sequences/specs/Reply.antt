@@ -8,9 +8,10 @@ use Rattle.answers.specs.Answer.{Answer, refusal}
 use Rattle.answers.specs.Refusals.{noPlanHeld}
 use Rattle.questions.specs.Outcome.{checkAnswer, slackAnswer, leastAnswer, leastLeaves, marginSafeAnswer, marginSafeLeaves}
 use Rattle.questions.specs.FixedPoint.{FixedPoint, fixedPointAnswer}
+use Rattle.questions.specs.Reprice.{repriceAnswer, repriceLeaves}
 use Rattle.saving.specs.Save.{saveAnswer, saveLeaves}
 use Rattle.gate_writing.specs.Gates.{gatesAnswer, gatesLeaves}
-use Rattle.sequences.specs.Calls.{Question, check, slack, least, marginSafe, fixedPoint, save, gates}
+use Rattle.sequences.specs.Calls.{Question, check, slack, least, marginSafe, fixedPoint, save, gates, reprice}
 
 pub data Reply : Type 0 where
   ofCheck : Answer (Unit {0}) → Reply
@@ -18,6 +19,7 @@ pub data Reply : Type 0 where
   ofSearch : Answer ℕ → (scratch : List ℕ) → Reply
   ofFixedPoint : Answer FixedPoint → Reply
   ofWriting : Answer ℕ → (buffer : List ℕ) → Reply
+  ofReprice : Answer (Unit {0}) → (out : List ℤ) → Reply
 
 abbrev pub reply : Plan → Question → Reply
 reply p (check T) = ofCheck (checkAnswer p T)
@@ -27,6 +29,7 @@ reply p (marginSafe scratch) = ofSearch (marginSafeAnswer p scratch) (marginSafe
 reply p (fixedPoint start steps) = ofFixedPoint (fixedPointAnswer p start steps)
 reply p (save buffer) = ofWriting (saveAnswer p buffer) (saveLeaves p buffer)
 reply p (gates T even odd buffer) = ofWriting (gatesAnswer p T even odd buffer) (gatesLeaves p T even odd buffer)
+reply p (reprice T n bytes out) = ofReprice (repriceAnswer p T n bytes out) (repriceLeaves p T n bytes out)
 
 -- 20 with 0, and lent memory as it was
 abbrev pub noPlanReply : Question → Reply
@@ -37,6 +40,7 @@ noPlanReply (marginSafe scratch) = ofSearch (refusal noPlanHeld (0 ∷ [])) scra
 noPlanReply (fixedPoint start steps) = ofFixedPoint (refusal noPlanHeld (0 ∷ []))
 noPlanReply (save buffer) = ofWriting (refusal noPlanHeld (0 ∷ [])) buffer
 noPlanReply (gates T even odd buffer) = ofWriting (refusal noPlanHeld (0 ∷ [])) buffer
+noPlanReply (reprice T n bytes out) = ofReprice (refusal noPlanHeld (0 ∷ [])) out
 
 -- two planners that answer every question alike
 abbrev pub SameAnswers : Plan → Plan → Type 0

@@ -5,3 +5,4 @@ pub mod IterationsTheorem
 pub mod SaveTheorem
 pub mod GatesTheorem
 pub mod LighterTheorem
+pub mod RepricedTheorem

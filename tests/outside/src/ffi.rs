@@ -17,6 +17,7 @@ extern "C" {
     fn cp_least(planner: Planner, scratch: *mut u64, length: usize) -> Answer;
     fn cp_margin_safe(planner: Planner, scratch: *mut u64, length: usize) -> Answer;
     fn cp_fixed_point(planner: Planner, start: u64, steps: u64) -> StepsAnswer;
+    fn cp_reprice(planner: Planner, duration: u64, flow: u64, length: u64, list: *mut i64, size: usize) -> Answer;
     fn cp_save(planner: Planner, buffer: *mut u8, length: usize) -> Answer;
     fn cp_gates(planner: Planner, duration: u64, even: u64, odd: u64, buffer: *mut u8, length: usize) -> Answer;
     fn cp_field(plan: *const u8, length: usize, offset: usize) -> FieldRead;
@@ -55,6 +56,10 @@ pub fn margin_safe(planner: &Planner, scratch: &mut [u64]) -> Answer {
 
 pub fn fixed_point(planner: &Planner, start: u64, steps: u64) -> StepsAnswer {
     unsafe { cp_fixed_point(planner.clone(), start, steps) }
+}
+
+pub fn reprice(planner: &Planner, duration: u64, flow: u64, length: u64, list: &mut [i64]) -> Answer {
+    unsafe { cp_reprice(planner.clone(), duration, flow, length, list.as_mut_ptr(), list.len()) }
 }
 
 pub fn save(planner: &Planner, buffer: &mut [u8]) -> Answer {

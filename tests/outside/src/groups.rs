@@ -17,6 +17,8 @@ pub mod loads;
 pub mod model;
 pub mod order;
 pub mod questions;
+pub mod reprice;
+mod reprice_k;
 pub mod rows;
 pub mod runs;
 pub mod save;
@@ -37,6 +39,7 @@ use crate::model::{self as judge, Flow, Plan};
 use crate::report::Tally;
 use crate::rng::Rng;
 use gates::{ask_gates, QUEUES};
+use reprice::{ask_reprice, some_flow, FRAMES};
 use save::ask_save;
 
 pub const LENGTHS: [usize; 5] = [0, 63, 64, 65, 100];
@@ -135,6 +138,11 @@ pub fn ask_all(tally: &mut Tally, planner: &Planner, plan: Option<&Plan>, rng: &
     for queues in [(2, 3), (rng.pick(&QUEUES), rng.pick(&QUEUES))] {
         let (duration, length) = (rng.pick(&asked), rng.pick(&[0, 16, 47, 48, 60]));
         ask_gates(tally, planner, plan, (duration, queues.0, queues.1), length, rng);
+    }
+    for size in [64, rng.pick(&LENGTHS)] {
+        let flow = plan.map_or(1, |plan| some_flow(plan, rng));
+        let length = if rng.chance(1, 4) { rng.pick(&FRAMES) } else { rng.range(64, 2_000) };
+        ask_reprice(tally, planner, plan, (rng.pick(&asked), flow, length), size, rng);
     }
     let length = rng.pick(&LENGTHS);
     for length in [length, 64] {

@@ -5,6 +5,7 @@ pub mod fixed_point;
 pub mod gates;
 pub mod lighter;
 pub mod read;
+pub mod reprice;
 pub mod save;
 pub mod spans;
 pub mod tables;

@@ -18,12 +18,13 @@ use Rattle.answers.specs.Refusals.{noPlanHeld, notAdmissible, noLeast, noMargin
 use Rattle.questions.specs.Outcome.{failingAt}
 use Rattle.sequences.specs.Calls as Calls
 use Rattle.sequences.specs.Calls.{Call, Question, after, heldBytes}
-use Rattle.sequences.specs.Reply.{Reply, ofCheck, ofSlack, ofSearch, ofFixedPoint, ofWriting, reply, noPlanReply}
+use Rattle.sequences.specs.Reply.{Reply, ofCheck, ofSlack, ofSearch, ofFixedPoint, ofWriting, ofReprice, reply, noPlanReply}
 use Rattle.questions.specs.laws.Answers
 use Rattle.questions.specs.laws.Answers.{check-none, slack-none, fixed-point-none, check-within}
 use Rattle.sequences.specs.laws.Calls.{after-none, after-loaded}
 use Rattle.saving.specs.laws.Saved.{save-none, save-keeps}
 use Rattle.gate_writing.specs.laws.Gates.{gates-none, gates-keeps}
+use Rattle.questions.specs.laws.Reprice.{reprice-none}
 use Rattle.questions.specs.laws.Searched.{ends-no-plan, least-ends, margin-safe-ends}
 
 -- tables that are not valid
@@ -40,6 +41,9 @@ answers-none p e (Calls.fixedPoint start steps) = ap ofFixedPoint (fixed-point-n
 answers-none p e (Calls.save buffer) = ap₂ ofWriting (save-none p buffer e) (save-keeps p buffer e)
 answers-none p e (Calls.gates T even odd buffer) =
     ap₂ ofWriting (gates-none p T even odd buffer e) (gates-keeps p T even odd buffer e)
+answers-none p e (Calls.reprice T n bytes out) =
+    let h = reprice-none p T n bytes out e in
+    ap₂ ofReprice (sym (h .0)) (sym (h .1))
 
 -- a valid plan is not refused 20 at 1 ns
 verdictNumber : Reply → ℕ
@@ -48,6 +52,7 @@ verdictNumber (ofSlack answer) = 0
 verdictNumber (ofSearch answer scratch) = 0
 verdictNumber (ofFixedPoint answer) = 0
 verdictNumber (ofWriting answer buffer) = 0
+verdictNumber (ofReprice answer out) = 0
 
 answers-some : (p : Plan) → validPlan p ≡ true → reply p (Calls.check 1) ≡ noPlanReply (Calls.check 1) → ⊥
 unfolding verdictNumber

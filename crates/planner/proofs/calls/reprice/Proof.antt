@@ -1,0 +1,16 @@
+-- `planner::calls::reprice` meets its contract: the columns are lent on.
+use borrow.Author.Needs.{needs}
+use Rattle.planner.proofs.calls.reprice.Statement.{statement}
+use Rattle.planner.proofs.calls.reprice.Tie as tie
+
+reprice-tables-requires : tie.Need-reprice-tables-requires
+reprice-tables-requires c κs = tt
+
+same-length : tie.Need-same-length
+same-length c = search needs
+
+returns : tie.Need-returns
+returns c = c .before .reprice-tables .ensures
+
+pub reprice-spec : {M : Type 1} → statement M
+reprice-spec = tie.close (tie.spec reprice-tables-requires same-length returns)
