@@ -34,7 +34,7 @@ searchNumbers (refusal number values) = refusedWith number values
 
 -- the length written; 13 has the length needed, 21 the lowest failing port and how many
 abbrev pub writtenNumbers : Answer ℕ → AnswerNumbers
-writtenNumbers (result length) = answerNumbers 0 length 0
+writtenNumbers (result size) = answerNumbers 0 size 0
 writtenNumbers (refusal number values) = refusedWith number values
 
 abbrev pub slackAnswerNumbers : ℕ → ℤ → SlackAnswerNumbers

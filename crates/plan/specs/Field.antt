@@ -13,7 +13,7 @@ use Rattle.plan.specs.Bytes.{number2, number4, numbers2, headSize, tagAt
 pub data Field : Type 0 where
   header : (guard top : ℕ) → Field
   port : (number rate blocking : ℕ) → Field
-  flow : (number period count length hops : ℕ) → Field
+  flow : (number period count bytes hops : ℕ) → Field
   extra : (number bytes : ℕ) → Field
   jitter : (number ns : ℕ) → Field
   clock : (numbers : Clock) → Field

@@ -33,14 +33,14 @@ taken d x = hasKey d (keyOf x)
 
 -- test 7: only a flow has a route
 abbrev pub fieldRepeats : Field → List ℕ → Bool
-fieldRepeats x r = ofFlow false (λ n period count length hops. not (distinct r)) x
+fieldRepeats x r = ofFlow false (λ n period count bytes hops. not (distinct r)) x
 
 -- how many of each kind a field adds
 abbrev pub portsIn : Field → ℕ
 portsIn = ofPort 0 (λ n rate blocking. 1)
 
 abbrev pub flowsIn : Field → ℕ
-flowsIn = ofFlow 0 (λ n period count length hops. 1)
+flowsIn = ofFlow 0 (λ n period count bytes hops. 1)
 
 -- the draft with a field stored, r being the ports of its route
 unfoldable pub added : Draft → Field → List ℕ → Draft

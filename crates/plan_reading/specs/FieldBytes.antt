@@ -20,7 +20,7 @@ bytes2s (n ∷ ns) = bytes2 n ++ bytes2s ns
 abbrev pub sizeOf : Field → ℕ
 sizeOf (header guard top) = headerSize
 sizeOf (port n rate blocking) = portSize
-sizeOf (flow n period count length hops) = flowSize + 2 * hops
+sizeOf (flow n period count bytes hops) = flowSize + 2 * hops
 sizeOf (extra n bytes) = extraSize
 sizeOf (jitter n ns) = jitterSize
 sizeOf (clock k) = clockSize
@@ -29,7 +29,7 @@ unfoldable pub valueOf : Field → List ℕ → List ℕ
 unfolding bytes2s
 valueOf (header guard top) r = bytes4 guard ++ bytes4 top
 valueOf (port n rate blocking) r = bytes2 n ++ (bytes4 rate ++ bytes2 blocking)
-valueOf (flow n period count length hops) r = bytes2 n ++ (bytes4 period ++ (bytes2 count ++ (bytes2 length ++ bytes2s r)))
+valueOf (flow n period count bytes hops) r = bytes2 n ++ (bytes4 period ++ (bytes2 count ++ (bytes2 bytes ++ bytes2s r)))
 valueOf (extra n bytes) r = bytes2 n ++ bytes2 bytes
 valueOf (jitter n ns) r = bytes2 n ++ bytes4 ns
 valueOf (clock k) r = bytes4 (k .drift) ++ (bytes4 (k .timingJitter) ++ bytes4 (k .syncError))

@@ -30,7 +30,7 @@ pub record SameFields (s t : List ℕ) : Type 0 where
 abbrev pub SaysNothing : Field → Type 0
 SaysNothing (header guard top) = ⊥
 SaysNothing (port n rate blocking) = ⊥
-SaysNothing (flow n period count length hops) = ⊥
+SaysNothing (flow n period count bytes hops) = ⊥
 SaysNothing (extra n bytes) = bytes ≡ 0
 SaysNothing (jitter n ns) = ns ≡ 0
 SaysNothing (clock k) = k ≡ equalClocks

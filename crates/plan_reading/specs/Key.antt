@@ -31,7 +31,7 @@ keySlots = clockKey + 1
 abbrev pub keyOf : Field → ℕ
 keyOf (header guard top) = headerKey
 keyOf (port n rate blocking) = headerKey + n
-keyOf (flow n period count length hops) = portSlots + n
+keyOf (flow n period count bytes hops) = portSlots + n
 keyOf (extra n bytes) = portSlots + flowSlots + n
 keyOf (jitter n ns) = portSlots + flowSlots + portSlots + n
 keyOf (clock k) = clockKey

@@ -19,7 +19,7 @@ ofPort other gives (extra n b) = other
 ofPort other gives (jitter n j) = other
 ofPort other gives (clock k) = other
 
-abbrev pub ofFlow {ℓ} : {A : Type ℓ} → A → ((number period count length hops : ℕ) → A) → Field → A
+abbrev pub ofFlow {ℓ} : {A : Type ℓ} → A → ((number period count bytes hops : ℕ) → A) → Field → A
 ofFlow other gives (header g t) = other
 ofFlow other gives (port n r b) = other
 ofFlow other gives (flow n p c l h) = gives n p c l h

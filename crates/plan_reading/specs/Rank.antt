@@ -9,7 +9,7 @@ use Rattle.plan.specs.Field.{Field, header, port, flow, extra, jitter, clock, h
 abbrev pub tagOf : Field → ℕ
 tagOf (header guard top) = headerTag
 tagOf (port n rate blocking) = portTag
-tagOf (flow n period count length hops) = flowTag
+tagOf (flow n period count bytes hops) = flowTag
 tagOf (extra n bytes) = extraTag
 tagOf (jitter n ns) = jitterTag
 tagOf (clock k) = clockTag
@@ -18,7 +18,7 @@ tagOf (clock k) = clockTag
 abbrev pub numberOf : Field → ℕ
 numberOf (header guard top) = 0
 numberOf (port n rate blocking) = n
-numberOf (flow n period count length hops) = n
+numberOf (flow n period count bytes hops) = n
 numberOf (extra n bytes) = n
 numberOf (jitter n ns) = n
 numberOf (clock k) = 0

@@ -14,8 +14,8 @@ use Rattle.plan_reading.specs.Saved.{savedFields}
 abbrev pub relengthed : (n bytes : ℕ) → Entry → Entry
 relengthed n bytes e =
     ofFlow e
-    (λ m period count length hops.
-    record { part = flow m period count (cond (eqb m n) bytes length) hops; route = e .route })
+    (λ m period count before hops.
+    record { part = flow m period count (cond (eqb m n) bytes before) hops; route = e .route })
     (e .part)
 
 -- the bytes of the saved plan in which just that number is changed

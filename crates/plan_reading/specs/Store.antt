@@ -15,8 +15,8 @@ headerNumber which = ofHeader none (λ guard top. some (which guard top))
 abbrev pub portNumber : ((number rate blocking : ℕ) → ℕ) → Field → Put
 portNumber which = ofPort keep (λ n rate blocking. number (n - 1) (which n rate blocking))
 
-abbrev pub flowNumber : ((number period count length hops : ℕ) → ℕ) → Field → Put
-flowNumber which = ofFlow keep (λ n period count length hops. number (n - 1) (which n period count length hops))
+abbrev pub flowNumber : ((number period count bytes hops : ℕ) → ℕ) → Field → Put
+flowNumber which = ofFlow keep (λ n period count bytes hops. number (n - 1) (which n period count bytes hops))
 
 -- the columns
 abbrev pub putsGuard : Field → Option ℕ
@@ -38,22 +38,22 @@ abbrev pub putsExtra : Field → Put
 putsExtra = ofExtra keep (λ n bytes. number (n - 1) bytes)
 
 abbrev pub putsPeriod : Field → Put
-putsPeriod = flowNumber (λ n period count length hops. period)
+putsPeriod = flowNumber (λ n period count bytes hops. period)
 
 abbrev pub putsCount : Field → Put
-putsCount = flowNumber (λ n period count length hops. count)
+putsCount = flowNumber (λ n period count bytes hops. count)
 
 abbrev pub putsLength : Field → Put
-putsLength = flowNumber (λ n period count length hops. length)
+putsLength = flowNumber (λ n period count bytes hops. bytes)
 
 abbrev pub putsJitter : Field → Put
 putsJitter = ofJitter keep (λ n ns. number (n - 1) ns)
 
 abbrev pub putsHops : Field → Put
-putsHops = flowNumber (λ n period count length hops. hops)
+putsHops = flowNumber (λ n period count bytes hops. hops)
 
 abbrev pub putsRoute : List ℕ → Field → Put
-putsRoute r = ofFlow keep (λ n period count length hops. run ((n - 1) * routeStride) r)
+putsRoute r = ofFlow keep (λ n period count bytes hops. run ((n - 1) * routeStride) r)
 
 unfoldable pub store : Plan → Field → List ℕ → Plan
 store p x r =

@@ -25,7 +25,7 @@ pub record Entry : Type 0 where
   pub route : List ℕ
 
 abbrev pub entryOf : Field → List ℕ → Entry
-entryOf x r = record { part = x; route = ofFlow [] (λ n period count length hops. r) x }
+entryOf x r = record { part = x; route = ofFlow [] (λ n period count bytes hops. r) x }
 
 -- the fields from this offset on, as far as each passes the tests 2 to 5. The first number bounds how many are read: the plan's
 -- length is enough.

@@ -37,18 +37,18 @@ module _ (calls : List Call) (bytes : List ℕ) (held : heldBytes calls ≡ some
   abbrev plan : Plan
   plan = after calls
 
-  module _ (T n length : ℕ) (out : List ℤ) (answer : repriceAnswer plan T n length out ≡ result tt) where
-    abbrev given : Granted plan T n length out
-    given = reprice-granted plan T n length out answer
+  module _ (T n octets : ℕ) (out : List ℤ) (answer : repriceAnswer plan T n octets out ≡ result tt) where
+    abbrev given : Granted plan T n octets out
+    given = reprice-granted plan T n octets out answer
 
     abbrev changed : Plan
-    changed = withLength plan (n - 1) length
+    changed = withLength plan (n - 1) octets
 
     slot : n - 1 < flowSlots
     slot = present-slot plan (given .valid) (n - 1) (given .there)
 
     valid-changed : validPlan changed ≡ true
-    valid-changed = length-valid plan (given .valid) (n - 1) (given .there) length (given .length-ok)
+    valid-changed = length-valid plan (given .valid) (n - 1) (given .there) octets (given .length-ok)
 
     ranged-changed : within 1 (changed .top) T ≡ true
     unfolding withLength
@@ -56,18 +56,18 @@ module _ (calls : List Call) (bytes : List ℕ) (held : heldBytes calls ≡ some
 
     reads
         : (mode : Mode)
-        → readAs mode (relengthedBytes plan n length)
+        → readAs mode (relengthedBytes plan n octets)
         ≡ accepted changed (countTo portSlots (λ q. ltb 0 (rateOf plan q))) (countTo flowSlots (λ f. ltb 0 (periodOf plan f)))
     unfolding readPlan
     reads mode =
         let l = after-loaded calls bytes held in
         let low = within-low 1 flowSlots n (given .number) in
         let number : n ≡ suc (n - 1) = omega arith in
-        ap (λ (k : ℕ). readAs mode (relengthedBytes plan k length)) number
-        ∙ changed-read plan (n - 1) length (given .valid) (accepted-sized loose bytes plan (l .ports) (l .flows) (l .reads)) (accepted-tidy loose bytes plan (l .ports) (l .flows) (l .reads)) (given .there) (given .length-ok) mode
+        ap (λ (k : ℕ). readAs mode (relengthedBytes plan k octets)) number
+        ∙ changed-read plan (n - 1) octets (given .valid) (accepted-sized loose bytes plan (l .ports) (l .flows) (l .reads)) (accepted-tidy loose bytes plan (l .ports) (l .flows) (l .reads)) (given .there) (given .length-ok) mode
 
     -- the saved plan with just that length changed is accepted and holds the plan with it
-    pub held-changed : ReadsChanged plan n length
+    pub held-changed : ReadsChanged plan n octets
     unfolding loadAnswer loadLeaves
     held-changed =
         record {
@@ -78,27 +78,27 @@ module _ (calls : List Call) (bytes : List ℕ) (held : heldBytes calls ≡ some
         }
 
     abbrev exit : List ℤ
-    exit = repriceLeaves plan T n length out
+    exit = repriceLeaves plan T n octets out
 
-    exit-is : (q : ℕ) → getD exit q (pos 0) ≡ getD (repriced plan T (n - 1) length out) q (pos 0)
-    exit-is q = ap (λ (l : List ℤ). getD l q (pos 0)) (granted-leaves plan T n length out answer)
+    exit-is : (q : ℕ) → getD exit q (pos 0) ≡ getD (repriced plan T (n - 1) octets out) q (pos 0)
+    exit-is q = ap (λ (l : List ℤ). getD l q (pos 0)) (granted-leaves plan T n octets out answer)
 
     -- a number of the list that is the slack of the plan with that length
     fresh-slack
         : (mode : Mode) (h : Plan) (q : ℕ)
         → crossed plan q ≡ true
         → getD exit q (pos 0) ≡ slack changed q T
-        → slackAnswer (loadLeaves mode h (relengthedBytes plan n length)) (suc q) T ≡ result (getD exit q (pos 0))
+        → slackAnswer (loadLeaves mode h (relengthedBytes plan n octets)) (suc q) T ≡ result (getD exit q (pos 0))
     fresh-slack mode h q on is =
         ap (λ (r : Plan). slackAnswer r (suc q) T) (held-changed .holds mode h)
-        ∙ slack-answered changed valid-changed T ranged-changed q (crossed-same plan (n - 1) length q ∙ on) is
+        ∙ slack-answered changed valid-changed T ranged-changed q (crossed-same plan (n - 1) octets q ∙ on) is
 
     here : (q : ℕ) → crosses plan (n - 1) q ≡ true → getD exit q (pos 0) ≡ slack changed q T
     here q e =
-        exit-is q ∙ repriced-here plan T (n - 1) length out q (omega (arith, crosses-slot plan (given .valid) (n - 1) q slot e, given .long)) e
+        exit-is q ∙ repriced-here plan T (n - 1) octets out q (omega (arith, crosses-slot plan (given .valid) (n - 1) q slot e, given .long)) e
 
     kept : (q : ℕ) → crosses plan (n - 1) q ≡ false → getD exit q (pos 0) ≡ getD out q (pos 0)
-    kept q e = exit-is q ∙ repriced-kept plan T (n - 1) length out q e
+    kept q e = exit-is q ∙ repriced-kept plan T (n - 1) octets out q e
 
     beyond : (q : ℕ) → portSlots ≤ q → crosses plan (n - 1) q ≡ false
     beyond q far = go (crosses plan (n - 1) q) refl
@@ -108,36 +108,36 @@ module _ (calls : List Call) (bytes : List ℕ) (held : heldBytes calls ≡ some
         go false e = refl
 
     -- what is written into the list
-    pub held-written : WritesSlacks plan T n length out exit
+    pub held-written : WritesSlacks plan T n octets out exit
     held-written =
         record {
-          size = ap lib.ListN.length (granted-leaves plan T n length out answer) ∙ repriced-length plan T (n - 1) length out;
+          size = ap lib.ListN.length (granted-leaves plan T n octets out answer) ∙ repriced-length plan T (n - 1) octets out;
           written = λ mode h q e. fresh-slack mode h q (crosses-crossed plan (n - 1) q slot e) (here q e);
           kept = kept;
           past = λ q far. kept q (beyond q far);
           fresh = λ all mode h q on.
-              let on′ : crossed plan q ≡ true = sym (crossed-same plan (n - 1) length q) ∙ ap (λ (r : Plan). crossed r q) (sym (held-changed .holds mode h)) ∙ on in
+              let on′ : crossed plan q ≡ true = sym (crossed-same plan (n - 1) octets q) ∙ ap (λ (r : Plan). crossed r q) (sym (held-changed .holds mode h)) ∙ on in
               fresh-slack mode h q on′
-              (exit-is q ∙ holds-repriced plan T (n - 1) length out slot (given .long) (answers-slacks plan T out all) q (crossed-slot plan (given .valid) q on′) (crossed-same plan (n - 1) length q ∙ on′));
+              (exit-is q ∙ holds-repriced plan T (n - 1) octets out slot (given .long) (answers-slacks plan T out all) q (crossed-slot plan (given .valid) q on′) (crossed-same plan (n - 1) octets q ∙ on′));
         }
 
   -- what each byte more changes
   pub held-per-byte
-      : (T n length more : ℕ) (out other : List ℤ)
-      → repriceAnswer plan T n length out ≡ result tt
-      → repriceAnswer plan T n (length + more) other ≡ result tt
-      → PerByte plan T n length more out other
-  held-per-byte T n length more out other answer also =
-      let g = given T n length out answer in
-      let f = slot T n length out answer in
+      : (T n octets more : ℕ) (out other : List ℤ)
+      → repriceAnswer plan T n octets out ≡ result tt
+      → repriceAnswer plan T n (octets + more) other ≡ result tt
+      → PerByte plan T n octets more out other
+  held-per-byte T n octets more out other answer also =
+      let g = given T n octets out answer in
+      let f = slot T n octets out answer in
       record {
         on-route = λ q e.
-            here T n (length + more) other also q e
-            ∙ slack-longer plan (n - 1) f q T length more (length-slot plan (g .valid) (n - 1) (g .there)) e
-            ∙ ap (λ (z : ℤ). z -ℤ pos (more * (8000 * frames plan (n - 1) T))) (sym (here T n length out answer q e));
+            here T n (octets + more) other also q e
+            ∙ slack-longer plan (n - 1) f q T octets more (length-slot plan (g .valid) (n - 1) (g .there)) e
+            ∙ ap (λ (z : ℤ). z -ℤ pos (more * (8000 * frames plan (n - 1) T))) (sym (here T n octets out answer q e));
         elsewhere = λ mode h q e.
-            ap (λ (r : Plan). slackAnswer r (suc q) T) (held-changed T n length out answer .holds mode h)
-            ∙ slack-alike plan (changed T n length out answer) T q (g .valid) (valid-changed T n length out answer) (g .ranged) (ranged-changed T n length out answer) (crossed-same plan (n - 1) length q) (slack-apart plan (n - 1) f q T length e);
+            ap (λ (r : Plan). slackAnswer r (suc q) T) (held-changed T n octets out answer .holds mode h)
+            ∙ slack-alike plan (changed T n octets out answer) T q (g .valid) (valid-changed T n octets out answer) (g .ranged) (ranged-changed T n octets out answer) (crossed-same plan (n - 1) octets q) (slack-apart plan (n - 1) f q T octets e);
       }
 
   -- d ns more

@@ -41,7 +41,7 @@ module _ {A : Type 0} (P : ℕ → A → Type 0) (other : A) (rest : (key : ℕ)
   of-port gives own (clock c) k = rest clockKey
 
   pub of-flow
-      : (route : List ℕ) (gives : (number period count length hops : ℕ) → A)
+      : (route : List ℕ) (gives : (number period count bytes hops : ℕ) → A)
       → ((n p c l h : ℕ) → FlowOk n p c l h → RouteOk h route → P (portSlots + n) (gives n p c l h))
       → (x : Field)
       → NumbersOk x

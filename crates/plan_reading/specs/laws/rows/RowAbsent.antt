@@ -25,7 +25,7 @@ use Rattle.plan_reading.specs.laws.order.Rows.{row-field}
 abbrev pub NamesPresent : (rates periods : List ℕ) → Field → List ℕ → Type 0
 NamesPresent rates periods (header guard top) r = Unit {0}
 NamesPresent rates periods (port n rate blocking) r = Unit {0}
-NamesPresent rates periods (flow n period count length hops) r = every (portIn rates) r ≡ true
+NamesPresent rates periods (flow n period count bytes hops) r = every (portIn rates) r ≡ true
 NamesPresent rates periods (extra n bytes) r = portIn rates n ≡ true
 NamesPresent rates periods (jitter n ns) r = hasFlow periods n ≡ true
 NamesPresent rates periods (clock k) r = Unit {0}

@@ -89,7 +89,7 @@ module _ (p : Plan) (valid : validPlan p ≡ true) where
       omega (arith, s .1, sym (s .2) ∙ ap (rateOf p) (u .4))
 
   flow-none
-      : {column : Plan → List ℕ} (which : (number period count length hops : ℕ) → ℕ)
+      : {column : Plan → List ℕ} (which : (number period count bytes hops : ℕ) → ℕ)
       → Column column (λ r. flowNumber which)
       → (i : ℕ)
       → periodOf p i ≡ 0

@@ -69,7 +69,7 @@ touched-port which (extra n b) j h = absurd h
 touched-port which (jitter n ns) j h = absurd h
 touched-port which (clock k) j h = absurd h
 
-pub touched-flow : (which : (number period count length hops : ℕ) → ℕ) (x : Field) (j : ℕ) → Touches j (flowNumber which x) → (n t c l k : ℕ) × (x ≡ flow n t c l k) × (n - 1 ≡ j)
+pub touched-flow : (which : (number period count bytes hops : ℕ) → ℕ) (x : Field) (j : ℕ) → Touches j (flowNumber which x) → (n t c l k : ℕ) × (x ≡ flow n t c l k) × (n - 1 ≡ j)
 touched-flow which (header g t) j h = absurd h
 touched-flow which (port n v b) j h = absurd h
 touched-flow which (flow n t c l k) j h = (n, t, c, l, k, refl, h)

@@ -72,7 +72,7 @@ port-placed : (which : (number rate blocking : ℕ) → ℕ) (x : Field) → Num
 port-placed which = of-port (Placed portKeys 1) keep (λ key. tt) _ (λ n r b ok. port-block n (ok .number))
 
 flow-placed
-    : (which : (number period count length hops : ℕ) → ℕ) (x : Field) (route : List ℕ)
+    : (which : (number period count bytes hops : ℕ) → ℕ) (x : Field) (route : List ℕ)
     → NumbersOk x
     → RouteFits x route
     → Placed flowKeys 1 (keyOf x) (flowNumber which x)
@@ -116,7 +116,7 @@ module _ (x y : Field) (v w : List ℕ) (k : NumbersOk x) (m : NumbersOk y) (a :
       (port-placed which y m)
 
   flow-comm
-      : (which : (number period count length hops : ℕ) → ℕ) (l : List ℕ)
+      : (which : (number period count bytes hops : ℕ) → ℕ) (l : List ℕ)
       → let u = flowNumber which in
       put (put l (u x)) (u y) ≡ put (put l (u y)) (u x)
   flow-comm which l =
@@ -151,11 +151,11 @@ module _ (x y : Field) (v w : List ℕ) (k : NumbersOk x) (m : NumbersOk y) (a :
     rates = port-comm (λ number rate blocking. rate) (p .rates) i;
     blockings = port-comm (λ number rate blocking. blocking) (p .blockings) i;
     extras = extra-comm (p .extras) i;
-    periods = flow-comm (λ number period count length hops. period) (p .periods) i;
-    counts = flow-comm (λ number period count length hops. count) (p .counts) i;
-    lengths = flow-comm (λ number period count length hops. length) (p .lengths) i;
+    periods = flow-comm (λ number period count bytes hops. period) (p .periods) i;
+    counts = flow-comm (λ number period count bytes hops. count) (p .counts) i;
+    lengths = flow-comm (λ number period count bytes hops. bytes) (p .lengths) i;
     jitters = jitter-comm (p .jitters) i;
-    hops = flow-comm (λ number period count length hops. hops) (p .hops) i;
+    hops = flow-comm (λ number period count bytes hops. hops) (p .hops) i;
     routes = route-comm (p .routes) i;
   }
 
