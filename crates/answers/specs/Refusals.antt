@@ -34,8 +34,8 @@ abbrev pub incomplete : ℕ
 incomplete = 8
 
 -- a port or a flow that is not in the plan
-abbrev pub unknownPort : ℕ
-unknownPort = 9
+abbrev pub notInPlan : ℕ
+notInPlan = 9
 
 -- duration 0 or above top
 abbrev pub badDuration : ℕ

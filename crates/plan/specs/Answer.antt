@@ -1,5 +1,6 @@
 -- Document 01's number and values for each case of the answers.
 use Prim.Native.Nat.{ℕ}
+use Rattle.answers.specs.Refusals.{badSize, truncated, unknownTag, wrongLength, outOfRange, duplicate, repeatedPort, incomplete, notInPlan, outOfOrder}
 use Rattle.numbers.specs.Clock.{clockOf}
 use Rattle.plan.specs.declared.Fault.{Fault}
 use Rattle.plan.specs.declared.Fault.the-variants.{Size, Truncated, UnknownTag, WrongLength, OutOfRange, Duplicate, OutOfOrder, RepeatedPort, Incomplete, NotInPlan}
@@ -10,16 +11,16 @@ use Rattle.plan.specs.declared.FieldRead as declaredRead
 use Rattle.plan.specs.Field.{HeadRead, head, cut, Field, header, port, flow, extra, jitter, clock, FieldRead, field, refused}
 
 abbrev pub faultNumber : Fault → ℕ
-faultNumber Size = 1
-faultNumber Truncated = 2
-faultNumber UnknownTag = 3
-faultNumber WrongLength = 4
-faultNumber OutOfRange = 5
-faultNumber Duplicate = 6
-faultNumber OutOfOrder = 12
-faultNumber RepeatedPort = 7
-faultNumber Incomplete = 8
-faultNumber NotInPlan = 9
+faultNumber Size = badSize
+faultNumber Truncated = truncated
+faultNumber UnknownTag = unknownTag
+faultNumber WrongLength = wrongLength
+faultNumber OutOfRange = outOfRange
+faultNumber Duplicate = duplicate
+faultNumber OutOfOrder = outOfOrder
+faultNumber RepeatedPort = repeatedPort
+faultNumber Incomplete = incomplete
+faultNumber NotInPlan = notInPlan
 
 abbrev pub headOf : Head → HeadRead
 headOf (Whole tag size) = head tag size

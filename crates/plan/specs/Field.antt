@@ -4,6 +4,7 @@ use mathlib.Core.List.{List}
 use mathlib.Core.Bool.{Bool, cond, not, _&&_}
 use lib.Dec.{eqb}
 use lib.ListN.{length, getD, drop}
+use Rattle.answers.specs.Refusals.{truncated, unknownTag, wrongLength, outOfRange}
 use Rattle.cqf.specs.Bounded.{every, distinct}
 use Rattle.cqf.specs.Limits.{guardOk, topOk, portOk, rateOk, lengthOk, blockingOk, extraOk, flowOk, periodOk, countOk, jitterOk, hopsOk}
 use Rattle.cqf.specs.Plan.{Clock, clockOk}
@@ -104,22 +105,22 @@ routeIn v = routePorts (routeBytes v)
 unfoldable pub headerIn : List ℕ → ℕ → ℕ → FieldRead
 unfolding number4
 headerIn v at next =
-    unless 4 at (eqb (length v) headerSize)
-    (unless 5 at (guardOk (number4 v 0) && topOk (number4 v 4))
+    unless wrongLength at (eqb (length v) headerSize)
+    (unless outOfRange at (guardOk (number4 v 0) && topOk (number4 v 4))
     (field (header (number4 v 0) (number4 v 4)) next))
 
 unfoldable pub portInValue : List ℕ → ℕ → ℕ → FieldRead
 unfolding number2 number4
 portInValue v at next =
-    unless 4 at (eqb (length v) portSize)
-    (unless 5 at (portOk (number2 v 0) && rateOk (number4 v 2) && blockingOk (number2 v 6))
+    unless wrongLength at (eqb (length v) portSize)
+    (unless outOfRange at (portOk (number2 v 0) && rateOk (number4 v 2) && blockingOk (number2 v 6))
     (field (port (number2 v 0) (number4 v 2) (number2 v 6)) next))
 
 unfoldable pub flowIn : List ℕ → ℕ → ℕ → FieldRead
 unfolding number2 number4 every routeIn
 flowIn v at next =
-    unless 4 at (hopsOk (hopsIn (length v)) && eqb (length v) (flowSize + 2 * hopsIn (length v)))
-    (unless 5 at
+    unless wrongLength at (hopsOk (hopsIn (length v)) && eqb (length v) (flowSize + 2 * hopsIn (length v)))
+    (unless outOfRange at
     (flowOk (number2 v 0)
     && periodOk (number4 v 2)
     && countOk (number2 v 6)
@@ -130,15 +131,15 @@ flowIn v at next =
 unfoldable pub extraIn : List ℕ → ℕ → ℕ → FieldRead
 unfolding number2
 extraIn v at next =
-    unless 4 at (eqb (length v) extraSize)
-    (unless 5 at (portOk (number2 v 0) && extraOk (number2 v 2))
+    unless wrongLength at (eqb (length v) extraSize)
+    (unless outOfRange at (portOk (number2 v 0) && extraOk (number2 v 2))
     (field (extra (number2 v 0) (number2 v 2)) next))
 
 unfoldable pub jitterIn : List ℕ → ℕ → ℕ → FieldRead
 unfolding number2 number4
 jitterIn v at next =
-    unless 4 at (eqb (length v) jitterSize)
-    (unless 5 at (flowOk (number2 v 0) && jitterOk (number4 v 2))
+    unless wrongLength at (eqb (length v) jitterSize)
+    (unless outOfRange at (flowOk (number2 v 0) && jitterOk (number4 v 2))
     (field (jitter (number2 v 0) (number4 v 2)) next))
 
 -- the three numbers in a clock field's value
@@ -148,8 +149,8 @@ clockNumbers v = record { drift = number4 v 0; timingJitter = number4 v 4; syncE
 unfoldable pub clockIn : List ℕ → ℕ → ℕ → FieldRead
 unfolding number4
 clockIn v at next =
-    unless 4 at (eqb (length v) clockSize)
-    (unless 5 at (clockOk (clockNumbers v))
+    unless wrongLength at (eqb (length v) clockSize)
+    (unless outOfRange at (clockOk (clockNumbers v))
     (field (clock (clockNumbers v)) next))
 
 -- the field by its tag: test 3
@@ -162,12 +163,12 @@ fieldIn tag v at next =
     (cond (eqb tag extraTag) (extraIn v at next)
     (cond (eqb tag jitterTag) (jitterIn v at next)
     (cond (eqb tag clockTag) (clockIn v at next)
-    (refused 3 at))))))
+    (refused unknownTag at))))))
 
 -- the field at this offset: test 2 first
 unfoldable pub fieldAt : List ℕ → ℕ → FieldRead
 unfolding fieldIn wholeAt valueAt sizeAt
-fieldAt s at = unless 2 at (wholeAt s at) (fieldIn (tagAt s at) (valueAt s at) at (at + headSize + sizeAt s at))
+fieldAt s at = unless truncated at (wholeAt s at) (fieldIn (tagAt s at) (valueAt s at) at (at + headSize + sizeAt s at))
 
 -- test 7: a port twice in the route of a flow's value
 unfoldable pub repeats : List ℕ → Bool

@@ -5,6 +5,7 @@ use mathlib.Core.List.{List, _∷_}
 use mathlib.Core.Bool.{Bool, true, false, cond, not, _&&_, _||_}
 use lib.Dec.{ltb, eqb}
 use lib.ListN.{length, getD}
+use Rattle.answers.specs.Refusals.{badSize, duplicate, repeatedPort, incomplete, notInPlan, outOfOrder}
 use Rattle.cqf.specs.Bounded.{within, every}
 use Rattle.cqf.specs.Limits.{flowOk}
 use Rattle.cqf.specs.Plan.{Plan, portIn}
@@ -46,9 +47,9 @@ late strict last x = ltb (keyOf x) last
 abbrev pub fieldStep : Mode → List ℕ → (at last : ℕ) → Draft → FieldRead → Step
 fieldStep mode s at last d (refused number offset) = stop number offset
 fieldStep mode s at last d (field x next) =
-    cond (taken d x) (stop 6 at)
-    (cond (late mode last x) (stop 12 at)
-    (cond (fieldRepeats x (routeAt s at)) (stop 7 at)
+    cond (taken d x) (stop duplicate at)
+    (cond (late mode last x) (stop outOfOrder at)
+    (cond (fieldRepeats x (routeAt s at)) (stop repeatedPort at)
     (more next (keyOf x) (added d x (routeAt s at)))))
 
 unfoldable pub stepAt : Mode → List ℕ → (at last : ℕ) → Draft → Step
@@ -105,9 +106,9 @@ firstAbsent rates periods s =
 unfoldable pub closing : List ℕ → Draft → PlanRead
 unfolding firstAbsent
 closing s d =
-    cond (not (hasKey d headerKey) || eqb (d .flows) 0) (rejected 8 (length s))
+    cond (not (hasKey d headerKey) || eqb (d .flows) 0) (rejected incomplete (length s))
     (cond (ltb (firstAbsent (d .tables .rates) (d .tables .periods) s) (length s))
-    (rejected 9 (firstAbsent (d .tables .rates) (d .tables .periods) s))
+    (rejected notInPlan (firstAbsent (d .tables .rates) (d .tables .periods) s))
     (accepted (d .tables) (d .ports) (d .flows)))
 
 -- the fields from this offset on, last being the key of the one in front of it. The first number bounds how many are read: the
@@ -127,7 +128,7 @@ readFrom mode (suc n) s at last d =
 
 unfoldable pub readAs : Mode → List ℕ → PlanRead
 unfolding readFrom blank
-readAs mode s = elim (within 1 maxBytes (length s)) [ true ↦ readFrom mode (length s) s 0 0 blank | false ↦ rejected 1 0 ]
+readAs mode s = elim (within 1 maxBytes (length s)) [ true ↦ readFrom mode (length s) s 0 0 blank | false ↦ rejected badSize 0 ]
 
 -- the loose reading
 unfoldable pub readPlan : List ℕ → PlanRead

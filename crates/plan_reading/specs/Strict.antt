@@ -6,6 +6,7 @@ use mathlib.Core.List.{List, [], _∷_, List·Permᴰ}
 use mathlib.Core.Bool.{Bool, true, false, cond, _&&_, _||_}
 use lib.Dec.{leb, ltb, eqb}
 use lib.ListN.{length}
+use Rattle.answers.specs.Refusals.{outOfOrder}
 use Rattle.cqf.specs.Plan.{Plan}
 use Rattle.plan.specs.Field.{Field, field, refused, fieldAt}
 use Rattle.plan_reading.specs.Kind.{ofFlow}
@@ -87,4 +88,4 @@ foundBefore s at (rejected number offset) =
 -- what the strict reading answers where the loose one answers this, at being the offset of the first field that should have
 -- stood earlier
 abbrev pub strictly : List ℕ → ℕ → PlanRead → PlanRead
-strictly s at answer = cond (foundBefore s at answer) answer (rejected 12 at)
+strictly s at answer = cond (foundBefore s at answer) answer (rejected outOfOrder at)
