@@ -9,6 +9,7 @@ pub mod Condition
 pub mod Need
 pub mod Overflow
 pub mod FixedPoint
+pub mod PortSteps
 pub mod Emission
 pub mod Cycles
 pub mod Run

@@ -27,6 +27,9 @@ pub mod Smallest
 pub mod LeastFrom
 pub mod Ranges
 pub mod Search
+pub mod PortSteps
+pub mod PortMarginSafe
+pub mod HighestCrossed
 pub mod Ended
 pub mod FixedPoint
 pub mod MostSteps

@@ -43,6 +43,11 @@ maxTo-most (suc n) g i l = go (ℕ-discrete i n) (maxTo-most n g i)
     go (yes e) ih = rw e (omega arith)
     go (no ne) ih = omega (arith, ih (omega arith))
 
+pub maxTo-least : (n : ℕ) (g : ℕ → ℕ) (m : ℕ) → ((i : ℕ) → i < n → g i ≤ m) → maxTo n g ≤ m
+unfolding maxTo
+maxTo-least zero g m h = zero-le
+maxTo-least (suc n) g m h = omega (arith, maxTo-least n g m (λ i l. h i (omega arith)), h n (omega arith))
+
 pub maxTo-at : (n : ℕ) (g : ℕ → ℕ) → 0 < maxTo n g → (i : ℕ) × (i < n) × (g i ≡ maxTo n g)
 unfolding maxTo
 maxTo-at zero g l = absurd (omega arith)
