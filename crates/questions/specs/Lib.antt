@@ -6,4 +6,7 @@ pub mod Answer
 pub mod laws
 pub mod Failing
 pub mod Search
+pub mod FlowSet
+pub mod PortSearch
+pub mod Lean
 pub mod Iterate

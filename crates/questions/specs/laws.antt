@@ -2,6 +2,11 @@
 pub mod Sums
 pub mod Widened
 pub mod Sets
+pub mod WordBits
+pub mod FlowSets
+pub mod Neediest
+pub mod LeanSearch
+pub mod Leanly
 pub mod Fails
 pub mod Topped
 pub mod Signed

@@ -1,7 +1,12 @@
-// The search for the least duration, upwards: the fixed-point iteration from 1 ns.
-use super::iterate::Iterated;
-use super::iterate::iterate;
+// The search for the least duration, upwards from 1 ns: after a pass over all ports the one that needs most goes on alone until it
+// passes, and then comes the next pass.
+use super::demand::demands;
+use super::failing::port_fails;
+use super::neediest::neediest;
+use super::port_search::raise_port;
 use numbers::clock::Clock;
+use numbers::port::window;
+use tables::PORTS;
 use tables::columns;
 ghost use mathlib.Core.Path.{_≡_};
 ghost use mathlib.Core.Bool.{true};
@@ -12,9 +17,6 @@ ghost use Rattle.cqf.specs.Condition.{least};
 ghost use Rattle.numbers.specs.Clock.{clockOf};
 ghost use Rattle.tables.specs.Columns.{planBy};
 ghost use Rattle.questions.specs.Search.{Found};
-
-// No plan takes so many steps.
-const ALL_STEPS: u64 = 18_446_744_073_709_551_615;
 
 // The least admissible duration, or one above top where there is none. Where there is one, out is left with the demands at it.
 pub(crate) fn ascend<'a>(
@@ -47,27 +49,53 @@ pub(crate) fn ascend<'a>(
         r (now (out .exit))
         ⌝ }
 {
-    let above = top as u64 + 1;
-    let iterated = iterate(
-        guard,
-        top,
-        clock,
-        rates,
-        blockings,
-        extras,
-        periods,
-        counts,
-        lengths,
-        jitters,
-        hops,
-        routes,
-        1,
-        ALL_STEPS,
-        out,
-    );
-    match iterated {
-        Iterated::Found { duration, steps: _ } => duration,
-        Iterated::None { steps: _ } => above,
-        Iterated::Unfinished { duration: _ } => above,
-    }
+    let limit = top as u64;
+    let mut t: u64 = 1;
+    let found = loop {
+        demands(
+            clock,
+            extras,
+            periods,
+            counts,
+            lengths,
+            jitters,
+            hops,
+            routes,
+            t,
+            out,
+        );
+        let available = window(guard, t);
+        let mut q: usize = 0;
+        'ports: while q < PORTS {
+            if port_fails(rates[q], blockings[q], extras[q], available, out[q]) {
+                break 'ports;
+            }
+            q += 1;
+        }
+        if PORTS <= q {
+            break t;
+        }
+        let most = neediest(guard, rates, blockings, extras, &out[..]);
+        let reached = raise_port(
+            guard,
+            top,
+            clock,
+            rates,
+            blockings,
+            extras,
+            periods,
+            counts,
+            lengths,
+            jitters,
+            hops,
+            routes,
+            most,
+            t,
+        );
+        if limit < reached {
+            return limit + 1;
+        }
+        t = reached;
+    };
+    found
 }

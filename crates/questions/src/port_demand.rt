@@ -42,7 +42,12 @@ pub(crate) fn flow_bits(
 }
 
 // Whether a route holds the port in slot q.
-fn route_holds<'a>(routes: &'a columns::Routes, base: usize, hops: usize, q: usize) -> bool
+pub(crate) fn route_holds<'a>(
+    routes: &'a columns::Routes,
+    base: usize,
+    hops: usize,
+    q: usize,
+) -> bool
     requires { ⌜ (base + hops ≤ flowSlots * routeStride) × (q < portSlots) ⌝ }
     ensures { λ r. ⌜ r ≡ elem (suc q) (sublist (now (routes .entry)) base hops) ⌝ }
 {

@@ -3,21 +3,16 @@ use mathlib.Core.Path.{_≡_, refl, sym, ap, _∙_}
 use mathlib.Core.Bool.{true}
 use mathlib.Core.List.{List}
 use Prim.Native.Nat.{ℕ, _+_, _≤_, _<_}
-use native.Mathlib.Nat.{le-trans}
 use native.Mathlib.Omega.{arith}
 use lib.ListN.{length}
 use borrow.Author.Tests.{lt-leb, lt-ltb, le-ltb}
 use Rattle.cqf.specs.Bounded.{tabulate}
 use Rattle.cqf.specs.Limits.{portSlots}
-use Rattle.cqf.specs.Plan.{Plan, validPlan}
-use Rattle.cqf.specs.Condition.{demand, admissible, least}
+use Rattle.cqf.specs.Plan.{Plan}
+use Rattle.cqf.specs.Condition.{demand}
 use Rattle.cqf.specs.Need.{largestNeed}
-use Rattle.cqf.specs.FixedPoint.{settles, stepsFrom, found, none, unfinished, iterate, ended}
-use Rattle.cqf.specs.laws.Smallest.{smallest-le, least-of}
-use Rattle.cqf.specs.laws.Ended.{ended-found, ended-none, ended-finished}
-use Rattle.cqf.specs.laws.Converges.{steps-top, converges-least}
+use Rattle.cqf.specs.FixedPoint.{settles, found, none, unfinished, iterate}
 use Rattle.cqf.specs.laws.FixedPoint.{then-settled, then-over, then-rises}
-use Rattle.questions.specs.Search.{Found}
 use Rattle.questions.specs.Iterate.{Iterates}
 
 -- what is left of the steps, by their outcome
@@ -117,26 +112,3 @@ module _ {p : Plan} {start steps state used t : ℕ} {out : List ℕ} where
   halted-unfinished (stopped l s i) a b = iterates-unfinished p start steps i
   halted-unfinished (settled l s i d) a b = absurd (a s)
   halted-unfinished (exceeded l s i) a b = absurd (b s)
-
--- from 1 ns on and with steps enough, a duration found is the least, and where none is found that is above top
-module _ (p : Plan) (valid : validPlan p ≡ true) (steps : ℕ) (enough : p .top ≤ steps) where
-  ends : iterate p 1 steps ≡ ended p (least p) (stepsFrom p 1)
-  ends = converges-least p valid steps (le-trans (steps-top p 1) enough)
-
-  pub ascended-found : {t n : ℕ} {out : List ℕ} → Iterates p 1 steps (found t n) out → Found least p t out
-  ascended-found {t} {n} s =
-      record {
-        is = sym (ended-found p (least p) (stepsFrom p 1) (sym (s .is ∙ ends)) .0);
-        demands = λ _. s .demands t n refl;
-      }
-
-  pub ascended-none : {n : ℕ} {out : List ℕ} → Iterates p 1 steps (none n) out → Found least p (p .top + 1) out
-  ascended-none s =
-      let above = ended-none p (least p) (stepsFrom p 1) (sym (s .is ∙ ends)) .1 in
-      record {
-        is = omega (arith, above, least-of p, smallest-le (admissible p) (p .top));
-        demands = λ l. absurd (omega arith);
-      }
-
-  pub ascended-finished : {t : ℕ} {out : List ℕ} → Iterates p 1 steps (unfinished t) out → ⊥
-  ascended-finished s = ended-finished p (least p) (stepsFrom p 1) (sym (s .is ∙ ends))

@@ -68,3 +68,8 @@ module _ {p : Plan} {out : List ℕ} {t q : ℕ} (s : Passed p out t q) where
   pub left-more : {k : ℕ} → Left p t k → k < portSlots → t < largestNeed p t
   left-more (all l h) less = absurd (omega arith)
   left-more {k} (first l e) less = fails-largest p (s .filled .valid) t k (s .long) l e
+
+  -- no port fails, as such
+  pub left-none : {k : ℕ} → Left p t k → portSlots ≤ k → (q : ℕ) → q < portSlots → fails p t q ≡ false
+  left-none (all l h) more = h
+  left-none (first l e) more = absurd (omega arith)

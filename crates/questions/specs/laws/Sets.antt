@@ -37,7 +37,7 @@ set-same zero b d h = refl
 set-same (suc n) b d h = rw (h n (omega arith), set-same n b d (λ i l. h i (omega arith)))
 
 -- its lowest bit, and the bits above it
-shift : (n : ℕ) (b : ℕ → Bool) → setTo (suc n) b ≡ cond (b zero) 1 0 + 2 * setTo n (λ i. b (suc i))
+pub shift : (n : ℕ) (b : ℕ → Bool) → setTo (suc n) b ≡ cond (b zero) 1 0 + 2 * setTo n (λ i. b (suc i))
 unfolding setTo
 shift zero b = omega arith
 shift (suc n) b = omega (arith, shift n b, double (b (suc n)))
