@@ -116,6 +116,18 @@ MEASURED(on_margin_safe) {
   return unused;
 }
 
+MEASURED(on_lean_least) {
+  MEASURE(cp_answer (*volatile call)(cp_planner, uint64_t *, size_t), see_search, cp_lean_least,
+          answer = call(held, scratch, 1));
+  return unused;
+}
+
+MEASURED(on_lean_margin_safe) {
+  MEASURE(cp_answer (*volatile call)(cp_planner, uint64_t *, size_t), see_search, cp_lean_margin_safe,
+          answer = call(held, scratch, 1));
+  return unused;
+}
+
 MEASURED(on_fixed_point) {
   MEASURE(cp_fixed_point_answer (*volatile call)(cp_planner, uint64_t, uint64_t), see_steps, cp_fixed_point,
           stepped = call(held, 1, 1 << 20));
@@ -173,14 +185,22 @@ static void read_plan(const char *path, plan_bytes *plan) {
   fclose(file);
 }
 
-static void questions(const char *check, const char *slack, const char *least, const char *margin_safe, const char *fixed_point) {
+/* The rows' names, in the order of the calls below. */
+static void questions(const char *const names[7]) {
   const size_t given = sizeof held;
-  row(check, on_check, given, sizeof answer);
-  row(slack, on_slack, given, sizeof slacked);
-  row(least, on_least, given, sizeof answer);
-  row(margin_safe, on_margin_safe, given, sizeof answer);
-  row(fixed_point, on_fixed_point, given, sizeof stepped);
+  row(names[0], on_check, given, sizeof answer);
+  row(names[1], on_slack, given, sizeof slacked);
+  row(names[2], on_least, given, sizeof answer);
+  row(names[3], on_margin_safe, given, sizeof answer);
+  row(names[4], on_lean_least, given, sizeof answer);
+  row(names[5], on_lean_margin_safe, given, sizeof answer);
+  row(names[6], on_fixed_point, given, sizeof stepped);
 }
+
+static const char *const answered[7] = {"cp_check", "cp_slack", "cp_least", "cp_margin_safe", "cp_lean_least",
+                                        "cp_lean_margin_safe", "cp_fixed_point"};
+static const char *const refusing[7] = {"cp_check, refused", "cp_slack, negative", "cp_least, refused", "cp_margin_safe, refused",
+                                        "lean_least, refused", "lean_m._safe, refused", "cp_fixed_point, refused"};
 
 int main(int count, char **paths) {
   if (count != 4) return 1;
@@ -201,7 +221,7 @@ int main(int count, char **paths) {
   if (loaded.answer.refusal == 0) return 1;
   row("cp_load_strict, refused", on_refused_load_strict, sizeof held, sizeof loaded);
   if (loaded.answer.refusal == 0) return 1;
-  questions("cp_check", "cp_slack", "cp_least", "cp_margin_safe", "cp_fixed_point");
+  questions(answered);
   if (answer.refusal != 0) return 1;
   row("cp_reprice", on_reprice, sizeof held, sizeof answer);
   if (answer.refusal != 0) return 1;
@@ -212,7 +232,7 @@ int main(int count, char **paths) {
   row("cp_gates", on_gates, sizeof held, sizeof answer);
   if (answer.refusal != 0) return 1;
   held = overloaded;
-  questions("cp_check, refused", "cp_slack, negative", "cp_least, refused", "cp_margin_safe, refused", "cp_fixed_point, refused");
+  questions(refusing);
   if (answer.refusal == 0 || stepped.refusal != 22) return 1;
   row("cp_gates, refused", on_gates, sizeof held, sizeof answer);
   if (answer.refusal != 21) return 1;

@@ -70,6 +70,12 @@ cp_slack_answer cp_slack(cp_planner planner, uint64_t port, uint64_t duration);
 cp_answer cp_least(cp_planner planner, uint64_t *scratch, size_t length);
 cp_answer cp_margin_safe(cp_planner planner, uint64_t *scratch, size_t length);
 
+/* The same two searches over a scratch of one number or more: the same answers. The scratch's first number is the demand of the
+ * highest-numbered crossed port, at the duration answered, or at top after 22 or 23; later numbers never change. Refusal 20, 11 (an
+ * empty scratch): 0, 0, scratch untouched. They need no more stack than the two above. */
+cp_answer cp_lean_least(cp_planner planner, uint64_t *scratch, size_t length);
+cp_answer cp_lean_margin_safe(cp_planner planner, uint64_t *scratch, size_t length);
+
 /* The least admissible duration at or after a start, by at most so many steps of the fixed-point iteration. Result: first =
  * duration in ns, second = 0, steps = how many were used. Refusal 20, 10 (a start outside 1 to top): 0, 0, 0. 22, none up to top:
  * first = lowest failing port at top, second = how many fail, steps = how many were used. 26, the steps ended before: first = the

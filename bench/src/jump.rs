@@ -1,14 +1,15 @@
-//! The planner's two searches in Rust, on the planner's own tables, step by step as in iterate.rt and descend.rt of crates/questions.
+//! The planner's two searches in Rust, on the planner's own tables, step by step as in ascend.rt and descend.rt of crates/questions.
 //! CHECKED says whether the sum over the hops tests its indices, as safe Rust does; the form test makes it needless.
 
 use crate::answers::{Answer, Planner};
+use crate::lean::raise_port;
 use crate::valid::valid_plan;
 
 pub const PORTS: usize = 64;
 pub const FLOWS: usize = 256;
 pub const MAX_HOPS: usize = 16;
 
-fn wire_bits(length: u16, extra: u8) -> u64 {
+pub fn wire_bits(length: u16, extra: u8) -> u64 {
     8 * (length as u64 + 20 + extra as u64)
 }
 
@@ -33,7 +34,7 @@ fn add_route<const CHECKED: bool>(planner: &Planner, slot: usize, frames: u64, o
 }
 
 /// The duration widened by the clocks: the length over which frames are counted.
-fn stretch(planner: &Planner, duration: u64) -> u64 {
+pub fn stretch(planner: &Planner, duration: u64) -> u64 {
     let drifted = (duration * planner.drift as u64 + 999_999) / 1_000_000;
     duration + (drifted + planner.timing_jitter as u64).min(2 * planner.sync_error as u64)
 }
@@ -70,7 +71,7 @@ pub fn fails(planner: &Planner, slot: usize, window: u64, demand: u64) -> bool {
 }
 
 /// From which duration a port bears a demand; 0 where there is none.
-fn need(planner: &Planner, slot: usize, demand: u64) -> u64 {
+pub fn need(planner: &Planner, slot: usize, demand: u64) -> u64 {
     if demand == 0 {
         return 0;
     }
@@ -97,7 +98,19 @@ fn largest_need(planner: &Planner, demands: &[u64; PORTS]) -> u64 {
     (0..PORTS).map(|slot| need(planner, slot, demands[slot])).max().unwrap_or(0)
 }
 
-/// The least duration, or one above top where there is none; and the steps.
+/// The slot of the port that needs most.
+fn neediest(planner: &Planner, demands: &[u64; PORTS]) -> usize {
+    let (mut at, mut most) = (0, need(planner, 0, demands[0]));
+    for slot in 1..PORTS {
+        let needed = need(planner, slot, demands[slot]);
+        if most < needed {
+            (at, most) = (slot, needed);
+        }
+    }
+    at
+}
+
+/// The least duration, or one above top where there is none; and the steps, passes over all ports and those of one alone.
 fn ascend<const CHECKED: bool>(planner: &Planner, out: &mut [u64; PORTS]) -> (u64, u64) {
     let top = planner.top as u64;
     let (mut t, mut steps) = (1, 0);
@@ -108,11 +121,10 @@ fn ascend<const CHECKED: bool>(planner: &Planner, out: &mut [u64; PORTS]) -> (u6
         if !(0..PORTS).any(|slot| fails(planner, slot, span, out[slot])) {
             return (t, steps);
         }
-        let next = largest_need(planner, out);
-        if top < next {
+        t = raise_port(planner, neediest(planner, out), t, &mut steps);
+        if top < t {
             return (top + 1, steps);
         }
-        t = next;
     }
 }
 

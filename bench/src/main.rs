@@ -11,6 +11,7 @@ mod draft;
 mod figures;
 mod found;
 mod jump;
+mod lean;
 mod paper;
 mod plans;
 mod reader;
@@ -35,6 +36,20 @@ extern "C" fn jump_least<const CHECKED: bool>(planner: Planner, scratch: &mut [u
 #[inline(never)]
 extern "C" fn jump_safe<const CHECKED: bool>(planner: Planner, scratch: &mut [u64; 64], steps: &mut u64) -> Answer {
     let (answer, taken) = jump::margin_safe::<CHECKED>(&planner, scratch);
+    *steps = taken;
+    answer
+}
+
+#[inline(never)]
+extern "C" fn one_least(planner: Planner, scratch: &mut [u64; 64], steps: &mut u64) -> Answer {
+    let (answer, taken) = lean::least(&planner, &mut scratch[..1]);
+    *steps = taken;
+    answer
+}
+
+#[inline(never)]
+extern "C" fn one_safe(planner: Planner, scratch: &mut [u64; 64], steps: &mut u64) -> Answer {
+    let (answer, taken) = lean::margin_safe(&planner, &mut scratch[..1]);
     *steps = taken;
     answer
 }
@@ -67,6 +82,14 @@ fn measured_search(part: &str, planner: &Planner, scratch: &mut [u64; 64], most:
         "jump-safe" => (Some(jump_safe::<true>(planner.clone(), scratch, &mut steps)), steps),
         "bare-least" => (Some(jump_least::<false>(planner.clone(), scratch, &mut steps)), steps),
         "bare-safe" => (Some(jump_safe::<false>(planner.clone(), scratch, &mut steps)), steps),
+        "lean-least" => (Some(ffi::lean_least(planner, &mut scratch[..1])), 0),
+        "lean-safe" => (Some(ffi::lean_margin_safe(planner, &mut scratch[..1])), 0),
+        "one-least" => (Some(one_least(planner.clone(), scratch, &mut steps)), steps),
+        "one-safe" => (Some(one_safe(planner.clone(), scratch, &mut steps)), steps),
+        "at-once" => {
+            let whole = ffi::fixed_point(planner, 1, u64::MAX);
+            (Some(whole.answer()), whole.steps)
+        }
         "sixteens" => {
             let (answer, used) = sixteens(planner);
             (Some(answer), used)

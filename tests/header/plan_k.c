@@ -2,6 +2,7 @@
  * each number of a lent scratch or buffer, against its expected value. Prints what differs; exit status 1 where something does. */
 #include "k.h"
 #include "later.h"
+#include "lean.h"
 #include "steps.h"
 #include "strict.h"
 #include "save.h"
@@ -112,6 +113,7 @@ int main(void) {
   k = loaded("cp_load of 51 bytes of K", k, K, sizeof K - 1, answer(2, FLOW_2_AT, 0), planner_of_k());
   rows_of_k(k);
   searches(cp_empty(), k);
+  lean_searches(cp_empty(), k);
   fixed_points(cp_empty(), k);
   neighbours(k);
   uncrossed_port(k);

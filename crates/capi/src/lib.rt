@@ -17,6 +17,7 @@ ghost use Rattle.plan_reading.specs.Reading.{loose, strict};
 ghost use Rattle.tables.specs.Tables.{planOf};
 ghost use Rattle.loading.specs.Outcome.{loadAnswer, loadLeaves};
 ghost use Rattle.questions.specs.Outcome.{checkAnswer, slackAnswer, leastAnswer, leastLeaves, marginSafeAnswer, marginSafeLeaves};
+ghost use Rattle.questions.specs.Lean.{leanLeastAnswer, leanLeastLeaves, leanMarginSafeAnswer, leanMarginSafeLeaves};
 ghost use Rattle.questions.specs.FixedPoint.{fixedPointAnswer};
 ghost use Rattle.questions.specs.Reprice.{repriceAnswer, repriceLeaves};
 ghost use Rattle.saving.specs.Save.{saveAnswer, saveLeaves};
@@ -140,6 +141,26 @@ pub extern "C" fn cp_margin_safe(planner: Planner, scratch: &mut [u64]) -> Answe
 }
 
 // The numbers mean what the answer of `planner::fixed_point` means.
+#[no_mangle]
+pub extern "C" fn cp_lean_least(planner: Planner, scratch: &mut [u64]) -> AnswerNumbers
+    ensures { λ r. ⌜
+        (r ≡ searchNumbers (leanLeastAnswer (planOf planner) (now (scratch .entry))))
+        × (now (scratch .exit) ≡ leanLeastLeaves (planOf planner) (now (scratch .entry)))
+        ⌝ }
+{
+    least_in_c(planner::lean_least(planner, scratch))
+}
+
+#[no_mangle]
+pub extern "C" fn cp_lean_margin_safe(planner: Planner, scratch: &mut [u64]) -> AnswerNumbers
+    ensures { λ r. ⌜
+        (r ≡ searchNumbers (leanMarginSafeAnswer (planOf planner) (now (scratch .entry))))
+        × (now (scratch .exit) ≡ leanMarginSafeLeaves (planOf planner) (now (scratch .entry)))
+        ⌝ }
+{
+    margin_safe_in_c(planner::lean_margin_safe(planner, scratch))
+}
+
 #[no_mangle]
 pub extern "C" fn cp_fixed_point(
     planner: Planner,

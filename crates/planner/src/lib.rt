@@ -1,5 +1,6 @@
 // The cycle planner: the held plan, the load, and the questions.
 mod calls;
+mod lean;
 mod number;
 
 pub use calls::check;
@@ -11,6 +12,8 @@ pub use calls::reprice;
 pub use calls::save;
 pub use calls::slack;
 pub use gate_writing::GatesAnswer;
+pub use lean::lean_least;
+pub use lean::lean_margin_safe;
 pub use loading::LoadAnswer;
 pub use loading::LoadOutcome;
 pub use loading::load;

@@ -7,13 +7,15 @@ use Rattle.cqf.specs.Plan.{Plan, noPlan}
 use Rattle.plan_reading.specs.Reading.{PlanRead, accepted, rejected, Mode, readAs}
 use Rattle.loading.specs.Outcome.{loadLeaves}
 
--- a question, with what it is given; the two searches are lent a scratch, those that write fields a buffer, and the
--- question of another frame length a list of signed numbers
+-- a question, with what it is given; the searches are lent a scratch, the lean ones of one number at least, those that write fields
+-- a buffer, and the question of another frame length a list of signed numbers
 pub data Question : Type 0 where
   check : (duration : ℕ) → Question
   slack : (port duration : ℕ) → Question
   least : (scratch : List ℕ) → Question
   marginSafe : (scratch : List ℕ) → Question
+  leanLeast : (scratch : List ℕ) → Question
+  leanMarginSafe : (scratch : List ℕ) → Question
   fixedPoint : (start steps : ℕ) → Question
   save : (buffer : List ℕ) → Question
   gates : (duration even odd : ℕ) (buffer : List ℕ) → Question

@@ -9,5 +9,6 @@ pub mod Iterations
 pub mod FixedPointMeaning
 pub mod GatesMeaning
 pub mod Repriced
+pub mod Lean
 pub mod laws
 pub mod results

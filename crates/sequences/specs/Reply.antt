@@ -7,11 +7,12 @@ use Rattle.cqf.specs.Plan.{Plan}
 use Rattle.answers.specs.Answer.{Answer, refusal}
 use Rattle.answers.specs.Refusals.{noPlanHeld}
 use Rattle.questions.specs.Outcome.{checkAnswer, slackAnswer, leastAnswer, leastLeaves, marginSafeAnswer, marginSafeLeaves}
+use Rattle.questions.specs.Lean.{leanLeastAnswer, leanLeastLeaves, leanMarginSafeAnswer, leanMarginSafeLeaves}
 use Rattle.questions.specs.FixedPoint.{FixedPoint, fixedPointAnswer}
 use Rattle.questions.specs.Reprice.{repriceAnswer, repriceLeaves}
 use Rattle.saving.specs.Save.{saveAnswer, saveLeaves}
 use Rattle.gate_writing.specs.Gates.{gatesAnswer, gatesLeaves}
-use Rattle.sequences.specs.Calls.{Question, check, slack, least, marginSafe, fixedPoint, save, gates, reprice}
+use Rattle.sequences.specs.Calls.{Question, check, slack, least, marginSafe, leanLeast, leanMarginSafe, fixedPoint, save, gates, reprice}
 
 pub data Reply : Type 0 where
   ofCheck : Answer (Unit {0}) → Reply
@@ -26,6 +27,8 @@ reply p (check T) = ofCheck (checkAnswer p T)
 reply p (slack n T) = ofSlack (slackAnswer p n T)
 reply p (least scratch) = ofSearch (leastAnswer p scratch) (leastLeaves p scratch)
 reply p (marginSafe scratch) = ofSearch (marginSafeAnswer p scratch) (marginSafeLeaves p scratch)
+reply p (leanLeast scratch) = ofSearch (leanLeastAnswer p scratch) (leanLeastLeaves p scratch)
+reply p (leanMarginSafe scratch) = ofSearch (leanMarginSafeAnswer p scratch) (leanMarginSafeLeaves p scratch)
 reply p (fixedPoint start steps) = ofFixedPoint (fixedPointAnswer p start steps)
 reply p (save buffer) = ofWriting (saveAnswer p buffer) (saveLeaves p buffer)
 reply p (gates T even odd buffer) = ofWriting (gatesAnswer p T even odd buffer) (gatesLeaves p T even odd buffer)
@@ -37,6 +40,8 @@ noPlanReply (check T) = ofCheck (refusal noPlanHeld (0 ∷ []))
 noPlanReply (slack n T) = ofSlack (refusal noPlanHeld (0 ∷ []))
 noPlanReply (least scratch) = ofSearch (refusal noPlanHeld (0 ∷ [])) scratch
 noPlanReply (marginSafe scratch) = ofSearch (refusal noPlanHeld (0 ∷ [])) scratch
+noPlanReply (leanLeast scratch) = ofSearch (refusal noPlanHeld (0 ∷ [])) scratch
+noPlanReply (leanMarginSafe scratch) = ofSearch (refusal noPlanHeld (0 ∷ [])) scratch
 noPlanReply (fixedPoint start steps) = ofFixedPoint (refusal noPlanHeld (0 ∷ []))
 noPlanReply (save buffer) = ofWriting (refusal noPlanHeld (0 ∷ [])) buffer
 noPlanReply (gates T even odd buffer) = ofWriting (refusal noPlanHeld (0 ∷ [])) buffer

@@ -6,3 +6,4 @@ pub mod SaveTheorem
 pub mod GatesTheorem
 pub mod LighterTheorem
 pub mod RepricedTheorem
+pub mod LeanTheorem

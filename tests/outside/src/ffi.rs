@@ -16,6 +16,8 @@ extern "C" {
     fn cp_slack(planner: Planner, port: u64, duration: u64) -> SlackAnswer;
     fn cp_least(planner: Planner, scratch: *mut u64, length: usize) -> Answer;
     fn cp_margin_safe(planner: Planner, scratch: *mut u64, length: usize) -> Answer;
+    fn cp_lean_least(planner: Planner, scratch: *mut u64, length: usize) -> Answer;
+    fn cp_lean_margin_safe(planner: Planner, scratch: *mut u64, length: usize) -> Answer;
     fn cp_fixed_point(planner: Planner, start: u64, steps: u64) -> StepsAnswer;
     fn cp_reprice(planner: Planner, duration: u64, flow: u64, length: u64, list: *mut i64, size: usize) -> Answer;
     fn cp_save(planner: Planner, buffer: *mut u8, length: usize) -> Answer;
@@ -52,6 +54,14 @@ pub fn least(planner: &Planner, scratch: &mut [u64]) -> Answer {
 
 pub fn margin_safe(planner: &Planner, scratch: &mut [u64]) -> Answer {
     unsafe { cp_margin_safe(planner.clone(), scratch.as_mut_ptr(), scratch.len()) }
+}
+
+pub fn lean_least(planner: &Planner, scratch: &mut [u64]) -> Answer {
+    unsafe { cp_lean_least(planner.clone(), scratch.as_mut_ptr(), scratch.len()) }
+}
+
+pub fn lean_margin_safe(planner: &Planner, scratch: &mut [u64]) -> Answer {
+    unsafe { cp_lean_margin_safe(planner.clone(), scratch.as_mut_ptr(), scratch.len()) }
 }
 
 pub fn fixed_point(planner: &Planner, start: u64, steps: u64) -> StepsAnswer {

@@ -30,11 +30,11 @@ pub mod strict;
 mod strict_k;
 mod worked;
 
-use crate::answers::Planner;
+use crate::answers::{Answer, Planner};
 use crate::ffi;
 use crate::model::fixed_point::fixed_point;
 use crate::model::save::written;
-use crate::model::spans::{first_past, search, spans, Search, Span};
+use crate::model::spans::{first_past, lean_search, search, spans, Search, Span};
 use crate::model::{self as judge, Flow, Plan};
 use crate::report::Tally;
 use crate::rng::Rng;
@@ -43,6 +43,7 @@ use reprice::{ask_reprice, some_flow, FRAMES};
 use save::ask_save;
 
 pub const LENGTHS: [usize; 5] = [0, 63, 64, 65, 100];
+pub const LEAN_LENGTHS: [usize; 4] = [0, 1, 2, 64];
 
 /// Durations worth asking: the ends, the guard bands, points where a demand rises.
 pub fn durations(plan: &Plan, rng: &mut Rng) -> Vec<u64> {
@@ -90,19 +91,34 @@ pub fn ask_slack(tally: &mut Tally, planner: &Planner, plan: Option<&Plan>, port
     tally.same(format_args!("cp_slack({port}, {duration})"), ffi::slack(planner, port, duration), want);
 }
 
+type Ask = fn(&Planner, &mut [u64]) -> Answer;
+type Judge = fn(Option<(&Plan, &[Span])>, Search, &[u64]) -> (Answer, Vec<u64>);
+
+/// One search with a patterned scratch: the answer, and each number of the scratch.
+fn ask_search(tally: &mut Tally, planner: &Planner, held: Option<(&Plan, &[Span])>, call: &'static str, ask: Ask, want: (Judge, Search), pattern: &[u64]) {
+    let mut scratch = pattern.to_vec();
+    let (answer, after) = want.0(held, want.1, pattern);
+    tally.saw(call, answer.refusal);
+    tally.same(format_args!("cp_{call}(scratch of {})", pattern.len()), ask(planner, &mut scratch), answer);
+    tally.same(format_args!("scratch after cp_{call}({})", pattern.len()), &scratch, &after);
+}
+
+fn pattern(length: usize, rng: &mut Rng) -> Vec<u64> {
+    (0..length).map(|_| rng.next()).collect()
+}
+
 /// Both searches with a patterned scratch of one length.
 pub fn ask_searches(tally: &mut Tally, planner: &Planner, held: Option<(&Plan, &[Span])>, length: usize, rng: &mut Rng) {
-    let pattern: Vec<u64> = (0..length).map(|_| rng.next()).collect();
-    let mut scratch = pattern.clone();
-    let (answer, after) = search(held, Search::Least, &pattern);
-    tally.saw("least", answer.refusal);
-    tally.same(format_args!("cp_least(scratch of {length})"), ffi::least(planner, &mut scratch), answer);
-    tally.same(format_args!("scratch after cp_least({length})"), &scratch, &after);
-    let mut scratch = pattern.clone();
-    let (answer, after) = search(held, Search::MarginSafe, &pattern);
-    tally.saw("margin_safe", answer.refusal);
-    tally.same(format_args!("cp_margin_safe(scratch of {length})"), ffi::margin_safe(planner, &mut scratch), answer);
-    tally.same(format_args!("scratch after cp_margin_safe({length})"), &scratch, &after);
+    let pattern = pattern(length, rng);
+    ask_search(tally, planner, held, "least", ffi::least, (search, Search::Least), &pattern);
+    ask_search(tally, planner, held, "margin_safe", ffi::margin_safe, (search, Search::MarginSafe), &pattern);
+}
+
+/// Both searches over a scratch of one number or more, and over none.
+pub fn ask_lean(tally: &mut Tally, planner: &Planner, held: Option<(&Plan, &[Span])>, length: usize, rng: &mut Rng) {
+    let pattern = pattern(length, rng);
+    ask_search(tally, planner, held, "lean_least", ffi::lean_least, (lean_search, Search::Least), &pattern);
+    ask_search(tally, planner, held, "lean_margin_safe", ffi::lean_margin_safe, (lean_search, Search::MarginSafe), &pattern);
 }
 
 /// The iteration from a start with so many steps.
@@ -148,4 +164,6 @@ pub fn ask_all(tally: &mut Tally, planner: &Planner, plan: Option<&Plan>, rng: &
     for length in [length, 64] {
         ask_searches(tally, planner, plan.zip(found.as_deref()), length, rng);
     }
+    let length = rng.pick(&LEAN_LENGTHS);
+    ask_lean(tally, planner, plan.zip(found.as_deref()), length, rng);
 }

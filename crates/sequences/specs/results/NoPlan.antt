@@ -26,6 +26,7 @@ use Rattle.saving.specs.laws.Saved.{save-none, save-keeps}
 use Rattle.gate_writing.specs.laws.Gates.{gates-none, gates-keeps}
 use Rattle.questions.specs.laws.Reprice.{reprice-none}
 use Rattle.questions.specs.laws.Searched.{ends-no-plan, least-ends, margin-safe-ends}
+use Rattle.questions.specs.laws.Leanly.{lean-no-plan, lean-least-ends, lean-margin-safe-ends}
 
 -- tables that are not valid
 answers-none : (p : Plan) → validPlan p ≡ false → (x : Question) → reply p x ≡ noPlanReply x
@@ -36,6 +37,12 @@ answers-none p e (Calls.least scratch) =
     ap₂ ofSearch (sym (h .0)) (sym (h .1))
 answers-none p e (Calls.marginSafe scratch) =
     let h = margin-safe-ends p scratch (ends-no-plan noMarginSafe marginSafe p scratch e) in
+    ap₂ ofSearch (sym (h .0)) (sym (h .1))
+answers-none p e (Calls.leanLeast scratch) =
+    let h = lean-least-ends p scratch (lean-no-plan noLeast least p scratch e) in
+    ap₂ ofSearch (sym (h .0)) (sym (h .1))
+answers-none p e (Calls.leanMarginSafe scratch) =
+    let h = lean-margin-safe-ends p scratch (lean-no-plan noMarginSafe marginSafe p scratch e) in
     ap₂ ofSearch (sym (h .0)) (sym (h .1))
 answers-none p e (Calls.fixedPoint start steps) = ap ofFixedPoint (fixed-point-none p start steps e)
 answers-none p e (Calls.save buffer) = ap₂ ofWriting (save-none p buffer e) (save-keeps p buffer e)

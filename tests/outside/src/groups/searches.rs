@@ -1,6 +1,6 @@
-//! The two searches, with scratches of several lengths and tops in and around gaps.
+//! The two searches over 64 numbers and over one, with scratches of several lengths and tops in and around gaps.
 
-use super::{ask_searches, LENGTHS};
+use super::{ask_lean, ask_searches, LEAN_LENGTHS, LENGTHS};
 use crate::ffi;
 use crate::gen::{self, encode, laden, Piece};
 use crate::model::read::read;
@@ -16,6 +16,9 @@ fn ask_lengths(tally: &mut Tally, case: u64, pieces: &[Piece], rng: &mut Rng) ->
     let planner = ffi::load(&ffi::empty(), &bytes).0;
     for length in LENGTHS {
         ask_searches(tally, &planner, Some((&plan, &found)), length, rng);
+    }
+    for length in LEAN_LENGTHS {
+        ask_lean(tally, &planner, Some((&plan, &found)), length, rng);
     }
     found
 }
@@ -76,6 +79,7 @@ pub fn run(tally: &mut Tally) {
     for length in LENGTHS {
         let mut rng = tally.rng(length as u64);
         ask_searches(tally, &ffi::empty(), None, length, &mut rng);
+        ask_lean(tally, &ffi::empty(), None, length, &mut rng);
     }
     for case in 0..tally.cases {
         let mut rng = tally.rng(case);
@@ -106,4 +110,6 @@ pub fn run(tally: &mut Tally) {
     tally.must_have_seen("spans with clocks, 2 for more", &[0, 1, 2]);
     tally.must_have_seen("least", &[0, 11, 20, 22]);
     tally.must_have_seen("margin_safe", &[0, 11, 20, 23]);
+    tally.must_have_seen("lean_least", &[0, 11, 20, 22]);
+    tally.must_have_seen("lean_margin_safe", &[0, 11, 20, 23]);
 }

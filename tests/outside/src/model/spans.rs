@@ -134,6 +134,17 @@ pub enum Search {
     MarginSafe,
 }
 
+/// The answer of a search of a held plan, and the duration that the scratch tells of.
+fn answered(plan: &Plan, spans: &[Span], which: Search) -> (Answer, u64) {
+    match which {
+        Search::Least => settle(plan, spans.first().map(|span| span.0), 22),
+        Search::MarginSafe => {
+            let last = spans.last().filter(|span| span.1 == plan.top);
+            settle(plan, last.map(|span| span.0), 23)
+        }
+    }
+}
+
 /// A search: the answer, and the scratch as the call leaves it.
 pub fn search(held: Option<(&Plan, &[Span])>, which: Search, scratch: &[u64]) -> (Answer, Vec<u64>) {
     let mut after = scratch.to_vec();
@@ -144,16 +155,26 @@ pub fn search(held: Option<(&Plan, &[Span])>, which: Search, scratch: &[u64]) ->
     if scratch.len() < 64 {
         return (Answer::refused(11), after);
     }
-    let (answer, told) = match which {
-        Search::Least => settle(plan, spans.first().map(|span| span.0), 22),
-        Search::MarginSafe => {
-            let last = spans.last().filter(|span| span.1 == plan.top);
-            settle(plan, last.map(|span| span.0), 23)
-        }
-    };
+    let (answer, told) = answered(plan, spans, which);
     after[..64].fill(0);
     for (port, demand) in plan.demands(told) {
         after[port as usize - 1] = demand;
     }
+    (answer, after)
+}
+
+/// The same over a scratch of one number or more: its first is the demand of the highest port that a route names.
+pub fn lean_search(held: Option<(&Plan, &[Span])>, which: Search, scratch: &[u64]) -> (Answer, Vec<u64>) {
+    let mut after = scratch.to_vec();
+    let (plan, spans) = match held {
+        Some(held) => held,
+        None => return (Answer::refused(20), after),
+    };
+    if scratch.is_empty() {
+        return (Answer::refused(11), after);
+    }
+    let (answer, told) = answered(plan, spans, which);
+    let highest = plan.flows.values().flat_map(|flow| &flow.route).max().expect("a route");
+    after[0] = plan.demands(told)[highest];
     (answer, after)
 }

@@ -1,0 +1,12 @@
+-- `capi::cp_lean_least` meets its contract: the planner's answer as numbers.
+use mathlib.Core.Path.{_∙_, ap}
+use borrow.Author.Needs.{needs}
+use Rattle.capi.specs.Numbers.{searchNumbers}
+use Rattle.capi.proofs.cp_lean_least.Statement.{statement}
+use Rattle.capi.proofs.cp_lean_least.Tie as tie
+
+returns : tie.Need-returns
+returns c = (c .least-in-c .ensures ∙ ap searchNumbers (c .before .before .before .lean-least .ensures .0), c .before .before .before .lean-least .ensures .1)
+
+pub cp-lean-least-spec : {M : Type 1} → statement M
+cp-lean-least-spec = tie.close (tie.spec (λ c κs. search needs) (λ c κs. search needs) (λ c. search needs) returns)

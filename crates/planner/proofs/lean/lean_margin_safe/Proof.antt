@@ -1,0 +1,11 @@
+-- `planner::lean::lean_margin_safe` meets its contract: the columns are lent on.
+use borrow.Author.Needs.{needs}
+use Rattle.questions.specs.laws.Leanly.{lean-margin-safe-ends}
+use Rattle.planner.proofs.lean.lean_margin_safe.Statement.{statement}
+use Rattle.planner.proofs.lean.lean_margin_safe.Tie as tie
+
+returns : tie.Need-returns
+returns c = lean-margin-safe-ends _ _ (c .before .before .lean-tables .ensures)
+
+pub lean-margin-safe-spec : {M : Type 1} → statement M
+lean-margin-safe-spec = tie.close (tie.spec (λ c κs. tt) (λ c. search needs) returns)
