@@ -6,6 +6,7 @@ use mathlib.Core.Bool.{cond}
 use lib.Dec.{ltb}
 use Rattle.cqf.specs.Plan.{Plan}
 use Rattle.cqf.specs.Port.{window}
+use Rattle.plan.specs.Bytes.{headSize}
 use Rattle.plan_reading.specs.FieldBytes.{bytes2, bytes4}
 
 abbrev pub gateTag : ℕ
@@ -13,6 +14,14 @@ gateTag = 0x21
 
 abbrev pub gateSize : ℕ
 gateSize = 5
+
+-- a whole field
+abbrev pub fieldSize : ℕ
+fieldSize = headSize + gateSize
+
+-- a port has eight queues, counted from 0
+abbrev pub queues : ℕ
+queues = 8
 
 -- gate states, and for how many ns they hold
 pub record Gates : Type 0 where
@@ -56,6 +65,10 @@ gateCycle p T even odd queue =
 unfoldable pub gateList : Plan → (T even odd : ℕ) → List Gates
 unfolding gateCycle
 gateList p T even odd = gateCycle p T even odd even ++ gateCycle p T even odd odd
+
+-- how many bytes that is: six fields where there is a guard band, two where there is none
+abbrev pub listSize : Plan → ℕ
+listSize p = fieldSize * cond (ltb 0 (p .guard)) 6 2
 
 unfoldable pub gateListBytes : Plan → (T even odd : ℕ) → List ℕ
 unfolding gateList listBytes

@@ -7,7 +7,7 @@ use mathlib.Core.Bool.{Bool, true, false, _&&_, _||_}
 use lib.Dec.{leb, ltb, eqb}
 use lib.ListN.{length, drop}
 use Rattle.plan.specs.Bytes.{byteAt, number4, headSize, tagAt, sizeAt, wholeAt}
-use Rattle.gate_lists.specs.GateList.{gateTag, gateSize, bit}
+use Rattle.gate_lists.specs.GateList.{gateTag, gateSize, fieldSize, queues, bit}
 
 -- whether the list begins with a whole field of its kind, its states and its interval, and the fields after it
 abbrev pub begins : List ℕ → Bool
@@ -20,7 +20,7 @@ abbrev pub firstInterval : List ℕ → ℕ
 firstInterval s = number4 s (headSize + 1)
 
 abbrev pub others : List ℕ → List ℕ
-others s = drop (headSize + gateSize) s
+others s = drop fieldSize s
 
 -- the gate states t ns after the start of the list; none past its end. The first number bounds how many fields are played: the
 -- list's length is enough.
@@ -92,12 +92,12 @@ pub record Opens (S T even odd t states : ℕ) : Type 0 where
   pub even-open : isOpen states even ≡ leb S t && ltb (t + S) T
   pub odd-open : isOpen states odd ≡ leb (T + S) t && ltb (t + S) (2 * T)
   pub never-both : isOpen states even && isOpen states odd ≡ false
-  pub six-open : (q : ℕ) → q < 8 → (q ≡ even → ⊥) → (q ≡ odd → ⊥) → isOpen states q ≡ true
+  pub six-open : (q : ℕ) → q < queues → (q ≡ even → ⊥) → (q ≡ odd → ⊥) → isOpen states q ≡ true
 
 -- The list is fields and nothing else, and no interval is 0; it plays two cycles, the second begins with a field of its own, and
 -- at each of their instants the gates are as `Opens` says.
 pub record PlaysTwoCycles (S T even odd : ℕ) (s : List ℕ) : Type 0 where
-  pub whole : length s ≡ (headSize + gateSize) * counted s
+  pub whole : length s ≡ fieldSize * counted s
   pub lasts : eachLasts s ≡ true
   pub total : played s ≡ 2 * T
   pub cycle-ends : fieldEnds s T ≡ true

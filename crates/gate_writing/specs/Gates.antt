@@ -1,20 +1,20 @@
 -- What the question for a gate control list answers and leaves in the lent buffer, for any held plan, any duration, any two queues
 -- and any buffer. Tables that are not valid count as no plan held (refusal 20).
-use Prim.Native.Nat.{ℕ}
+use Prim.Native.Nat.{ℕ, _-_}
 use mathlib.Core.List.{List, [], _∷_}
 use mathlib.Core.Bool.{Bool, cond, not, _&&_}
 use lib.Dec.{leb, eqb}
 use Rattle.cqf.specs.Plan.{Plan, validPlan}
 use Rattle.cqf.specs.Condition.{admissible, failing, lowestFailing}
-use Rattle.gate_lists.specs.GateList.{gateListBytes}
+use Rattle.gate_lists.specs.GateList.{queues, gateListBytes}
 use Rattle.answers.specs.Answer.{Answer, refusal}
 use Rattle.answers.specs.Refusals.{badQueue, notAdmissible}
 use Rattle.questions.specs.Outcome.{asked, failingAt}
 use Rattle.writing.specs.Answer.{writtenAnswer, writtenLeaves}
 
--- the last of the eight queues of a port, counted from 0
+-- the last queue of a port
 abbrev pub lastQueue : ℕ
-lastQueue = 7
+lastQueue = queues - 1
 
 -- two different queues of the eight
 abbrev pub queuesOk : (even odd : ℕ) → Bool

@@ -5,8 +5,7 @@ use mathlib.Core.Bool.{true, cond}
 use mathlib.Core.List.{List, _++_}
 use lib.Dec.{ltb}
 use Rattle.cqf.specs.Port.{windowOf}
-use Rattle.plan.specs.Bytes.{headSize}
-use Rattle.gate_lists.specs.GateList.{gateSize, gateBytes, listBytes, lasting, bothClosed, oneOpen}
+use Rattle.gate_lists.specs.GateList.{fieldSize, gateBytes, listBytes, lasting, bothClosed, oneOpen}
 use Rattle.gate_writing.specs.Gates.{queuesOk}
 
 -- a field: gate states, and for how many ns they hold; and the same, left out where it is 0 ns
@@ -29,7 +28,7 @@ listOf guard T even odd =
 
 -- how many bytes they are
 abbrev pub lastingSize : (interval : ℕ) → ℕ
-lastingSize interval = cond (ltb 0 interval) (headSize + gateSize) 0
+lastingSize interval = cond (ltb 0 interval) fieldSize 0
 
 abbrev pub cycleSize : (guard window : ℕ) → ℕ
 cycleSize guard window = lastingSize guard + lastingSize window + lastingSize guard

@@ -3,8 +3,12 @@ mod states; // states.rt: queues, and the gate states of two of them
 mod gate; // gate.rt: a field of the list
 mod list; // list.rt: a cycle, and the list of two
 mod answer; // answer.rt: the answers in their order
-mod gates; // question.rt: the question
+mod gates; // gates.rt: the question
 
+pub use gate::FIELD_SIZE;
+pub use gate::INTERVAL_AT;
+pub use gate::MOST_BYTES;
+pub use gate::STATES_AT;
 pub use gates::gates_tables;
 
 pub enum GatesAnswer {

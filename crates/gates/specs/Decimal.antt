@@ -1,5 +1,5 @@
 -- A number written in decimal digits, as ASCII has them, and the number that the program takes it for.
-use Prim.Native.Nat.{ℕ, _+_, _-_, _*_}
+use Prim.Native.Nat.{ℕ, _+_, _-_, _*_, _^_}
 use mathlib.Core.Bool.{Bool, cond, _&&_}
 use mathlib.Core.List.{List, [], _∷_}
 use mathlib.Core.Option.{Option, some, none}
@@ -24,7 +24,7 @@ digitsValue (d ∷ ds) = valueFrom 0 (d ∷ ds)
 
 -- the largest number of 64 bits, for any that is larger
 abbrev pub largest : ℕ
-largest = 18446744073709551615
+largest = 2 ^ 64 - 1
 
 unfoldable pub capped : ℕ → ℕ
 capped n = cond (leb n largest) n largest

@@ -4,33 +4,28 @@ use console::Output;
 use console::say;
 use console::say_hex;
 use console::say_number;
+use gate_writing::FIELD_SIZE;
+use gate_writing::INTERVAL_AT;
+use gate_writing::STATES_AT;
 ghost use mathlib.Core.Path.{_≡_};
-ghost use Prim.Native.Nat.{_+_, _≤_};
+ghost use Prim.Native.Nat.{_≤_};
 ghost use lib.ListN.{length};
-ghost use Rattle.plan.specs.Bytes.{headSize};
-ghost use Rattle.gate_lists.specs.GateList.{gateSize};
+ghost use Rattle.gate_lists.specs.GateList.{fieldSize};
 ghost use Rattle.gate_lists.specs.Playing.{firstStates, firstInterval};
-
-// A field: head, gate states, interval.
-const FIELD_SIZE: usize = 8;
-
-const STATES_AT: usize = 3;
-
-const INTERVAL_AT: usize = 4;
 
 // The interval is read in two halves.
 const LOW_HALF_AT: usize = INTERVAL_AT + 2;
 
 // The gate states of the field that the bytes begin with, and its interval.
 fn states(bytes: &[u8]) -> u8
-    requires { ⌜ headSize + gateSize ≤ length (now bytes) ⌝ }
+    requires { ⌜ fieldSize ≤ length (now bytes) ⌝ }
     ensures { λ r. ⌜ r ≡ firstStates (now (bytes .entry)) ⌝ }
 {
     bytes[STATES_AT]
 }
 
 fn interval(bytes: &[u8]) -> u32
-    requires { ⌜ headSize + gateSize ≤ length (now bytes) ⌝ }
+    requires { ⌜ fieldSize ≤ length (now bytes) ⌝ }
     ensures { λ r. ⌜ r ≡ firstInterval (now (bytes .entry)) ⌝ }
 {
     let high = plan::first_number(&bytes[INTERVAL_AT..]);

@@ -11,6 +11,7 @@ use console::say_refused_plan;
 use decimal::Parsed;
 use decimal::decimal;
 use entry::say_list;
+use gate_writing::MOST_BYTES;
 use planner::GatesAnswer;
 use planner::LoadAnswer;
 use planner::Planner;
@@ -18,9 +19,6 @@ use shortest::warn;
 
 // The program's name, and its three arguments.
 const WORDS: usize = 4;
-
-// The longest list: six fields.
-const MOST_BYTES: usize = 48;
 
 // An argument that is missing, empty, or longer than 4,096 bytes counts as no number.
 fn argument(i: usize) -> Parsed {

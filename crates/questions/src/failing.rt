@@ -22,7 +22,7 @@ ghost use Rattle.questions.specs.Failing.{setTo, failsIn, FailingAt};
 // One Mbit/s carries one bit in 1,000 ns.
 const NS_PER_BIT: u64 = 1_000;
 
-// What a port must be able to send, in bits times 1,000 ns.
+// What a port must be able to send, in thousandths of a bit.
 pub(crate) fn workload(blocking: u16, extra: u8, bits: u64) -> u64
     requires { ⌜ bits ≤ mostDemand ⌝ }
     ensures { λ r. ⌜ r ≡ workloadOf blocking extra bits ⌝ }

@@ -27,7 +27,8 @@ pub record Means (p : Plan) (T : ℕ) (refuses accepts : Type 0) : Type 0 where
   pub on-time : accepts → AllOnTime p T
 
 -- What is said of the plan held, after every sequence of calls that leaves the planner at these tables: the plan is the one in the
--- bytes of the last load in which the rules of its reading find no refusal.
+-- bytes of the last load in which the rules of its reading find no refusal. The mode is any: bytes that either load accepts say
+-- the same plan in both (`strict-accepts`), so what is said holds however they are read.
 abbrev pub OfHeld : Plan → (Plan → Type 0) → Type 0
 OfHeld tables Says =
     (calls : List Call) (mode : Mode) (bytes : List ℕ) (p : Plan) (ports flows : ℕ)

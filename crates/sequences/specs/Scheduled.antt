@@ -1,19 +1,15 @@
 -- What a gate control list is for: the bytes that were written, played as a reader plays them, are two cycles of the duration.
 use mathlib.Core.Path.{_≡_}
 use mathlib.Core.List.{List}
-use mathlib.Core.Bool.{true, cond}
+use mathlib.Core.Bool.{true}
 use Prim.Native.Nat.{ℕ, _≤_}
-use lib.Dec.{ltb}
 use lib.ListN.{length, take, drop}
 use Rattle.cqf.specs.Plan.{Plan}
+use Rattle.gate_lists.specs.GateList.{listSize}
 use Rattle.gate_lists.specs.Playing.{PlaysTwoCycles}
 use Rattle.answers.specs.Answer.{result}
 use Rattle.questions.specs.Outcome.{checkAnswer}
 use Rattle.gate_writing.specs.Gates.{queuesOk}
-
--- how many bytes a list has: six fields of 8 where there is a guard band, two where there is none
-abbrev pub listSize : Plan → ℕ
-listSize p = cond (ltb 0 (p .guard)) 48 16
 
 -- A buffer as it was and as it is left, with n bytes written. They play two cycles of T ns with the guard bands of the plan p: the
 -- intervals total 2T, none is 0 and one ends at T, each of the two queues is open in the window of its own cycle alone, so never

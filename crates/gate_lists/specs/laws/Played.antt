@@ -8,8 +8,8 @@ use native.Mathlib.Omega.{arith}
 use borrow.Author.Tests.{le-leb, lt-ltb, le-ltb, ltb-false, ne-eqb}
 use lib.Dec.{ltb, eqb}
 use lib.ListN.{length}
-use Rattle.plan.specs.Bytes.{number2, number4, sizeAt, wholeAt, headSize}
-use Rattle.gate_lists.specs.GateList.{Gates, gateSize, gateBytes, listBytes, lasting}
+use Rattle.plan.specs.Bytes.{number2, number4, sizeAt, wholeAt}
+use Rattle.gate_lists.specs.GateList.{Gates, fieldSize, gateBytes, listBytes, lasting}
 use Rattle.gate_lists.specs.Playing.{begins, firstInterval, playFor, playedAt, totalFor, played, countFor, counted, lastsFor, eachLasts, endsFor, fieldEnds}
 
 -- a field in front of other bytes
@@ -122,7 +122,7 @@ total-bytes (g ∷ gs) (more less fit) zero enough = absurd (omega arith)
 total-bytes (g ∷ gs) (more less fit) (suc n) enough =
     total-one g (listBytes gs) less n ∙ ap (λ (m : ℕ). g .interval + m) (total-bytes gs fit n (omega arith))
 
-count-bytes : (gs : List Gates) → AllFit gs → (n : ℕ) → length (listBytes gs) ≤ n → length (listBytes gs) ≡ (headSize + gateSize) * countFor n (listBytes gs)
+count-bytes : (gs : List Gates) → AllFit gs → (n : ℕ) → length (listBytes gs) ≤ n → length (listBytes gs) ≡ fieldSize * countFor n (listBytes gs)
 unfolding listBytes
 count-bytes [] all n enough = rw (count-none n)
 count-bytes (g ∷ gs) (more less fit) zero enough = absurd (omega arith)
@@ -148,7 +148,7 @@ pub plays : (gs : List Gates) → AllFit gs → (t : ℕ) → playedAt (listByte
 unfolding playedAt
 plays gs fit t = play-bytes gs fit (length (listBytes gs)) t (omega arith)
 
-pub counts : (gs : List Gates) → AllFit gs → length (listBytes gs) ≡ (headSize + gateSize) * counted (listBytes gs)
+pub counts : (gs : List Gates) → AllFit gs → length (listBytes gs) ≡ fieldSize * counted (listBytes gs)
 unfolding counted
 counts gs fit = count-bytes gs fit (length (listBytes gs)) (omega arith)
 

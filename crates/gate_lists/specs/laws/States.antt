@@ -6,7 +6,7 @@ use borrow.Author.Tests.{eqb-true}
 use lib.Dec.{eqb}
 use Rattle.cqf.specs.Bounded.{allTo}
 use Rattle.cqf.specs.laws.Bounded.{allTo-at}
-use Rattle.gate_lists.specs.GateList.{bit, bothClosed, oneOpen}
+use Rattle.gate_lists.specs.GateList.{queues, bit, bothClosed, oneOpen}
 use Rattle.gate_lists.specs.Playing.{isOpen}
 
 -- two truth values are the same
@@ -20,7 +20,7 @@ alike-true true false e = sym e
 alike-true false true e = e
 alike-true false false e = refl
 
--- of two different queues below 8: whether queue q is open where both are closed, and where one of the two is open
+-- of two different queues: whether queue q is open where both are closed, and where one of the two is open
 abbrev openAs : (even odd q : ℕ) → Bool
 openAs even odd q =
     alike (isOpen (bothClosed even odd) q) (not (eqb q even || eqb q odd))
@@ -30,7 +30,7 @@ all-open : allTo 8 (λ even. allTo 8 (λ odd. eqb even odd || allTo 8 (openAs ev
 unfolding allTo isOpen oneOpen bothClosed bit
 all-open = refl
 
-module _ (even odd : ℕ) (below : even < 8) (under : odd < 8) (apart : even ≡ odd → ⊥) where
+module _ (even odd : ℕ) (below : even < queues) (under : odd < queues) (apart : even ≡ odd → ⊥) where
   each : allTo 8 (openAs even odd) ≡ true
   each = go (eqb even odd) refl (allTo-at 8 _ (allTo-at 8 _ all-open even below) odd under)
     where
@@ -38,7 +38,7 @@ module _ (even odd : ℕ) (below : even < 8) (under : odd < 8) (apart : even ≡
       go true e h = absurd (apart (eqb-true even odd e))
       go false e h = h
 
-  module _ (q : ℕ) (less : q < 8) where
+  module _ (q : ℕ) (less : q < queues) where
     three : openAs even odd q ≡ true
     three = allTo-at 8 _ each q less
 

@@ -7,12 +7,12 @@ use mathlib.Core.Bool.{Bool, true, false, not, _&&_, _||_}
 use native.Mathlib.Omega.{arith}
 use borrow.Author.Tests.{lt-ltb, le-ltb, le-leb, lt-leb, ltb-true, ltb-false, eq-eqb, ne-eqb}
 use lib.Dec.{leb, ltb, eqb}
-use Rattle.gate_lists.specs.GateList.{Gates, bothClosed, oneOpen, lasting}
+use Rattle.gate_lists.specs.GateList.{Gates, queues, bothClosed, oneOpen, lasting}
 use Rattle.gate_lists.specs.Playing.{isOpen, Opens}
 use Rattle.gate_lists.specs.laws.States.{both-closed, even-only, odd-only}
 use Rattle.gate_lists.specs.laws.Played.{AllFit, all, playList, totalList, lastsList, endsList, play-lasting, total-lasting, lasts-lasting, ends-lasting, fit-lasting}
 
-module _ (S W even odd : ℕ) (below : even < 8) (under : odd < 8) (apart : even ≡ odd → ⊥) where
+module _ (S W even odd : ℕ) (below : even < queues) (under : odd < queues) (apart : even ≡ odd → ⊥) where
   abbrev T : ℕ
   T = S + (W + S)
 

@@ -12,8 +12,7 @@ use Rattle.cqf.specs.Port.{window}
 use Rattle.cqf.specs.Condition.{admissible}
 use Rattle.cqf.specs.laws.Longer.{longer}
 use Rattle.cqf.specs.laws.Ranges.{top-most}
-use Rattle.plan.specs.Bytes.{headSize}
-use Rattle.gate_lists.specs.GateList.{Gates, gateSize, listBytes, bothClosed, oneOpen, lasting, gateCycle, gateList, gateListBytes}
+use Rattle.gate_lists.specs.GateList.{Gates, fieldSize, listSize, queues, listBytes, bothClosed, oneOpen, lasting, gateCycle, gateList, gateListBytes}
 use Rattle.gate_lists.specs.Playing.{PlaysTwoCycles, playedAt, played, counted, eachLasts, fieldEnds}
 use Rattle.gate_lists.specs.laws.Played.{plays, totals, counts, each-lasts, field-ends}
 use Rattle.gate_lists.specs.laws.TwoCycles.{intervals, intervals-fit, intervals-total, intervals-last, intervals-end, intervals-at}
@@ -27,7 +26,7 @@ in-row a b c d =
 
 -- the list is its six intervals
 as-intervals
-    : (p : Plan) (T even odd : ℕ) (below : even < 8) (under : odd < 8) (apart : even ≡ odd → ⊥)
+    : (p : Plan) (T even odd : ℕ) (below : even < queues) (under : odd < queues) (apart : even ≡ odd → ⊥)
     → gateList p T even odd ≡ intervals (p .guard) (window p T) even odd below under apart
 unfolding gateList gateCycle
 as-intervals p T even odd below under apart =
@@ -45,7 +44,7 @@ module _ (p : Plan) (valid : validPlan p ≡ true) (T : ℕ) (first : 1 ≤ T) (
   in-cycle = omega (arith, longer p valid T first good)
 
   -- six fields with a guard band, two without
-  pub list-length : (even odd : ℕ) → length (gateListBytes p T even odd) ≡ cond (ltb 0 (p .guard)) 48 16
+  pub list-length : (even odd : ℕ) → length (gateListBytes p T even odd) ≡ listSize p
   unfolding gateListBytes gateList gateCycle listBytes
   list-length even odd = go (ltb 0 (p .guard)) (ltb 0 (window p T)) (lt-ltb 0 (window p T) window-positive)
     where
@@ -57,12 +56,12 @@ module _ (p : Plan) (valid : validPlan p ≡ true) (T : ℕ) (first : 1 ≤ T) (
           (let closed = cond guarded (record { states = bothClosed even odd; interval = p .guard } ∷ []) [] in
           (closed ++ (cond lasts (record { states = oneOpen even odd even; interval = window p T } ∷ []) [] ++ closed))
           ++ (closed ++ (cond lasts (record { states = oneOpen even odd odd; interval = window p T } ∷ []) [] ++ closed))))
-          ≡ cond guarded 48 16
+          ≡ fieldSize * cond guarded 6 2
       go true true e = refl
       go false true e = refl
       go guarded false e = let z : _≡_ {A = ℕ} 0 1 = cc in absurd (omega arith)
 
-  module _ (even odd : ℕ) (below : even < 8) (under : odd < 8) (apart : even ≡ odd → ⊥) where
+  module _ (even odd : ℕ) (below : even < queues) (under : odd < queues) (apart : even ≡ odd → ⊥) where
     -- the list plays two cycles, with each queue open in the window of its own cycle alone and the other six always
     pub plays-two-cycles : PlaysTwoCycles (p .guard) T even odd (gateListBytes p T even odd)
     unfolding gateListBytes
@@ -74,7 +73,7 @@ module _ (p : Plan) (valid : validPlan p ≡ true) (T : ℕ) (first : 1 ≤ T) (
         let fit = intervals-fit S W even odd below under apart fits in
         let two : PlaysTwoCycles S (S + (W + S)) even odd (listBytes (gateList p T even odd)) =
         record {
-          whole = ap (λ (gs : List Gates). length (listBytes gs)) same ∙ counts _ fit ∙ ap (λ (gs : List Gates). (headSize + gateSize) * counted (listBytes gs)) (sym same);
+          whole = ap (λ (gs : List Gates). length (listBytes gs)) same ∙ counts _ fit ∙ ap (λ (gs : List Gates). fieldSize * counted (listBytes gs)) (sym same);
           lasts = ap (λ (gs : List Gates). eachLasts (listBytes gs)) same ∙ each-lasts _ fit ∙ intervals-last S W even odd below under apart;
           total = ap (λ (gs : List Gates). played (listBytes gs)) same ∙ totals _ fit ∙ intervals-total S W even odd below under apart;
           cycle-ends = ap (λ (gs : List Gates). fieldEnds (listBytes gs) (S + (W + S))) same ∙ field-ends _ fit _ ∙ intervals-end S W even odd below under apart window-positive;

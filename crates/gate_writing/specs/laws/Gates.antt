@@ -11,7 +11,7 @@ use lib.Seq.{take-at, drop-at}
 use Rattle.cqf.specs.Bounded.{within}
 use Rattle.cqf.specs.Plan.{Plan, validPlan}
 use Rattle.cqf.specs.Condition.{admissible}
-use Rattle.gate_lists.specs.GateList.{gateListBytes}
+use Rattle.gate_lists.specs.GateList.{queues, gateListBytes}
 use Rattle.writing.specs.Laid.{over}
 use Rattle.answers.specs.Answer.{Answer, result, refusal}
 use Rattle.answers.specs.Refusals.{badDuration, badQueue, noPlanHeld, notAdmissible}
@@ -26,10 +26,10 @@ module _ (even odd : ℕ) (ok : queuesOk even odd ≡ true) where
   others : leb odd lastQueue && not (eqb even odd) ≡ true
   others = and-eq-true-iff (leb even lastQueue) (leb odd lastQueue && not (eqb even odd)) .0 ok .1
 
-  pub even-below : even < 8
+  pub even-below : even < queues
   even-below = omega (arith, leb-true even lastQueue (and-eq-true-iff (leb even lastQueue) _ .0 ok .0))
 
-  pub odd-below : odd < 8
+  pub odd-below : odd < queues
   odd-below = omega (arith, leb-true odd lastQueue (and-eq-true-iff (leb odd lastQueue) (not (eqb even odd)) .0 others .0))
 
   pub queues-apart : even ≡ odd → ⊥

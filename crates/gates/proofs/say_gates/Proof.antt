@@ -1,9 +1,10 @@
 -- `say_gates` is safe: what was written is within the buffer.
 use mathlib.Core.Path.{sym, ap, _∙_}
-use Prim.Native.Nat.{_≤_}
+use Prim.Native.Nat.{_*_, _≤_}
 use native.Mathlib.Omega.{arith}
 use lib.Seq.{length-take-le}
 use borrow.Author.Needs.{needs}
+use Rattle.gate_lists.specs.GateList.{fieldSize}
 use Rattle.gate_writing.specs.Answer.{gatesOf}
 use Rattle.tables.specs.Tables.{planOf}
 use Rattle.gate_writing.specs.laws.Gates.{gates-fit}
@@ -15,7 +16,7 @@ module _ (c : tie.After-known-told) where
   abbrev asked : tie.After-gates
   asked = c .before .before .before .before
 
-  room : c .before .answer .given .0 .0 ≤ 48
+  room : c .before .answer .given .0 .0 ≤ 6 * fieldSize
   room =
       let a = asked .before .before .args in
       gates-fit (planOf (a .planner)) (a .duration) (a .even) (a .odd) _ _ (sym (asked .gates .ensures .0 .0) ∙ ap gatesOf (c .before .answer .given .1)) .room

@@ -9,7 +9,7 @@ use lib.ListN.{length}
 use Rattle.cqf.specs.Bounded.{within}
 use Rattle.cqf.specs.Plan.{Plan, validPlan}
 use Rattle.cqf.specs.Condition.{admissible}
-use Rattle.gate_lists.specs.GateList.{gateListBytes}
+use Rattle.gate_lists.specs.GateList.{listSize, gateListBytes}
 use Rattle.gate_lists.specs.Playing.{PlaysTwoCycles}
 use Rattle.gate_lists.specs.results.Theorem.{list-length, plays-two-cycles}
 use Rattle.plan_reading.specs.Reading.{accepted, Mode, readAs}
@@ -18,7 +18,7 @@ use Rattle.answers.specs.Answer.{result}
 use Rattle.questions.specs.Outcome.{checkAnswer}
 use Rattle.gate_writing.specs.Gates.{queuesOk, gatesAnswer, gatesLeaves}
 use Rattle.sequences.specs.GatesMeaning.{GatesMean}
-use Rattle.sequences.specs.Scheduled.{listSize, Schedules, Writable}
+use Rattle.sequences.specs.Scheduled.{Schedules, Writable}
 use Rattle.sequences.specs.Calls.{Call, after, heldBytes}
 use Rattle.questions.specs.laws.Answers.{check-accepts}
 use Rattle.sequences.specs.laws.Calls.{after-held}

@@ -35,7 +35,6 @@ pub put-gate-spec : {M : Type 1} → statement M
 put-gate-spec =
     tie.close
     (tie.spec
-    (λ c. search needs)
     returns
     (λ c. search needs)
     (λ c κs. search needs)
