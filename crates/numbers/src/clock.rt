@@ -66,9 +66,9 @@ pub fn widened(clock: Clock, duration: u32) -> u64
     ensures { λ r. ⌜ r ≡ widenedBy (clockOf clock) duration ⌝ }
 {
     let apart = duration as u64 + drifted(duration, clock.drift) + clock.timing_jitter as u64;
-    let clocksEqual = duration as u64 + 2 * (clock.sync_error as u64);
-    if apart < clocksEqual {
+    let offset = duration as u64 + 2 * (clock.sync_error as u64);
+    if apart < offset {
         return apart;
     }
-    clocksEqual
+    offset
 }

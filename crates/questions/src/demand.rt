@@ -19,7 +19,7 @@ ghost use Rattle.cqf.specs.Condition.{begunBy, framesBy, demand};
 ghost use Rattle.numbers.specs.Clock.{clockOf};
 ghost use Rattle.tables.specs.Columns.{columns, FlowsInRange, ExtrasInRange, Marked};
 
-// The periods that begin in a stretch or within the jitter before it: the quotient rounded up.
+// The periods that begin in a length of time or within the jitter before it: the quotient rounded up.
 fn periods_begun(widened: u32, jitter: u32, period: u32) -> u32
     requires { ⌜ (minPeriod ≤ period) × (period ≤ maxPeriod) × (jitter ≤ maxJitter) × (widened ≤ mostWidened) ⌝ }
     ensures { λ r. ⌜ r ≡ begunBy widened jitter period ⌝ }
@@ -27,7 +27,7 @@ fn periods_begun(widened: u32, jitter: u32, period: u32) -> u32
     (widened + jitter + (period - 1)) / period
 }
 
-// The frames that a flow brings in a stretch.
+// The frames that a flow brings in it.
 pub(crate) fn flow_frames(period: u32, count: u16, jitter: u32, widened: u32) -> u64
     requires { ⌜
         (minPeriod ≤ period)
