@@ -1,13 +1,14 @@
 -- What the searches port by port speak of: the routes alone, and how far one port's steps go.
 use mathlib.Core.Path.{_≡_}
-use mathlib.Core.Bool.{false}
+use mathlib.Core.Bool.{Bool, true, false}
 use mathlib.Core.List.{List, []}
-use Prim.Native.Nat.{ℕ, _≤_}
+use Prim.Native.Nat.{ℕ, suc, max, _≤_, _<_}
 use lib.ListN.{getD}
-use Rattle.cqf.specs.Plan.{Plan, equalClocks}
+use Rattle.cqf.specs.Limits.{portSlots}
+use Rattle.cqf.specs.Plan.{Plan, validPlan, equalClocks}
 use Rattle.cqf.specs.Condition.{fails}
 use Rattle.cqf.specs.Need.{needBy}
-use Rattle.cqf.specs.PortSteps.{PortSteps}
+use Rattle.cqf.specs.PortSteps.{PortSteps, portMarginSafe}
 use Rattle.tables.specs.Columns.{columns}
 
 -- the plan of the routes alone
@@ -18,6 +19,18 @@ routesOnly hops routes = columns equalClocks [] [] [] [] [] [] [] hops routes
 pub record Raised (p : Plan) (q from reached : ℕ) : Type 0 where
   pub steps : PortSteps p from reached
   pub passes : reached ≤ p .top → fails p reached q ≡ false
+
+-- Both ways of one walk: up from a duration, with top as the end; or down from top, with the least that is asked for as the end.
+pub record Walkable (p : Plan) (q : ℕ) (up : Bool) (end from : ℕ) : Type 0 where
+  pub valid : validPlan p ≡ true
+  pub slot : q < portSlots
+  pub upward : up ≡ true → (1 ≤ from) × (end ≡ p .top)
+  pub downward : up ≡ false → (from ≡ p .top) × (1 ≤ end) × (end ≤ suc (p .top))
+
+-- where it stops: up as `Raised` says; down one below the larger of the end and the port's own margin-safe duration
+pub record Walked (p : Plan) (q : ℕ) (up : Bool) (end from stop : ℕ) : Type 0 where
+  pub raised : up ≡ true → Raised p q from stop
+  pub lowered : up ≡ false → (stop ≤ p .top) × (suc stop ≡ max end (portMarginSafe p q))
 
 -- what the port in slot q needs, by the columns
 abbrev pub needIn : (guard : ℕ) (rates blockings extras demands : List ℕ) → ℕ → ℕ
