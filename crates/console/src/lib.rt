@@ -8,9 +8,9 @@ use libc::STDOUT_FILENO;
 use planner::LoadOutcome;
 
 // One byte more than a plan may have: a longer input is read no further.
-const ROOM: usize = loading::MAX_BYTES + 1;
+pub const ROOM: usize = loading::MAX_BYTES + 1;
 
-enum Input {
+pub enum Input {
     Bytes(usize),
     Failed,
 }
@@ -96,11 +96,11 @@ pub fn finish(out: Output) {
 }
 
 // One read, into the part of the buffer that is still free.
-fn read_more(buffer: &mut [u8], at: usize) -> Input
+fn read_more(from: i32, buffer: &mut [u8], at: usize) -> Input
     requires { ⌜ at ≤ length (now buffer) ⌝ }
     ensures { λ r. ⌜ Within (length (now (buffer .exit))) r ⌝ }
 {
-    let got = libc::read(STDIN_FILENO, &mut buffer[at..]);
+    let got = libc::read(from, &mut buffer[at..]);
     if got < 0 {
         return Input::Failed;
     }
@@ -109,12 +109,12 @@ fn read_more(buffer: &mut [u8], at: usize) -> Input
 }
 
 // Reads until the buffer is full or the input ends.
-fn read_input(buffer: &mut [u8]) -> Input
+pub fn read_input(from: i32, buffer: &mut [u8]) -> Input
     ensures { λ r. ⌜ Within (length (now (buffer .exit))) r ⌝ }
 {
     let mut at = 0;
     while at < buffer.len() {
-        match read_more(buffer, at) {
+        match read_more(from, buffer, at) {
             Input::Failed => {
                 return Input::Failed;
             }
@@ -139,7 +139,7 @@ fn load_bytes(readable: bool, bytes: &[u8]) -> Given
 fn load_input(buffer: &mut [u8]) -> Given
     ensures { λ r. ⌜ LoadedFrom (now (buffer .exit)) r ⌝ }
 {
-    let input = read_input(buffer);
+    let input = read_input(STDIN_FILENO, buffer);
     match input {
         Input::Failed => load_bytes(false, b""),
         Input::Bytes(n) => load_bytes(true, &buffer[..n]),

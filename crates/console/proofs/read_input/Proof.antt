@@ -8,10 +8,10 @@ use Rattle.console.proofs.read_input.Statement.{statement}
 use Rattle.console.proofs.read_input.Tie as tie
 
 abbrev Inv-loop : tie.InvT-loop
-Inv-loop buffer₀ at₀ buffer at = (at ≤ length buffer) × (length buffer ≡ length buffer₀)
+Inv-loop from buffer₀ at₀ buffer at = (at ≤ length buffer) × (length buffer ≡ length buffer₀)
 
 abbrev μ-loop : tie.MeasureT-loop
-μ-loop buffer₀ at₀ buffer at = length buffer₀ - at
+μ-loop from buffer₀ at₀ buffer at = length buffer₀ - at
 
 loop-again : tie.Need-loop-again Inv-loop μ-loop
 loop-again c =
