@@ -53,6 +53,10 @@ outOfOrder = 12
 abbrev pub shortBuffer : ℕ
 shortBuffer = 13
 
+-- document 02: a batch has no such slot
+abbrev pub badSlot : ℕ
+badSlot = 15
+
 -- document 02: a frame length outside its range
 abbrev pub badLength : ℕ
 badLength = 17
@@ -84,6 +88,14 @@ notCrossed = 24
 -- document 02: the steps did not suffice
 abbrev pub notFinished : ℕ
 notFinished = 26
+
+-- document 02: a plan placed in a slot that has one
+abbrev pub occupied : ℕ
+occupied = 27
+
+-- document 02: a slot that has no final answer
+abbrev pub unanswered : ℕ
+unanswered = 28
 
 -- document 02: a flow that is not in the plan
 abbrev pub absentFlow : ℕ

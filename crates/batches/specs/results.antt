@@ -1,0 +1,3 @@
+-- What is proved of batches.
+pub mod Theorem
+pub mod Sharp

@@ -1,0 +1,2 @@
+-- A worked example.
+pub mod Full

@@ -1,0 +1,1 @@
+// Batches of plans, as definitions, in specs/.
