@@ -1,0 +1,3 @@
+-- Laws of the code's slots.
+pub mod Slots
+pub mod Calls
