@@ -103,6 +103,40 @@ cp_answer cp_save(cp_planner planner, uint8_t *buffer, size_t length);
  * refusal writes nothing. */
 cp_answer cp_gates(cp_planner planner, uint64_t duration, uint64_t even, uint64_t odd, uint8_t *buffer, size_t length);
 
+/* A batch: eight plans whose least durations are searched in turn. For an office's computer and not for the cabinet: plain data of
+ * 63,368 bytes that goes into each call by value and comes back as the call leaves it; keep it so, and do not look inside. A call of
+ * these takes up to 223 KB of stack, beside the batch given and the outcome, 127 KB, that the caller holds, and copies up to 340 KB.
+ * No call here takes or gives a cp_planner: a plan held elsewhere stays as it is. A slot's state is 0 for no plan, 1 for a plan that
+ * is searched, with the duration reached and the steps used, and 2 to 5 for a final answer: found, 22, and 20 and 10 for tables and
+ * durations that no call leaves. Any other state, and state 1 with as many steps as its duration or more, is a slot with no plan; next
+ * counts modulo 8. */
+typedef struct {
+  uint64_t duration, steps;
+  uint32_t state, port, count;
+  cp_planner planner;
+} cp_slot;
+typedef struct { cp_slot slots[8]; uint64_t next; } cp_batch;
+typedef struct { cp_batch batch; cp_answer answer; } cp_place_outcome;
+typedef struct { cp_batch batch; uint64_t slot; } cp_serve_outcome;
+typedef struct { cp_batch batch; cp_fixed_point_answer answer; } cp_collect_outcome;
+
+/* The batch with no plan. */
+cp_batch cp_batch_empty(void);
+
+/* Reads a plan loosely into a slot, 0 to 7. Result: first = port fields, second = flow fields; the slot has the plan. Refusal 15, no
+ * such slot: 0, 0. 27, the slot has a plan, finished or not: 0, 0. Then as from cp_load. A refusal leaves the batch as it was. */
+cp_place_outcome cp_batch_place(cp_batch batch, uint64_t slot, const uint8_t *plan, size_t length);
+
+/* A turn: sixteen steps of cp_fixed_point, from 1 ns on and then from where the plan's last turn stopped, for one unfinished plan, the
+ * first from the slot after the last one served, going round, at first from slot 0. slot = the one served; 8 where no plan is
+ * unfinished, and then the batch is as it was. A plan that takes r steps has its final answer within 8 * ceil(r / 16) turns of being
+ * placed. */
+cp_serve_outcome cp_batch_serve(cp_batch batch);
+
+/* The final answer of a slot's plan, as from cp_fixed_point from 1 ns on with all its steps: a result or 22. The slot then has no plan
+ * and can be used again. Refusal 15, no such slot, and 28, no final answer there: 0, 0, 0; the batch is as it was. */
+cp_collect_outcome cp_batch_collect(cp_batch batch, uint64_t slot);
+
 /* The field at an offset of a plan, by tests 2 to 5. Result: tag 1 to 6; offset = the one after the field; numbers:
  * 1, header: guard, top; 2, port: number, rate, blocker; 3, flow: number, period, count, length, hops; 4, extra bytes per
  * frame at a port: port number, extra bytes; 5, release jitter of a flow: flow number, jitter; 6, clocks: drift,

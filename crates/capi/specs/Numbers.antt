@@ -1,11 +1,13 @@
 -- An outcome as numbers: document 01's refusal number, 0 for a result, and up to three numbers with it.
 use Prim.Native.Nat.{ℕ}
 use mathlib.Core.List.{List, [], _∷_}
+use mathlib.Core.Option.{Option, none, some}
 use lib.IntN.{ℤ, pos}
 use Rattle.answers.specs.Answer.{Answer, result, refusal}
 use Rattle.loading.specs.Outcome.{Fields}
 use Rattle.plan.specs.Field.{header, port, flow, extra, jitter, clock, FieldRead, field, refused, headerTag, portTag, flowTag, extraTag, jitterTag, clockTag}
 use Rattle.questions.specs.FixedPoint.{FixedPoint}
+use Rattle.batches.specs.Batch.{slotCount}
 use Rattle.capi.specs.declared.AnswerNumbers.{AnswerNumbers}
 use Rattle.capi.specs.declared.SlackAnswerNumbers.{SlackAnswerNumbers}
 use Rattle.capi.specs.declared.FixedPointAnswerNumbers.{FixedPointAnswerNumbers}
@@ -57,6 +59,11 @@ steppedWith number (a ∷ b ∷ n ∷ rest) = stepsAnswerNumbers number a b n
 abbrev pub stepsNumbers : Answer FixedPoint → FixedPointAnswerNumbers
 stepsNumbers (result r) = stepsAnswerNumbers 0 (r .duration) 0 (r .steps)
 stepsNumbers (refusal number values) = steppedWith number values
+
+-- the slot that a turn served: 8 for none
+abbrev pub servedNumber : Option ℕ → ℕ
+servedNumber none = slotCount
+servedNumber (some slot) = slot
 
 -- a field's tag and its numbers, 0 behind them
 abbrev pub fieldNumbers : FieldRead → FieldReadNumbers

@@ -127,7 +127,7 @@ pub(crate) fn margin_safe_in_c(answer: SearchAnswer) -> AnswerNumbers
     search_in_c(margin_safe_number(answer), answer)
 }
 
-fn stepped(refusal: u32, first: u64, second: u64, steps: u64) -> FixedPointAnswerNumbers
+pub(crate) fn stepped(refusal: u32, first: u64, second: u64, steps: u64) -> FixedPointAnswerNumbers
     ensures { λ r. ⌜ r ≡ (record { refusal = refusal; first = first; second = second; steps = steps }) ⌝ }
 {
     FixedPointAnswerNumbers {

@@ -7,8 +7,12 @@ use crate::answer_numbers::margin_safe_in_c;
 use crate::answer_numbers::outcome_numbers;
 use crate::answer_numbers::reprice_in_c;
 use crate::answer_numbers::slack_in_c;
+use crate::batch_numbers::collect_outcome_in_c;
+use crate::batch_numbers::place_outcome_in_c;
+use crate::batch_numbers::serve_outcome_in_c;
 use crate::written::gates_in_c;
 use crate::written::save_in_c;
+use planner::Batch;
 use planner::Planner;
 ghost use mathlib.Core.Path.{_≡_};
 ghost use Rattle.cqf.specs.Plan.{noPlan};
@@ -22,10 +26,13 @@ ghost use Rattle.questions.specs.FixedPoint.{fixedPointAnswer};
 ghost use Rattle.questions.specs.Reprice.{repriceAnswer, repriceLeaves};
 ghost use Rattle.saving.specs.Save.{saveAnswer, saveLeaves};
 ghost use Rattle.gate_writing.specs.Gates.{gatesAnswer, gatesLeaves};
+ghost use Rattle.batches.specs.Batch.{emptyBatch, placeAnswer, placeLeaves, serveAnswer, serveLeaves, collectAnswer, collectLeaves};
+ghost use Rattle.batching.specs.Slots.{batchOf};
 ghost use Rattle.capi.specs.Meaning.{CheckNumbersMean, StepsNumbersMean, GatesNumbersMean};
-ghost use Rattle.capi.specs.Numbers.{loadNumbers, checkNumbers, slackNumbers, searchNumbers, stepsNumbers, writtenNumbers, fieldNumbers};
+ghost use Rattle.capi.specs.Numbers.{loadNumbers, checkNumbers, slackNumbers, searchNumbers, stepsNumbers, writtenNumbers, servedNumber, fieldNumbers};
 
 mod answer_numbers; // answer_numbers.rt: each answer as numbers
+mod batch_numbers; // batch_numbers.rt: those of the calls of a batch
 mod written; // written.rt: those of the calls that write bytes
 
 #[repr(C)]
@@ -61,6 +68,25 @@ pub struct FieldReadNumbers {
     pub tag: u32,
     pub offset: u64,
     pub numbers: [u64; 5],
+}
+
+#[repr(C)]
+pub struct PlaceOutcomeNumbers {
+    pub batch: Batch,
+    pub answer: AnswerNumbers,
+}
+
+// The slot that was served; 8 for none.
+#[repr(C)]
+pub struct ServeOutcomeNumbers {
+    pub batch: Batch,
+    pub slot: u64,
+}
+
+#[repr(C)]
+pub struct CollectOutcomeNumbers {
+    pub batch: Batch,
+    pub answer: FixedPointAnswerNumbers,
 }
 
 #[no_mangle]
@@ -212,4 +238,32 @@ pub extern "C" fn cp_gates(
     ensures means { λ r. ⌜ GatesNumbersMean (planOf planner) duration even odd (now (buffer .entry)) (now (buffer .exit)) r ⌝ }
 {
     gates_in_c(planner::gates(planner, duration, even, odd, buffer))
+}
+
+#[no_mangle]
+pub extern "C" fn cp_batch_empty() -> Batch
+    ensures { λ r. ⌜ batchOf r ≡ emptyBatch ⌝ }
+{
+    planner::empty_batch()
+}
+
+#[no_mangle]
+pub extern "C" fn cp_batch_place(batch: Batch, slot: u64, plan: &[u8]) -> PlaceOutcomeNumbers
+    ensures { λ r. ⌜ (batchOf (r .batch) ≡ placeLeaves (batchOf batch) slot (now (plan .entry))) × (r .answer ≡ loadNumbers (placeAnswer (batchOf batch) slot (now (plan .entry)))) ⌝ }
+{
+    place_outcome_in_c(planner::place(batch, slot, plan))
+}
+
+#[no_mangle]
+pub extern "C" fn cp_batch_serve(batch: Batch) -> ServeOutcomeNumbers
+    ensures { λ r. ⌜ (batchOf (r .batch) ≡ serveLeaves (batchOf batch)) × (r .slot ≡ servedNumber (serveAnswer (batchOf batch))) ⌝ }
+{
+    serve_outcome_in_c(planner::serve(batch))
+}
+
+#[no_mangle]
+pub extern "C" fn cp_batch_collect(batch: Batch, slot: u64) -> CollectOutcomeNumbers
+    ensures { λ r. ⌜ (batchOf (r .batch) ≡ collectLeaves (batchOf batch) slot) × (r .answer ≡ stepsNumbers (collectAnswer (batchOf batch) slot)) ⌝ }
+{
+    collect_outcome_in_c(planner::collect(batch, slot))
 }

@@ -1,8 +1,19 @@
-// The cycle planner: the held plan, the load, and the questions.
+// The cycle planner: the held plan, the load, and the questions; and batches of plans.
 mod calls;
 mod lean;
 mod number;
 
+pub use batching::Batch;
+pub use batching::CollectAnswer;
+pub use batching::CollectOutcome;
+pub use batching::PlaceAnswer;
+pub use batching::PlaceOutcome;
+pub use batching::ServeAnswer;
+pub use batching::ServeOutcome;
+pub use batching::collect;
+pub use batching::empty_batch;
+pub use batching::place;
+pub use batching::serve;
 pub use calls::check;
 pub use calls::fixed_point;
 pub use calls::gates;
@@ -20,11 +31,13 @@ pub use loading::load;
 pub use loading::load_strict;
 pub use loading::read_plan;
 pub use number::check_number;
+pub use number::collect_number;
 pub use number::fixed_point_number;
 pub use number::gates_number;
 pub use number::least_number;
 pub use number::load_number;
 pub use number::margin_safe_number;
+pub use number::place_number;
 pub use number::reprice_number;
 pub use number::save_number;
 pub use number::slack_number;

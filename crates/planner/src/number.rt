@@ -1,4 +1,6 @@
 // The papers' number of each answer, 0 for a result.
+use batching::CollectAnswer;
+use batching::PlaceAnswer;
 use gate_writing::GatesAnswer;
 use loading::LoadAnswer;
 use plan::fault_number;
@@ -14,12 +16,15 @@ ghost use Rattle.loading.specs.Answer.{loadOf};
 ghost use Rattle.questions.specs.Answer.{checkOf, slackOf, searchOf, leastOf, marginSafeOf, fixedPointOf, repriceOf};
 ghost use Rattle.saving.specs.Answer.{saveOf};
 ghost use Rattle.gate_writing.specs.Answer.{gatesOf};
+ghost use Rattle.batching.specs.Answer.{placeOf, collectOf};
 
 const BAD_DURATION: u32 = 10;
 
 const SHORT_SCRATCH: u32 = 11;
 
 const SHORT_BUFFER: u32 = 13;
+
+const BAD_SLOT: u32 = 15;
 
 const BAD_LENGTH: u32 = 17;
 
@@ -36,6 +41,10 @@ const NO_MARGIN_SAFE: u32 = 23;
 const NOT_CROSSED: u32 = 24;
 
 const UNFINISHED: u32 = 26;
+
+const OCCUPIED: u32 = 27;
+
+const UNANSWERED: u32 = 28;
 
 const ABSENT_FLOW: u32 = 29;
 
@@ -149,5 +158,36 @@ pub fn gates_number(answer: GatesAnswer) -> u32
         GatesAnswer::Failing { port: _, count: _ } => NOT_ADMISSIBLE,
         GatesAnswer::BadQueue => BAD_QUEUE,
         GatesAnswer::ShortBuffer(_) => SHORT_BUFFER,
+    }
+}
+
+pub fn place_number(answer: PlaceAnswer) -> u32
+    ensures { λ r. ⌜ r ≡ refusalNumber (placeOf answer) ⌝ }
+{
+    match answer {
+        PlaceAnswer::Placed { ports: _, flows: _ } => 0,
+        PlaceAnswer::NoSlot => BAD_SLOT,
+        PlaceAnswer::Occupied => OCCUPIED,
+        PlaceAnswer::Refused { fault, offset: _ } => fault_number(fault) as u32,
+    }
+}
+
+pub fn collect_number(answer: CollectAnswer) -> u32
+    ensures { λ r. ⌜ r ≡ refusalNumber (collectOf answer) ⌝ }
+{
+    match answer {
+        CollectAnswer::Duration {
+            duration: _,
+            steps: _,
+        } => 0,
+        CollectAnswer::Failing {
+            port: _,
+            count: _,
+            steps: _,
+        } => NO_LEAST,
+        CollectAnswer::NoPlan => NO_PLAN,
+        CollectAnswer::BadStart => BAD_DURATION,
+        CollectAnswer::NoSlot => BAD_SLOT,
+        CollectAnswer::Unanswered => UNANSWERED,
     }
 }
