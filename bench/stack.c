@@ -1,6 +1,7 @@
 /* How far down the stack each call of the planner goes: the stack below the caller is painted, the call made, and the lowest
  * word that no longer has the paint looked up. The caller's own copies lie above that and are told apart: the planner given by
- * value, and the answer's place. Arguments: files with a plan, with one that is refused, and with one that no duration fits. */
+ * value, and the answer's place. With COPIES defined, how many bytes each call copies instead: the library calls memcpy for every
+ * block, and the linker's --wrap=memcpy leads that here. Arguments: files with a plan, with one that is refused, and with one that no duration fits. */
 #include "cycle_planner.h"
 #include <pthread.h>
 #include <stdio.h>
@@ -22,6 +23,10 @@ static uint64_t scratch[PORTS];
 static int64_t list[PORTS];
 static uint8_t buffer[MAX_BYTES];
 static uint8_t repeats;
+static cp_batch batch;
+static cp_place_outcome placed;
+static cp_serve_outcome served;
+static cp_collect_outcome collected;
 
 /* The stack pointer in the caller at the call, as a function of the same type sees it. */
 static char *at_call;
@@ -40,10 +45,23 @@ static cp_answer see_gates(cp_planner p, uint64_t d, uint64_t e, uint64_t o, uin
   SEEN; (void)p, (void)d, (void)e, (void)o, (void)b, (void)n; return answer;
 }
 static cp_field_read see_field(const uint8_t *b, size_t n, size_t o) { SEEN; (void)b, (void)n, (void)o; return field; }
+static cp_batch see_batch(void) { SEEN; return batch; }
+static cp_place_outcome see_place(cp_batch b, uint64_t s, const uint8_t *p, size_t n) { SEEN; (void)b, (void)s, (void)p, (void)n; return placed; }
+static cp_serve_outcome see_serve(cp_batch b) { SEEN; (void)b; return served; }
+static cp_collect_outcome see_collect(cp_batch b, uint64_t s) { SEEN; (void)b, (void)s; return collected; }
 static uint8_t see_repeats(const uint8_t *b, size_t n) { SEEN; (void)b, (void)n; return 0; }
 
-/* The bytes below the caller that the last measured call went through. */
-static size_t used;
+/* The bytes below the caller that the last measured call went through, and those that it copied. */
+static size_t used, copied;
+
+#ifdef COPIES
+/* The caller's own copies are made from its frame, which is not below the call. */
+void *__real_memcpy(void *to, const void *from, size_t size);
+void *__wrap_memcpy(void *to, const void *from, size_t size) {
+  if ((char *)__builtin_frame_address(0) < at_call - 2 * sizeof(void *)) copied += size;
+  return __real_memcpy(to, from, size);
+}
+#endif
 
 /* One call site for both functions, so that the stack pointer is the same in all rounds: the first sees it, the second binds
  * what the library takes from C's, the third is measured. Paint and search stay in this frame; a call would write below it. */
@@ -54,6 +72,7 @@ static size_t used;
       if (round == 2)                                                                                         \
         for (volatile uint64_t *word = (uint64_t *)(at_call - PAINTED); word < (uint64_t *)at_call; word++)   \
           *word = PAINT;                                                                                      \
+      copied = 0;                                                                                             \
       __VA_ARGS__;                                                                                            \
       call = CALL;                                                                                            \
     }                                                                                                         \
@@ -169,13 +188,38 @@ MEASURED(on_repeats) {
   return unused;
 }
 
+MEASURED(on_batch) {
+  MEASURE(cp_batch (*volatile call)(void), see_batch, cp_batch_empty, batch = call());
+  return unused;
+}
+
+MEASURED(on_place) {
+  MEASURE(cp_place_outcome (*volatile call)(cp_batch, uint64_t, const uint8_t *, size_t), see_place, cp_batch_place,
+          placed = call(batch, 7, accepted.bytes, accepted.length));
+  return unused;
+}
+
+MEASURED(on_serve) {
+  MEASURE(cp_serve_outcome (*volatile call)(cp_batch), see_serve, cp_batch_serve, served = call(batch));
+  return unused;
+}
+
+MEASURED(on_collect) {
+  MEASURE(cp_collect_outcome (*volatile call)(cp_batch, uint64_t), see_collect, cp_batch_collect, collected = call(batch, 7));
+  return unused;
+}
+
 static void row(const char *name, void *(*measured)(void *), size_t given, size_t given_back) {
   pthread_t thread;
   if (pthread_create(&thread, NULL, measured, NULL) != 0 || pthread_join(thread, NULL) != 0) exit(1);
   if (used >= PAINTED) exit(1);
   size_t with = used + given + given_back;
+#ifdef COPIES
+  (void)with, printf("%-23s %6zu %9.2f\n", name, copied, (double)copied / sizeof(cp_planner));
+#else
   printf("%-23s %6zu %9.2f %12zu %9.2f\n", name, used, (double)used / sizeof(cp_planner), with,
          (double)with / sizeof(cp_planner));
+#endif
 }
 
 static void read_plan(const char *path, plan_bytes *plan) {
@@ -204,7 +248,11 @@ static const char *const refusing[7] = {"cp_check, refused", "cp_slack, negative
 
 int main(int count, char **paths) {
   if (count != 4) return 1;
+#ifdef COPIES
+  printf("%-23s %6s %9s\n", "call", "bytes", "planners");
+#else
   printf("%-23s %6s %9s %12s %9s\n", "call", "bytes", "planners", "with caller", "planners");
+#endif
   row("cp_empty", on_empty, 0, sizeof empty);
   held = empty;
   read_plan(paths[3], &accepted);
@@ -236,6 +284,14 @@ int main(int count, char **paths) {
   if (answer.refusal == 0 || stepped.refusal != 22) return 1;
   row("cp_gates, refused", on_gates, sizeof held, sizeof answer);
   if (answer.refusal != 21) return 1;
+  row("cp_batch_empty", on_batch, 0, sizeof batch);
+  row("cp_batch_place", on_place, sizeof batch, sizeof placed);
+  if (placed.answer.refusal != 0) return 1;
+  batch = placed.batch;
+  row("cp_batch_serve", on_serve, sizeof batch, sizeof served);
+  if (served.slot != 7) return 1;
+  batch = served.batch;
+  row("cp_batch_collect", on_collect, sizeof batch, sizeof collected);
   row("cp_field", on_field, 0, sizeof field);
   row("cp_repeats", on_repeats, 0, sizeof repeats);
   return 0;

@@ -19,7 +19,7 @@ mod scan;
 mod valid;
 mod writer;
 
-use answers::{Answer, Planner};
+use answers::{Answer, Batch, Planner};
 use std::io::Write;
 use std::os::raw::c_long;
 
@@ -136,6 +136,29 @@ fn measured_save(part: &str, planner: &Planner, buffer: &mut [u8; BUFFER]) -> An
     }
 }
 
+/// Turns of a batch until its only plan has its final answer, counted likewise.
+#[no_mangle]
+#[inline(never)]
+fn measured_turns(batch: &mut Batch, slot: usize) -> u64 {
+    let mut turns = 0;
+    while batch.slots[slot].state == 1 {
+        *batch = ffi::serve(batch).0;
+        turns += 1;
+    }
+    turns
+}
+
+/// A plan in a batch: the answer, how many turns it took, and their microseconds.
+fn turns(plan: &[u8]) {
+    let slot = 7;
+    let (mut batch, placed) = ffi::place(&ffi::empty_batch(), slot, plan);
+    assert_eq!(placed.refusal, 0, "the plan is refused: {placed:?}");
+    let start = unsafe { clock() };
+    let turns = measured_turns(&mut batch, slot as usize);
+    let microseconds = unsafe { clock() } - start;
+    println!("{} {turns} {microseconds}", told(ffi::collect(&batch, slot).1.answer(), std::iter::empty()));
+}
+
 /// The spares along the route of a flow at top into a list: one call a port, or one call with the flow's own length.
 #[no_mangle]
 #[inline(never)]
@@ -241,6 +264,7 @@ fn main() {
             std::io::stdout().write_all(bytes).expect("cannot write");
         }
         [part @ ("load" | "read" | "read-by-port"), name] => load(loaded(name).expect("no such plan"), part),
+        ["turns", name] => turns(&searched(name).bytes),
         [part @ ("save" | "write"), name] => save(loaded(name).expect("no such plan"), part),
         [part @ ("reprice" | "slacks"), name] => reprice(&searched(name).bytes, part),
         [part, name] => search(searched(name), part),

@@ -91,6 +91,36 @@ impl Planner {
     }
 }
 
+/// A slot of a batch, laid out as the C header says.
+#[repr(C)]
+#[derive(Clone, PartialEq, Eq)]
+pub struct Slot {
+    pub duration: u64,
+    pub steps: u64,
+    pub state: u32,
+    pub port: u32,
+    pub count: u32,
+    pub planner: Planner,
+}
+
+#[repr(C)]
+#[derive(Clone, PartialEq, Eq)]
+pub struct Batch {
+    pub slots: [Slot; 8],
+    pub next: u64,
+}
+
+pub const BATCH_BYTES: usize = std::mem::size_of::<Batch>();
+const _: () = assert!(BATCH_BYTES == 8 * ((28 + PLANNER_BYTES + 7) / 8 * 8) + 8);
+
+impl Batch {
+    /// Plain integers, so every row of bytes is a batch.
+    pub fn from_bytes(bytes: &[u8]) -> Batch {
+        assert_eq!(bytes.len(), BATCH_BYTES);
+        unsafe { std::ptr::read_unaligned(bytes.as_ptr().cast()) }
+    }
+}
+
 impl Answer {
     pub fn new(refusal: u32, first: u64, second: u64) -> Answer {
         Answer { refusal, first, second }

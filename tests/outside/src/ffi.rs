@@ -1,11 +1,29 @@
 //! The C interface of the planner. A Rust slice is never null, an empty one neither.
 
-use crate::answers::{Answer, FieldRead, Planner, SlackAnswer, StepsAnswer};
+use crate::answers::{Answer, Batch, FieldRead, Planner, SlackAnswer, StepsAnswer};
 
 #[repr(C)]
 struct LoadOutcome {
     planner: Planner,
     answer: Answer,
+}
+
+#[repr(C)]
+struct PlaceOutcome {
+    batch: Batch,
+    answer: Answer,
+}
+
+#[repr(C)]
+struct ServeOutcome {
+    batch: Batch,
+    slot: u64,
+}
+
+#[repr(C)]
+struct CollectOutcome {
+    batch: Batch,
+    answer: StepsAnswer,
 }
 
 extern "C" {
@@ -22,6 +40,10 @@ extern "C" {
     fn cp_reprice(planner: Planner, duration: u64, flow: u64, length: u64, list: *mut i64, size: usize) -> Answer;
     fn cp_save(planner: Planner, buffer: *mut u8, length: usize) -> Answer;
     fn cp_gates(planner: Planner, duration: u64, even: u64, odd: u64, buffer: *mut u8, length: usize) -> Answer;
+    fn cp_batch_empty() -> Batch;
+    fn cp_batch_place(batch: Batch, slot: u64, plan: *const u8, length: usize) -> PlaceOutcome;
+    fn cp_batch_serve(batch: Batch) -> ServeOutcome;
+    fn cp_batch_collect(batch: Batch, slot: u64) -> CollectOutcome;
     fn cp_field(plan: *const u8, length: usize, offset: usize) -> FieldRead;
     fn cp_repeats(value: *const u8, length: usize) -> u8;
 }
@@ -78,6 +100,25 @@ pub fn save(planner: &Planner, buffer: &mut [u8]) -> Answer {
 
 pub fn gates(planner: &Planner, duration: u64, even: u64, odd: u64, buffer: &mut [u8]) -> Answer {
     unsafe { cp_gates(planner.clone(), duration, even, odd, buffer.as_mut_ptr(), buffer.len()) }
+}
+
+pub fn empty_batch() -> Batch {
+    unsafe { cp_batch_empty() }
+}
+
+pub fn place(batch: &Batch, slot: u64, plan: &[u8]) -> (Batch, Answer) {
+    let outcome = unsafe { cp_batch_place(batch.clone(), slot, plan.as_ptr(), plan.len()) };
+    (outcome.batch, outcome.answer)
+}
+
+pub fn serve(batch: &Batch) -> (Batch, u64) {
+    let outcome = unsafe { cp_batch_serve(batch.clone()) };
+    (outcome.batch, outcome.slot)
+}
+
+pub fn collect(batch: &Batch, slot: u64) -> (Batch, StepsAnswer) {
+    let outcome = unsafe { cp_batch_collect(batch.clone(), slot) };
+    (outcome.batch, outcome.answer)
 }
 
 pub fn field(plan: &[u8], offset: usize) -> FieldRead {

@@ -1,6 +1,8 @@
 //! The named groups of comparisons, and what they share.
 
 mod alike;
+pub mod batch;
+mod batch_foreign;
 pub mod clocks;
 pub mod extra;
 pub mod fields;

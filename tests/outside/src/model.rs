@@ -1,5 +1,6 @@
 //! Document 01 and the landed requests of document 02 once more: plans as maps, the condition, the plain question and the spare.
 
+pub mod batch;
 pub mod field;
 pub mod fixed_point;
 pub mod gates;
