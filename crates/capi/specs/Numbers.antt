@@ -1,11 +1,13 @@
 -- An outcome as numbers: document 01's refusal number, 0 for a result, and up to three numbers with it.
 use Prim.Native.Nat.{ℕ}
-use mathlib.Core.List.{List, [], _∷_}
+use mathlib.Core.List.{List, [], _∷_, _++_}
 use mathlib.Core.Option.{Option, none, some}
+use lib.ListN.{getD}
 use lib.IntN.{ℤ, pos}
 use Rattle.answers.specs.Answer.{Answer, result, refusal}
 use Rattle.loading.specs.Outcome.{Fields}
-use Rattle.plan.specs.Field.{header, port, flow, extra, jitter, clock, FieldRead, field, refused, headerTag, portTag, flowTag, extraTag, jitterTag, clockTag}
+use Rattle.plan.specs.Layout.{layout}
+use Rattle.plan.specs.Field.{FieldRead, field, refused}
 use Rattle.questions.specs.FixedPoint.{FixedPoint}
 use Rattle.batches.specs.Batch.{slotCount}
 use Rattle.capi.specs.declared.AnswerNumbers.{AnswerNumbers}
@@ -65,12 +67,12 @@ abbrev pub servedNumber : Option ℕ → ℕ
 servedNumber none = slotCount
 servedNumber (some slot) = slot
 
--- a field's tag and its numbers, 0 behind them
+-- five numbers of these, 0 behind them
+abbrev pub five : List ℕ → List ℕ
+five l = getD l 0 0 ∷ getD l 1 0 ∷ getD l 2 0 ∷ getD l 3 0 ∷ getD l 4 0 ∷ []
+
+-- a field's tag and its numbers, and how many ports its route has
 abbrev pub fieldNumbers : FieldRead → FieldReadNumbers
-fieldNumbers (field (header g t) next) = record { refusal = 0; tag = headerTag; offset = next; numbers = g ∷ t ∷ 0 ∷ 0 ∷ 0 ∷ [] }
-fieldNumbers (field (port n r b) next) = record { refusal = 0; tag = portTag; offset = next; numbers = n ∷ r ∷ b ∷ 0 ∷ 0 ∷ [] }
-fieldNumbers (field (flow n p c l h) next) = record { refusal = 0; tag = flowTag; offset = next; numbers = n ∷ p ∷ c ∷ l ∷ h ∷ [] }
-fieldNumbers (field (extra n b) next) = record { refusal = 0; tag = extraTag; offset = next; numbers = n ∷ b ∷ 0 ∷ 0 ∷ 0 ∷ [] }
-fieldNumbers (field (jitter n j) next) = record { refusal = 0; tag = jitterTag; offset = next; numbers = n ∷ j ∷ 0 ∷ 0 ∷ 0 ∷ [] }
-fieldNumbers (field (clock k) next) = record { refusal = 0; tag = clockTag; offset = next; numbers = k .drift ∷ k .timingJitter ∷ k .syncError ∷ 0 ∷ 0 ∷ [] }
-fieldNumbers (refused number offset) = record { refusal = number; tag = 0; offset = offset; numbers = 0 ∷ 0 ∷ 0 ∷ 0 ∷ 0 ∷ [] }
+fieldNumbers (field x next) =
+    record { refusal = 0; tag = layout (x .kind) .tag; offset = next; numbers = five (x .numbers ++ (x .hops ∷ [])) }
+fieldNumbers (refused number offset) = record { refusal = number; tag = 0; offset = offset; numbers = five [] }

@@ -30,17 +30,17 @@ ghost use Rattle.questions.specs.Answer.{checkOf, slackOf, searchOf, leastOf, m
 ghost use Rattle.capi.specs.Numbers.{loadNumbers, checkNumbers, slackNumbers, searchNumbers, stepsNumbers, fieldNumbers};
 
 // The tags of the fields.
-const HEADER: u32 = plan::read::HEADER_TAG as u32;
+const HEADER: u32 = plan::layout::HEADER_TAG as u32;
 
-const PORT: u32 = plan::read::PORT_TAG as u32;
+const PORT: u32 = plan::layout::PORT_TAG as u32;
 
-const FLOW: u32 = plan::read::FLOW_TAG as u32;
+const FLOW: u32 = plan::layout::FLOW_TAG as u32;
 
-const EXTRA: u32 = plan::read::EXTRA_TAG as u32;
+const EXTRA: u32 = plan::layout::EXTRA_TAG as u32;
 
-const JITTER: u32 = plan::read::JITTER_TAG as u32;
+const JITTER: u32 = plan::layout::JITTER_TAG as u32;
 
-const CLOCK: u32 = plan::read::CLOCK_TAG as u32;
+const CLOCK: u32 = plan::layout::CLOCK_TAG as u32;
 
 pub(crate) fn numbered(refusal: u32, first: u64, second: u64) -> AnswerNumbers
     ensures { λ r. ⌜ r ≡ (record { refusal = refusal; first = first; second = second }) ⌝ }

@@ -1,5 +1,5 @@
 // A field of the list, written into what remains of the buffer. A field for which there is no room is not begun.
-use plan::split::HEAD_SIZE;
+use plan::layout::HEAD_SIZE;
 use writing::field::put_head;
 use writing::number::put1;
 use writing::number::put4;

@@ -10,12 +10,12 @@ use plan::FieldRead;
 use plan::read::read_field;
 use plan::route::route_bytes;
 use plan::route::route_repeats;
+use plan::route::route_start;
 use plan::split::field_value;
 use tables::columns;
 ghost use Prim.Native.Nat.{_≤_};
 ghost use mathlib.Core.Path.{_≡_};
-ghost use Rattle.plan.specs.Field.{field, fieldAt, routePorts};
-ghost use Rattle.plan_reading.specs.Draft.{fieldRepeats};
+ghost use Rattle.plan.specs.Field.{field, fieldAt};
 ghost use Rattle.plan_reading.specs.Reading.{late, stepAt, maxBytes};
 ghost use Rattle.plan.specs.Answer.{fieldOf};
 ghost use Rattle.loading.specs.Answer.{modeOf};
@@ -32,20 +32,6 @@ pub(crate) enum Progress {
         fault: Fault,
         offset: usize,
     },
-}
-
-// Test 7: whether the field's route holds a port twice.
-fn field_repeats(field: Field, route: &[u8]) -> bool
-    ensures { λ r. ⌜ r ≡ fieldRepeats (fieldOf field) (routePorts (now (route .entry))) ⌝ }
-{
-    match field {
-        Field::Header(_) => false,
-        Field::Port(_) => false,
-        Field::Flow(_) => route_repeats(route),
-        Field::Extra(_) => false,
-        Field::Jitter(_) => false,
-        Field::Clock(_) => false,
-    }
 }
 
 // Test 12, of the strict reading only: whether a field should have stood earlier, last being the key of the field in front of it.
@@ -103,8 +89,8 @@ fn take_field(
             offset: at,
         };
     }
-    let route = route_bytes(field_value(plan, at));
-    if field_repeats(x, route) {
+    let route = route_bytes(field_value(plan, at), route_start(x));
+    if route_repeats(route) {
         return Progress::Stop {
             fault: Fault::RepeatedPort,
             offset: at,

@@ -3,14 +3,15 @@
 use numbers::limits::flow_ok;
 use numbers::limits::port_ok;
 use plan::Head;
+use plan::layout::EXTRA_TAG;
+use plan::layout::FLOW_SIZE;
+use plan::layout::FLOW_TAG;
+use plan::layout::HEAD_SIZE;
+use plan::layout::JITTER_TAG;
 use plan::number::first_number;
-use plan::read::EXTRA_TAG;
-use plan::read::FLOW_TAG;
-use plan::read::JITTER_TAG;
 use plan::route::route_bytes;
 use plan::route::route_len;
 use plan::route::route_port;
-use plan::split::HEAD_SIZE;
 use plan::split::field_value;
 use plan::split::split_head;
 use tables::columns;
@@ -76,7 +77,7 @@ fn names_absent(plan: &[u8], at: usize, tag: u8, rates: &columns::Rates) -> bool
     if tag != FLOW_TAG {
         return false;
     }
-    route_absent(route_bytes(field_value(plan, at)), rates)
+    route_absent(route_bytes(field_value(plan, at), FLOW_SIZE), rates)
 }
 
 // Whether the whole field at this offset says the jitter of a flow not in the plan.

@@ -1,14 +1,15 @@
 -- Document 01's number and values for each case of the answers.
 use Prim.Native.Nat.{ℕ}
+use mathlib.Core.List.{[], _∷_}
 use Rattle.answers.specs.Refusals.{badSize, truncated, unknownTag, wrongLength, outOfRange, duplicate, repeatedPort, incomplete, notInPlan, outOfOrder}
-use Rattle.numbers.specs.Clock.{clockOf}
 use Rattle.plan.specs.declared.Fault.{Fault}
 use Rattle.plan.specs.declared.Fault.the-variants.{Size, Truncated, UnknownTag, WrongLength, OutOfRange, Duplicate, OutOfOrder, RepeatedPort, Incomplete, NotInPlan}
 use Rattle.plan.specs.declared.Head.{Head}
 use Rattle.plan.specs.declared.Head.the-variants.{Whole, Cut}
 use Rattle.plan.specs.declared.Field as declaredField
 use Rattle.plan.specs.declared.FieldRead as declaredRead
-use Rattle.plan.specs.Field.{HeadRead, head, cut, Field, header, port, flow, extra, jitter, clock, FieldRead, field, refused}
+use Rattle.plan.specs.Layout.{Kind}
+use Rattle.plan.specs.Field.{HeadRead, head, cut, Field, FieldRead, field, refused}
 
 abbrev pub faultNumber : Fault → ℕ
 faultNumber Size = badSize
@@ -32,12 +33,14 @@ headNumber (head tag size) = 0
 headNumber (cut number) = number
 
 abbrev pub fieldOf : declaredField.Field → Field
-fieldOf (declaredField.Field.Header h) = header (h .guard) (h .top)
-fieldOf (declaredField.Field.Port p) = port (p .number) (p .rate) (p .blocking)
-fieldOf (declaredField.Field.Flow f) = flow (f .number) (f .period) (f .count) (f .length) (f .hops)
-fieldOf (declaredField.Field.Extra e) = extra (e .number) (e .extra)
-fieldOf (declaredField.Field.Jitter j) = jitter (j .number) (j .jitter)
-fieldOf (declaredField.Field.Clock k) = clock (clockOf k)
+fieldOf (declaredField.Field.Header h) = record { kind = Kind.header; numbers = h .guard ∷ h .top ∷ []; hops = 0 }
+fieldOf (declaredField.Field.Port p) = record { kind = Kind.port; numbers = p .number ∷ p .rate ∷ p .blocking ∷ []; hops = 0 }
+fieldOf (declaredField.Field.Flow f) =
+    record { kind = Kind.flow; numbers = f .number ∷ f .period ∷ f .count ∷ f .length ∷ []; hops = f .hops }
+fieldOf (declaredField.Field.Extra e) = record { kind = Kind.extra; numbers = e .number ∷ e .extra ∷ []; hops = 0 }
+fieldOf (declaredField.Field.Jitter j) = record { kind = Kind.jitter; numbers = j .number ∷ j .jitter ∷ []; hops = 0 }
+fieldOf (declaredField.Field.Clock k) =
+    record { kind = Kind.clock; numbers = k .drift ∷ k .«timing_jitter» ∷ k .«sync_error» ∷ []; hops = 0 }
 
 abbrev pub fieldReadOf : declaredRead.FieldRead → FieldRead
 fieldReadOf (declaredRead.FieldRead.Field x next) = field (fieldOf x) next

@@ -4,6 +4,7 @@ use numbers::clock::Clock;
 ghost use mathlib.Core.Path.{_≡_};
 ghost use Rattle.plan.specs.Answer.{faultNumber};
 
+pub mod layout; // layout.rt: tags, sizes and offsets
 pub mod number; // number.rt: numbers of several bytes, high byte first
 pub mod split; // split.rt: a field's head, and its value as a part of the plan
 pub mod route; // route.rt: a flow's route
@@ -18,6 +19,7 @@ pub use route::route_bytes;
 pub use route::route_len;
 pub use route::route_port;
 pub use route::route_repeats;
+pub use route::route_start;
 pub use split::field_value;
 pub use split::split_head;
 

@@ -5,24 +5,29 @@ use crate::Fault;
 use crate::Field;
 use crate::FieldRead;
 use crate::Jitter;
+use crate::layout::CLOCK_SIZE;
+use crate::layout::DRIFT_AT;
+use crate::layout::EXTRA_AT;
+use crate::layout::EXTRA_PORT_AT;
+use crate::layout::EXTRA_SIZE;
+use crate::layout::JITTER_AT;
+use crate::layout::JITTER_FLOW_AT;
+use crate::layout::JITTER_SIZE;
+use crate::layout::SYNC_ERROR_AT;
+use crate::layout::TIMING_JITTER_AT;
 use crate::number::be16;
 use crate::number::be32;
+use crate::ranges::clock_in_range;
 use crate::ranges::extra_in_range;
 use crate::ranges::jitter_in_range;
 use numbers::clock::Clock;
-use numbers::clock::clock_ok;
 ghost use mathlib.Core.Path.{_≡_};
-ghost use Rattle.plan.specs.Field.{extraIn, jitterIn, clockIn};
+ghost use Rattle.plan.specs.Layout.{Kind};
+ghost use Rattle.plan.specs.Field.{valueIn};
 ghost use Rattle.plan.specs.Answer.{fieldReadOf};
 
-pub const EXTRA_SIZE: usize = 4;
-
-pub const JITTER_SIZE: usize = 6;
-
-pub const CLOCK_SIZE: usize = 12;
-
 pub(crate) fn extra_of(value: &[u8], at: usize, next: usize) -> FieldRead
-    ensures { λ r. ⌜ fieldReadOf r ≡ extraIn (now (value .entry)) at next ⌝ }
+    ensures { λ r. ⌜ fieldReadOf r ≡ valueIn Kind.extra (now (value .entry)) at next ⌝ }
 {
     if value.len() != EXTRA_SIZE {
         return FieldRead::Refused {
@@ -31,8 +36,8 @@ pub(crate) fn extra_of(value: &[u8], at: usize, next: usize) -> FieldRead
         };
     }
     let x = Extra {
-        number: be16(value, 0),
-        extra: be16(value, 2),
+        number: be16(value, EXTRA_PORT_AT),
+        extra: be16(value, EXTRA_AT),
     };
     if !extra_in_range(x) {
         return FieldRead::Refused {
@@ -47,7 +52,7 @@ pub(crate) fn extra_of(value: &[u8], at: usize, next: usize) -> FieldRead
 }
 
 pub(crate) fn jitter_of(value: &[u8], at: usize, next: usize) -> FieldRead
-    ensures { λ r. ⌜ fieldReadOf r ≡ jitterIn (now (value .entry)) at next ⌝ }
+    ensures { λ r. ⌜ fieldReadOf r ≡ valueIn Kind.jitter (now (value .entry)) at next ⌝ }
 {
     if value.len() != JITTER_SIZE {
         return FieldRead::Refused {
@@ -56,8 +61,8 @@ pub(crate) fn jitter_of(value: &[u8], at: usize, next: usize) -> FieldRead
         };
     }
     let x = Jitter {
-        number: be16(value, 0),
-        jitter: be32(value, 2),
+        number: be16(value, JITTER_FLOW_AT),
+        jitter: be32(value, JITTER_AT),
     };
     if !jitter_in_range(x) {
         return FieldRead::Refused {
@@ -72,7 +77,7 @@ pub(crate) fn jitter_of(value: &[u8], at: usize, next: usize) -> FieldRead
 }
 
 pub(crate) fn clock_of(value: &[u8], at: usize, next: usize) -> FieldRead
-    ensures { λ r. ⌜ fieldReadOf r ≡ clockIn (now (value .entry)) at next ⌝ }
+    ensures { λ r. ⌜ fieldReadOf r ≡ valueIn Kind.clock (now (value .entry)) at next ⌝ }
 {
     if value.len() != CLOCK_SIZE {
         return FieldRead::Refused {
@@ -81,11 +86,11 @@ pub(crate) fn clock_of(value: &[u8], at: usize, next: usize) -> FieldRead
         };
     }
     let x = Clock {
-        drift: be32(value, 0),
-        timing_jitter: be32(value, 4),
-        sync_error: be32(value, 8),
+        drift: be32(value, DRIFT_AT),
+        timing_jitter: be32(value, TIMING_JITTER_AT),
+        sync_error: be32(value, SYNC_ERROR_AT),
     };
-    if !clock_ok(x) {
+    if !clock_in_range(x) {
         return FieldRead::Refused {
             fault: Fault::OutOfRange,
             offset: at,

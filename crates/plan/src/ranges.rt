@@ -5,6 +5,8 @@ use crate::Flow;
 use crate::Header;
 use crate::Jitter;
 use crate::Port;
+use numbers::clock::Clock;
+use numbers::clock::clock_ok;
 use numbers::limits::blocking_ok;
 use numbers::limits::count_ok;
 use numbers::limits::extra_ok;
@@ -17,11 +19,12 @@ use numbers::limits::port_ok;
 use numbers::limits::rate_ok;
 use numbers::limits::top_ok;
 ghost use mathlib.Core.Path.{_≡_};
-ghost use mathlib.Core.Bool.{_&&_};
-ghost use Rattle.cqf.specs.Limits.{guardOk, topOk, portOk, rateOk, lengthOk, blockingOk, extraOk, flowOk, periodOk, countOk, jitterOk};
+ghost use mathlib.Core.List.{[], _∷_};
+ghost use Rattle.plan.specs.Layout.{Kind, layout};
+ghost use Rattle.plan.specs.Field.{inRanges};
 
 pub(crate) fn header_in_range(x: Header) -> bool
-    ensures { λ r. ⌜ r ≡ (guardOk (x .guard) && topOk (x .top)) ⌝ }
+    ensures { λ r. ⌜ r ≡ inRanges (layout Kind.header .numbers) (x .guard ∷ x .top ∷ []) ⌝ }
 {
     if !guard_ok(x.guard) {
         return false;
@@ -30,7 +33,7 @@ pub(crate) fn header_in_range(x: Header) -> bool
 }
 
 pub(crate) fn port_in_range(x: Port) -> bool
-    ensures { λ r. ⌜ r ≡ (portOk (x .number) && rateOk (x .rate) && blockingOk (x .blocking)) ⌝ }
+    ensures { λ r. ⌜ r ≡ inRanges (layout Kind.port .numbers) (x .number ∷ x .rate ∷ x .blocking ∷ []) ⌝ }
 {
     if !port_ok(x.number) {
         return false;
@@ -43,7 +46,7 @@ pub(crate) fn port_in_range(x: Port) -> bool
 
 // The numbers of a flow, without its route.
 pub(crate) fn flow_in_range(x: Flow) -> bool
-    ensures { λ r. ⌜ r ≡ (flowOk (x .number) && periodOk (x .period) && countOk (x .count) && lengthOk (x .length)) ⌝ }
+    ensures { λ r. ⌜ r ≡ inRanges (layout Kind.flow .numbers) (x .number ∷ x .period ∷ x .count ∷ x .length ∷ []) ⌝ }
 {
     if !flow_ok(x.number) {
         return false;
@@ -58,7 +61,7 @@ pub(crate) fn flow_in_range(x: Flow) -> bool
 }
 
 pub(crate) fn extra_in_range(x: Extra) -> bool
-    ensures { λ r. ⌜ r ≡ (portOk (x .number) && extraOk (x .extra)) ⌝ }
+    ensures { λ r. ⌜ r ≡ inRanges (layout Kind.extra .numbers) (x .number ∷ x .extra ∷ []) ⌝ }
 {
     if !port_ok(x.number) {
         return false;
@@ -67,10 +70,16 @@ pub(crate) fn extra_in_range(x: Extra) -> bool
 }
 
 pub(crate) fn jitter_in_range(x: Jitter) -> bool
-    ensures { λ r. ⌜ r ≡ (flowOk (x .number) && jitterOk (x .jitter)) ⌝ }
+    ensures { λ r. ⌜ r ≡ inRanges (layout Kind.jitter .numbers) (x .number ∷ x .jitter ∷ []) ⌝ }
 {
     if !flow_ok(x.number) {
         return false;
     }
     jitter_ok(x.jitter)
+}
+
+pub(crate) fn clock_in_range(x: Clock) -> bool
+    ensures { λ r. ⌜ r ≡ inRanges (layout Kind.clock .numbers) (x .drift ∷ x .«timing_jitter» ∷ x .«sync_error» ∷ []) ⌝ }
+{
+    clock_ok(x)
 }

@@ -7,6 +7,25 @@ use crate::Flow;
 use crate::Head;
 use crate::Header;
 use crate::Port;
+use crate::layout::BLOCKING_AT;
+use crate::layout::CLOCK_TAG;
+use crate::layout::COUNT_AT;
+use crate::layout::EXTRA_TAG;
+use crate::layout::FLOW_AT;
+use crate::layout::FLOW_SIZE;
+use crate::layout::FLOW_TAG;
+use crate::layout::GUARD_AT;
+use crate::layout::HEAD_SIZE;
+use crate::layout::HEADER_SIZE;
+use crate::layout::HEADER_TAG;
+use crate::layout::JITTER_TAG;
+use crate::layout::LENGTH_AT;
+use crate::layout::PERIOD_AT;
+use crate::layout::PORT_AT;
+use crate::layout::PORT_SIZE;
+use crate::layout::PORT_TAG;
+use crate::layout::RATE_AT;
+use crate::layout::TOP_AT;
 use crate::number::be16;
 use crate::number::be32;
 use crate::optional::clock_of;
@@ -18,31 +37,15 @@ use crate::ranges::port_in_range;
 use crate::route::hops_by_length;
 use crate::route::route_bytes;
 use crate::route::route_in_range;
-use crate::split::HEAD_SIZE;
 use crate::split::field_value;
 use crate::split::split_head;
 ghost use mathlib.Core.Path.{_≡_};
-ghost use Rattle.plan.specs.Field.{headerIn, portInValue, flowIn, fieldIn, fieldAt};
+ghost use Rattle.plan.specs.Layout.{Kind};
+ghost use Rattle.plan.specs.Field.{valueIn, fieldIn, fieldAt};
 ghost use Rattle.plan.specs.Answer.{fieldReadOf};
 
-pub const HEADER_TAG: u8 = 1;
-
-pub const PORT_TAG: u8 = 2;
-
-pub const FLOW_TAG: u8 = 3;
-
-pub const EXTRA_TAG: u8 = 4;
-
-pub const JITTER_TAG: u8 = 5;
-
-pub const CLOCK_TAG: u8 = 6;
-
-pub const HEADER_SIZE: usize = 8;
-
-pub const PORT_SIZE: usize = 8;
-
 fn header_of(value: &[u8], at: usize, next: usize) -> FieldRead
-    ensures { λ r. ⌜ fieldReadOf r ≡ headerIn (now (value .entry)) at next ⌝ }
+    ensures { λ r. ⌜ fieldReadOf r ≡ valueIn Kind.header (now (value .entry)) at next ⌝ }
 {
     if value.len() != HEADER_SIZE {
         return FieldRead::Refused {
@@ -51,8 +54,8 @@ fn header_of(value: &[u8], at: usize, next: usize) -> FieldRead
         };
     }
     let x = Header {
-        guard: be32(value, 0),
-        top: be32(value, 4),
+        guard: be32(value, GUARD_AT),
+        top: be32(value, TOP_AT),
     };
     if !header_in_range(x) {
         return FieldRead::Refused {
@@ -67,7 +70,7 @@ fn header_of(value: &[u8], at: usize, next: usize) -> FieldRead
 }
 
 fn port_of(value: &[u8], at: usize, next: usize) -> FieldRead
-    ensures { λ r. ⌜ fieldReadOf r ≡ portInValue (now (value .entry)) at next ⌝ }
+    ensures { λ r. ⌜ fieldReadOf r ≡ valueIn Kind.port (now (value .entry)) at next ⌝ }
 {
     if value.len() != PORT_SIZE {
         return FieldRead::Refused {
@@ -76,9 +79,9 @@ fn port_of(value: &[u8], at: usize, next: usize) -> FieldRead
         };
     }
     let x = Port {
-        number: be16(value, 0),
-        rate: be32(value, 2),
-        blocking: be16(value, 6),
+        number: be16(value, PORT_AT),
+        rate: be32(value, RATE_AT),
+        blocking: be16(value, BLOCKING_AT),
     };
     if !port_in_range(x) {
         return FieldRead::Refused {
@@ -93,7 +96,7 @@ fn port_of(value: &[u8], at: usize, next: usize) -> FieldRead
 }
 
 fn flow_of(value: &[u8], at: usize, next: usize) -> FieldRead
-    ensures { λ r. ⌜ fieldReadOf r ≡ flowIn (now (value .entry)) at next ⌝ }
+    ensures { λ r. ⌜ fieldReadOf r ≡ valueIn Kind.flow (now (value .entry)) at next ⌝ }
 {
     let size = value.len();
     let hops = hops_by_length(size);
@@ -104,10 +107,10 @@ fn flow_of(value: &[u8], at: usize, next: usize) -> FieldRead
         };
     }
     let x = Flow {
-        number: be16(value, 0),
-        period: be32(value, 2),
-        count: be16(value, 6),
-        length: be16(value, 8),
+        number: be16(value, FLOW_AT),
+        period: be32(value, PERIOD_AT),
+        count: be16(value, COUNT_AT),
+        length: be16(value, LENGTH_AT),
         hops,
     };
     if !flow_in_range(x) {
@@ -116,7 +119,7 @@ fn flow_of(value: &[u8], at: usize, next: usize) -> FieldRead
             offset: at,
         };
     }
-    if !route_in_range(route_bytes(value)) {
+    if !route_in_range(route_bytes(value, FLOW_SIZE)) {
         return FieldRead::Refused {
             fault: Fault::OutOfRange,
             offset: at,

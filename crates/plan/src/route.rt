@@ -1,22 +1,27 @@
 // A flow's route: the bytes behind the other numbers of its field's value, two for each port.
 
+use crate::Field;
+use crate::layout::CLOCK_SIZE;
+use crate::layout::EXTRA_SIZE;
+use crate::layout::FLOW_SIZE;
+use crate::layout::HEADER_SIZE;
+use crate::layout::HOP_SIZE;
+use crate::layout::JITTER_SIZE;
+use crate::layout::PORT_SIZE;
 use crate::number::be16;
 use numbers::limits::port_ok;
 ghost use mathlib.Core.Path.{_≡_};
-ghost use mathlib.Core.Bool.{cond, not, _&&_};
-ghost use Prim.Native.Nat.{_+_, _*_};
-ghost use lib.Dec.{eqb};
+ghost use mathlib.Core.Bool.{cond, not};
 ghost use lib.ListN.{drop};
 ghost use Rattle.cqf.specs.Bounded.{elem, every, distinct};
-ghost use Rattle.cqf.specs.Limits.{portOk, hopsOk};
-ghost use Rattle.plan.specs.Field.{flowSize, hopsIn, routeBytes, routeLength, routePorts, routePort, repeats};
-
-// A flow's value before its route.
-pub const FLOW_SIZE: usize = 10;
+ghost use Rattle.cqf.specs.Limits.{portOk};
+ghost use Rattle.plan.specs.Layout.{Kind, numbersSize};
+ghost use Rattle.plan.specs.Field.{hopsIn, sizeOk, routeLength, routePorts, routePort, repeats};
+ghost use Rattle.plan.specs.Answer.{fieldOf};
 
 // How many ports a flow field names, by the length of its value: one case for each length that it may have, and 0 for any other.
 pub(crate) fn hops_by_length(size: usize) -> u8
-    ensures { λ r. ⌜ r ≡ cond (hopsOk (hopsIn size) && eqb size (flowSize + 2 * hopsIn size)) (hopsIn size) 0 ⌝ }
+    ensures { λ r. ⌜ r ≡ cond (sizeOk Kind.flow size) (hopsIn Kind.flow size) 0 ⌝ }
 {
     match size {
         12 => 1,
@@ -39,21 +44,35 @@ pub(crate) fn hops_by_length(size: usize) -> u8
     }
 }
 
-// The route's own bytes in a flow's value; none where the value is too short for them.
-pub fn route_bytes(value: &[u8]) -> &[u8]
-    ensures { λ r. ⌜ now r ≡ routeBytes (now (value .entry)) ⌝ }
+// Where the route of a field starts in its value: behind its other numbers.
+pub fn route_start(field: Field) -> usize
+    ensures { λ r. ⌜ r ≡ numbersSize (fieldOf field .kind) ⌝ }
 {
-    if value.len() < FLOW_SIZE {
+    match field {
+        Field::Header(_) => HEADER_SIZE,
+        Field::Port(_) => PORT_SIZE,
+        Field::Flow(_) => FLOW_SIZE,
+        Field::Extra(_) => EXTRA_SIZE,
+        Field::Jitter(_) => JITTER_SIZE,
+        Field::Clock(_) => CLOCK_SIZE,
+    }
+}
+
+// The route's own bytes in a value whose other numbers end there; none where the value is too short for them.
+pub fn route_bytes(value: &[u8], start: usize) -> &[u8]
+    ensures { λ r. ⌜ now r ≡ drop start (now (value .entry)) ⌝ }
+{
+    if value.len() < start {
         return &value[..0];
     }
-    &value[FLOW_SIZE..]
+    &value[start..]
 }
 
 // How many ports a route's bytes name.
 pub fn route_len(route: &[u8]) -> usize
     ensures { λ r. ⌜ r ≡ routeLength (now (route .entry)) ⌝ }
 {
-    route.len() / 2
+    route.len() / HOP_SIZE
 }
 
 // Port i of the route, counted from 0; 0 past its end.
@@ -63,7 +82,7 @@ pub fn route_port(route: &[u8], i: usize) -> u16
     if route_len(route) <= i {
         return 0;
     }
-    be16(route, 2 * i)
+    be16(route, HOP_SIZE * i)
 }
 
 // Whether each port number of the route is in range.
@@ -116,5 +135,5 @@ pub fn route_repeats(route: &[u8]) -> bool
 pub fn repeats_port(value: &[u8]) -> bool
     ensures { λ r. ⌜ r ≡ repeats (now (value .entry)) ⌝ }
 {
-    route_repeats(route_bytes(value))
+    route_repeats(route_bytes(value, FLOW_SIZE))
 }

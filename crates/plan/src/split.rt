@@ -1,14 +1,13 @@
 // A field's head, and its value as a part of the plan.
 
 use crate::Head;
+use crate::layout::HEAD_SIZE;
+use crate::layout::SIZE_AT;
 use crate::number::be16;
 ghost use mathlib.Core.Path.{_≡_};
 ghost use Rattle.plan.specs.Bytes.{partAt};
 ghost use Rattle.plan.specs.Field.{headAt};
 ghost use Rattle.plan.specs.Answer.{headOf};
-
-// Tag (1 byte) and length (2 bytes).
-pub const HEAD_SIZE: usize = 3;
 
 // The head of the field at this offset, or Cut where the plan does not hold the whole field.
 pub fn split_head(plan: &[u8], at: usize) -> Head
@@ -21,7 +20,7 @@ pub fn split_head(plan: &[u8], at: usize) -> Head
     if left < HEAD_SIZE {
         return Head::Cut;
     }
-    let size = be16(plan, at + 1) as usize;
+    let size = be16(plan, at + SIZE_AT) as usize;
     if left - HEAD_SIZE < size {
         return Head::Cut;
     }

@@ -11,8 +11,8 @@ use Rattle.cqf.specs.Condition.{begun, frames, demand, crossed, fails, failing,
 use Rattle.cqf.specs.Need.{need, largestNeed}
 use Rattle.cqf.specs.FixedPoint.{iterate}
 use Rattle.plan.specs.Bytes.{number2, number4, sizeAt, wholeAt, valueAt, numbers2}
-use Rattle.plan.specs.Field.{routePorts, routeIn, headerIn, portInValue, flowIn, extraIn, jitterIn, clockIn, fieldIn, fieldAt, repeats}
-use Rattle.plan_reading.specs.Store.{store}
+use Rattle.plan.specs.Field.{routePorts, routeIn, valueIn, kindBy, fieldIn, fieldAt, repeats}
+use Rattle.plan_reading.specs.Store.{store, storeAll}
 use Rattle.plan_reading.specs.Draft.{blank, added}
 use Rattle.plan_reading.specs.Reading.{stepAt, namesAbsent, jitterAbsent, extraAbsent, firstFrom, firstAbsent, closing, readFrom, readAs, readPlan, loose}
 use Rattle.answers.specs.Answer.{result, refusal}
@@ -29,7 +29,7 @@ byStepsK
     ∷ result (record { duration = 72000; steps = 2 })
     ∷ result (record { duration = 72000; steps = 2 })
     ∷ []
-unfolding bytesK after afterFrom loadLeaves noPlan readPlan readAs readFrom blank stepAt fieldAt fieldIn headerIn portInValue flowIn extraIn jitterIn clockIn number2 number4 sizeAt wholeAt valueAt numbers2 routePorts routeIn repeats every distinct elem store added closing firstFrom firstAbsent namesAbsent jitterAbsent extraAbsent fixedPointAnswer validPlan validPort validFlow allTo anyTo sublist iterate largestNeed maxTo need failing lowestFailing lowest countTo fails crossed capacity window workload demand sumTo frames begun widened ceilDiv wireBits
+unfolding bytesK after afterFrom loadLeaves noPlan readPlan readAs readFrom blank stepAt fieldAt fieldIn valueIn kindBy number2 number4 sizeAt wholeAt valueAt numbers2 routePorts routeIn repeats every distinct elem storeAll store added closing firstFrom firstAbsent namesAbsent jitterAbsent extraAbsent fixedPointAnswer validPlan validPort validFlow allTo anyTo sublist iterate largestNeed maxTo need failing lowestFailing lowest countTo fails crossed capacity window workload demand sumTo frames begun widened ceilDiv wireBits
 byStepsK = refl
 
 -- from an admissible duration, from the ends of the gap, and from starts outside 1 to top
@@ -42,5 +42,5 @@ fromStartsK
     ∷ refusal 10 (0 ∷ [])
     ∷ refusal 10 (0 ∷ [])
     ∷ []
-unfolding bytesK after afterFrom loadLeaves noPlan readPlan readAs readFrom blank stepAt fieldAt fieldIn headerIn portInValue flowIn extraIn jitterIn clockIn number2 number4 sizeAt wholeAt valueAt numbers2 routePorts routeIn repeats every distinct elem store added closing firstFrom firstAbsent namesAbsent jitterAbsent extraAbsent fixedPointAnswer validPlan validPort validFlow allTo anyTo sublist iterate largestNeed maxTo need failing lowestFailing lowest countTo fails crossed capacity window workload demand sumTo frames begun widened ceilDiv wireBits
+unfolding bytesK after afterFrom loadLeaves noPlan readPlan readAs readFrom blank stepAt fieldAt fieldIn valueIn kindBy number2 number4 sizeAt wholeAt valueAt numbers2 routePorts routeIn repeats every distinct elem storeAll store added closing firstFrom firstAbsent namesAbsent jitterAbsent extraAbsent fixedPointAnswer validPlan validPort validFlow allTo anyTo sublist iterate largestNeed maxTo need failing lowestFailing lowest countTo fails crossed capacity window workload demand sumTo frames begun widened ceilDiv wireBits
 fromStartsK = refl

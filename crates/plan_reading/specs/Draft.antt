@@ -1,15 +1,15 @@
 -- What has been read so far of a plan, and what one field more makes of it.
 use Prim.Native.Nat.{ℕ, _+_}
-use mathlib.Core.List.{List}
-use mathlib.Core.Bool.{Bool, false, not}
+use mathlib.Core.List.{List, [], _∷_}
+use mathlib.Core.Bool.{Bool, not}
 use lib.Dec.{ltb}
 use lib.ListN.{getD, set, replicate}
 use Rattle.cqf.specs.Bounded.{distinct}
 use Rattle.cqf.specs.Plan.{Plan, noPlan}
 use Rattle.plan.specs.Field.{Field}
-use Rattle.plan_reading.specs.Kind.{ofPort, ofFlow}
+use Rattle.plan_reading.specs.Part.{Part, partsOf, ofPort, ofFlow}
 use Rattle.plan_reading.specs.Key.{keySlots, keyOf}
-use Rattle.plan_reading.specs.Store.{store}
+use Rattle.plan_reading.specs.Store.{storeAll}
 
 -- the tables so far, a flag for each key that has been seen, and how many port and flow fields there were. A field may say
 -- what its absence says, so the tables do not show what has been seen.
@@ -31,24 +31,28 @@ hasKey d key = ltb 0 (getD (d .seen) key 0)
 abbrev pub taken : Draft → Field → Bool
 taken d x = hasKey d (keyOf x)
 
--- test 7: only a flow has a route
-abbrev pub fieldRepeats : Field → List ℕ → Bool
-fieldRepeats x r = ofFlow false (λ n period count bytes hops. not (distinct r)) x
+-- test 7: a port twice in a field's route
+abbrev pub fieldRepeats : List ℕ → Bool
+fieldRepeats r = not (distinct r)
 
--- how many of each kind a field adds
-abbrev pub portsIn : Field → ℕ
+-- how many ports and flows a part says, and several parts
+abbrev pub portsIn : Part → ℕ
 portsIn = ofPort 0 (λ n rate blocking. 1)
 
-abbrev pub flowsIn : Field → ℕ
-flowsIn = ofFlow 0 (λ n period count bytes hops. 1)
+abbrev pub flowsIn : Part → ℕ
+flowsIn = ofFlow 0 (λ n period count bytes route. 1)
+
+abbrev pub sumOf : (Part → ℕ) → List Part → ℕ
+sumOf count [] = 0
+sumOf count (x ∷ xs) = count x + sumOf count xs
 
 -- the draft with a field stored, r being the ports of its route
 unfoldable pub added : Draft → Field → List ℕ → Draft
-unfolding store
+unfolding storeAll
 added d x r =
     record {
-      tables = store (d .tables) x r;
+      tables = storeAll (d .tables) (partsOf x r);
       seen = set (d .seen) (keyOf x) 1;
-      ports = d .ports + portsIn x;
-      flows = d .flows + flowsIn x;
+      ports = d .ports + sumOf portsIn (partsOf x r);
+      flows = d .flows + sumOf flowsIn (partsOf x r);
     }

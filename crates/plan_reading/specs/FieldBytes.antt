@@ -1,7 +1,8 @@
 -- The bytes of a field: tag, length and value, numbers high byte first.
 use Prim.Native.Nat.{ℕ, _+_, _*_, _/_, _%_}
 use mathlib.Core.List.{List, [], _∷_, _++_}
-use Rattle.plan.specs.Field.{Field, header, port, flow, extra, jitter, clock, headerSize, portSize, flowSize, extraSize, jitterSize, clockSize}
+use Rattle.plan.specs.Layout.{Width, two, four, Number, layout, numbersSize}
+use Rattle.plan.specs.Field.{Field}
 use Rattle.plan_reading.specs.Rank.{tagOf}
 use Rattle.plan_reading.specs.Strict.{Entry}
 
@@ -16,27 +17,27 @@ unfoldable pub bytes2s : List ℕ → List ℕ
 bytes2s [] = []
 bytes2s (n ∷ ns) = bytes2 n ++ bytes2s ns
 
--- the length of a field's value, and the value, r being the ports of a flow's route
+-- a number of this width, and numbers of these
+abbrev pub bytesBy : Width → ℕ → List ℕ
+bytesBy two = bytes2
+bytesBy four = bytes4
+
+abbrev pub numbersBytes : List Number → List ℕ → List ℕ
+numbersBytes [] ns = []
+numbersBytes (c ∷ cs) [] = []
+numbersBytes (c ∷ cs) (n ∷ ns) = bytesBy (c .width) n ++ numbersBytes cs ns
+
+-- the length of a field's value, and the value, r being the ports of its route
 abbrev pub sizeOf : Field → ℕ
-sizeOf (header guard top) = headerSize
-sizeOf (port n rate blocking) = portSize
-sizeOf (flow n period count bytes hops) = flowSize + 2 * hops
-sizeOf (extra n bytes) = extraSize
-sizeOf (jitter n ns) = jitterSize
-sizeOf (clock k) = clockSize
+sizeOf x = numbersSize (x .kind) + 2 * x .hops
 
 unfoldable pub valueOf : Field → List ℕ → List ℕ
 unfolding bytes2s
-valueOf (header guard top) r = bytes4 guard ++ bytes4 top
-valueOf (port n rate blocking) r = bytes2 n ++ (bytes4 rate ++ bytes2 blocking)
-valueOf (flow n period count bytes hops) r = bytes2 n ++ (bytes4 period ++ (bytes2 count ++ (bytes2 bytes ++ bytes2s r)))
-valueOf (extra n bytes) r = bytes2 n ++ bytes2 bytes
-valueOf (jitter n ns) r = bytes2 n ++ bytes4 ns
-valueOf (clock k) r = bytes4 (k .drift) ++ (bytes4 (k .timingJitter) ++ bytes4 (k .syncError))
+valueOf x r = numbersBytes (layout (x .kind) .numbers) (x .numbers) ++ bytes2s r
 
 unfoldable pub bytesOf : Entry → List ℕ
 unfolding valueOf
-bytesOf e = tagOf (e .part) ∷ (bytes2 (sizeOf (e .part)) ++ valueOf (e .part) (e .route))
+bytesOf e = tagOf (e .field) ∷ (bytes2 (sizeOf (e .field)) ++ valueOf (e .field) (e .route))
 
 -- the bytes of a row of fields
 unfoldable pub rowBytes : List Entry → List ℕ

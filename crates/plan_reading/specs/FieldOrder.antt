@@ -6,7 +6,8 @@ use Prim.Native.Nat.{ℕ, _+_, _≤_}
 use lib.ListN.{length}
 use Rattle.cqf.specs.Plan.{equalClocks}
 use Rattle.plan.specs.Bytes.{headSize, sizeAt}
-use Rattle.plan.specs.Field.{Field, header, port, flow, extra, jitter, clock, field, fieldAt}
+use Rattle.plan.specs.Field.{Field, field, fieldAt}
+use Rattle.plan_reading.specs.Part.{Part, header, port, flow, extra, jitter, clock, partsOf}
 
 -- bytes that are one whole field: a head, and as many bytes after it as the head says
 pub record IsField (b : List ℕ) : Type 0 where
@@ -26,14 +27,22 @@ pub record SameFields (s t : List ℕ) : Type 0 where
   pub bytes-second : t ≡ flatten second
   pub permuted : List·Permᴰ first second
 
--- the field says what its absence says
+-- the part says what its absence says
+abbrev pub Nothing : Part → Type 0
+Nothing (header guard top) = ⊥
+Nothing (port n rate blocking) = ⊥
+Nothing (flow n period count bytes route) = ⊥
+Nothing (extra n bytes) = bytes ≡ 0
+Nothing (jitter n ns) = ns ≡ 0
+Nothing (clock k) = k ≡ equalClocks
+
+-- the field says nothing: each of its parts says what its absence says
+abbrev pub AllNothing : List Part → Type 0
+AllNothing [] = Unit {0}
+AllNothing (x ∷ xs) = Nothing x × AllNothing xs
+
 abbrev pub SaysNothing : Field → Type 0
-SaysNothing (header guard top) = ⊥
-SaysNothing (port n rate blocking) = ⊥
-SaysNothing (flow n period count bytes hops) = ⊥
-SaysNothing (extra n bytes) = bytes ≡ 0
-SaysNothing (jitter n ns) = ns ≡ 0
-SaysNothing (clock k) = k ≡ equalClocks
+SaysNothing x = AllNothing (partsOf x [])
 
 -- s is the fields of t, and among them, anywhere, one that says nothing
 pub record ZeroMore (s t : List ℕ) : Type 0 where

@@ -3,7 +3,9 @@
 -- after the flows, the jitter of flow n the n-th after those, the clock the one after these; a later kind goes on from there.
 use Prim.Native.Nat.{ℕ, _+_}
 use Rattle.cqf.specs.Limits.{portSlots, flowSlots}
-use Rattle.plan.specs.Field.{Field, header, port, flow, extra, jitter, clock}
+use Rattle.plan.specs.Layout.{Kind}
+use Rattle.plan.specs.Field.{Field}
+use Rattle.plan_reading.specs.Rank.{numberOf}
 
 abbrev pub headerKey : ℕ
 headerKey = 0
@@ -27,11 +29,14 @@ clockKey = jitterKeys + flowSlots
 abbrev pub keySlots : ℕ
 keySlots = clockKey + 1
 
--- numbers are from 1 on
+-- the key of a field is its kind's and its number, which is from 1 on, or 0 where a plan has one field of the kind only
+abbrev pub kindKey : Kind → ℕ
+kindKey Kind.header = headerKey
+kindKey Kind.port = headerKey
+kindKey Kind.flow = portSlots
+kindKey Kind.extra = portSlots + flowSlots
+kindKey Kind.jitter = portSlots + flowSlots + portSlots
+kindKey Kind.clock = clockKey
+
 abbrev pub keyOf : Field → ℕ
-keyOf (header guard top) = headerKey
-keyOf (port n rate blocking) = headerKey + n
-keyOf (flow n period count bytes hops) = portSlots + n
-keyOf (extra n bytes) = portSlots + flowSlots + n
-keyOf (jitter n ns) = portSlots + flowSlots + portSlots + n
-keyOf (clock k) = clockKey
+keyOf x = kindKey (x .kind) + numberOf x

@@ -1,8 +1,8 @@
 -- The reading of a whole plan (document 01): what a field of each kind gives, stores and repeats, and the walk over the fields; and
 -- as which fields and bytes a plan is saved (document 02).
-pub mod Kind
-pub mod Key
+pub mod Part
 pub mod Rank
+pub mod Key
 pub mod Put
 pub mod Store
 pub mod Draft

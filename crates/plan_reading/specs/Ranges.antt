@@ -1,4 +1,4 @@
--- A field whose numbers are in range, and a route that fits the field: what tests 4 and 5 leave.
+-- A field whose numbers are in range, and a route that fits the field: what tests 4 and 5 leave. And the same of what it says.
 use Prim.Native.Nat.{ℕ}
 use mathlib.Core.Path.{_≡_}
 use mathlib.Core.List.{List}
@@ -7,8 +7,23 @@ use lib.ListN.{length}
 use Rattle.cqf.specs.Bounded.{every}
 use Rattle.cqf.specs.Limits.{guardOk, topOk, portOk, rateOk, lengthOk, blockingOk, extraOk, flowOk, periodOk, countOk, jitterOk, hopsOk}
 use Rattle.cqf.specs.Plan.{clockOk}
-use Rattle.plan.specs.Field.{Field, header, port, flow, extra, jitter, clock}
-use Rattle.plan_reading.specs.Kind.{ofFlow}
+use Rattle.plan.specs.Layout.{layout, hopsAllowed}
+use Rattle.plan.specs.Field.{Field, inRanges}
+use Rattle.plan_reading.specs.Part.{Part, header, port, flow, extra, jitter, clock}
+
+-- each number of the field is in its range, and it has as many ports as it may
+pub record NumbersOk (x : Field) : Type 0 where
+  pub ranges : inRanges (layout (x .kind) .numbers) (x .numbers) ≡ true
+  pub hops : hopsAllowed (layout (x .kind) .mostHops) (x .hops) ≡ true
+
+-- a route of h ports, each with a number in range
+pub record RouteOk (h : ℕ) (r : List ℕ) : Type 0 where
+  pub hops : length r ≡ h
+  pub ports : every portOk r ≡ true
+
+-- r is the field's route
+abbrev pub RouteFits : Field → List ℕ → Type 0
+RouteFits x r = RouteOk (x .hops) r
 
 pub record HeaderOk (g t : ℕ) : Type 0 where
   pub guard : guardOk g ≡ true
@@ -34,20 +49,11 @@ pub record JitterOk (n j : ℕ) : Type 0 where
   pub number : flowOk n ≡ true
   pub ns : jitterOk j ≡ true
 
--- each number of the field is in its range
-abbrev pub NumbersOk : Field → Type 0
-NumbersOk (header g t) = HeaderOk g t
-NumbersOk (port n r b) = PortOk n r b
-NumbersOk (flow n p c l h) = FlowOk n p c l h
-NumbersOk (extra n b) = ExtraOk n b
-NumbersOk (jitter n j) = JitterOk n j
-NumbersOk (clock k) = clockOk k ≡ true
-
--- a route of h ports, each with a number in range
-pub record RouteOk (h : ℕ) (r : List ℕ) : Type 0 where
-  pub hops : length r ≡ h
-  pub ports : every portOk r ≡ true
-
--- r is the field's route; only a flow has one
-abbrev pub RouteFits : Field → List ℕ → Type 0
-RouteFits x r = ofFlow (Unit {0}) (λ n p c l h. RouteOk h r) x
+-- each number of the part is in its range
+abbrev pub PartOk : Part → Type 0
+PartOk (header g t) = HeaderOk g t
+PartOk (port n r b) = PortOk n r b
+PartOk (flow n p c l r) = FlowOk n p c l (length r)
+PartOk (extra n b) = ExtraOk n b
+PartOk (jitter n j) = JitterOk n j
+PartOk (clock k) = clockOk k ≡ true

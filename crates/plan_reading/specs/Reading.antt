@@ -10,7 +10,8 @@ use Rattle.cqf.specs.Bounded.{within, every}
 use Rattle.cqf.specs.Limits.{flowOk}
 use Rattle.cqf.specs.Plan.{Plan, portIn}
 use Rattle.plan.specs.Bytes.{number2, headSize, tagAt, sizeAt, wholeAt, valueAt}
-use Rattle.plan.specs.Field.{Field, FieldRead, field, refused, flowTag, extraTag, jitterTag, fieldAt, routeIn}
+use Rattle.plan.specs.Layout.{Kind, layout}
+use Rattle.plan.specs.Field.{Field, FieldRead, field, refused, fieldAt, routeIn}
 use Rattle.plan_reading.specs.Key.{headerKey, keyOf}
 use Rattle.plan_reading.specs.Draft.{Draft, blank, hasKey, taken, fieldRepeats, added}
 
@@ -33,9 +34,9 @@ pub data Step : Type 0 where
   stop : (number offset : ℕ) → Step
   more : (next key : ℕ) → Draft → Step
 
--- the ports of the route in the field at this offset
-abbrev pub routeAt : List ℕ → ℕ → List ℕ
-routeAt s at = routeIn (valueAt s at)
+-- the ports of the route in the field of this kind at this offset
+abbrev pub routeAt : Kind → List ℕ → ℕ → List ℕ
+routeAt k s at = routeIn k (valueAt s at)
 
 -- test 12: a field that should have stood earlier, last being the key of the field in front of it (0 for the first). Keys
 -- rise with tags and numbers.
@@ -49,8 +50,8 @@ fieldStep mode s at last d (refused number offset) = stop number offset
 fieldStep mode s at last d (field x next) =
     cond (taken d x) (stop duplicate at)
     (cond (late mode last x) (stop outOfOrder at)
-    (cond (fieldRepeats x (routeAt s at)) (stop repeatedPort at)
-    (more next (keyOf x) (added d x (routeAt s at)))))
+    (cond (fieldRepeats (routeAt (x .kind) s at)) (stop repeatedPort at)
+    (more next (keyOf x) (added d x (routeAt (x .kind) s at)))))
 
 unfoldable pub stepAt : Mode → List ℕ → (at last : ℕ) → Draft → Step
 unfolding fieldAt
@@ -73,7 +74,7 @@ firstField sought s = firstFrom sought (length s) s 0
 -- test 9 seeks a flow whose route names a port that is not in the plan with these rates
 unfoldable pub namesAbsent : List ℕ → List ℕ → ℕ → Bool
 unfolding valueAt every routeIn
-namesAbsent rates s at = eqb (tagAt s at) flowTag && not (every (portIn rates) (routeAt s at))
+namesAbsent rates s at = eqb (tagAt s at) (layout Kind.flow .tag) && not (every (portIn rates) (routeAt Kind.flow s at))
 
 -- whether a flow of number n is in the plan: its period is not 0
 abbrev pub hasFlow : List ℕ → ℕ → Bool
@@ -82,12 +83,12 @@ hasFlow periods n = flowOk n && ltb 0 (getD (0 ∷ periods) n 0)
 -- then the jitter of a flow that is not in the plan with these periods
 unfoldable pub jitterAbsent : List ℕ → List ℕ → ℕ → Bool
 unfolding number2 valueAt
-jitterAbsent periods s at = eqb (tagAt s at) jitterTag && not (hasFlow periods (number2 (valueAt s at) 0))
+jitterAbsent periods s at = eqb (tagAt s at) (layout Kind.jitter .tag) && not (hasFlow periods (number2 (valueAt s at) 0))
 
 -- and extra bytes of a port that is not in it
 unfoldable pub extraAbsent : List ℕ → List ℕ → ℕ → Bool
 unfolding number2 valueAt
-extraAbsent rates s at = eqb (tagAt s at) extraTag && not (portIn rates (number2 (valueAt s at) 0))
+extraAbsent rates s at = eqb (tagAt s at) (layout Kind.extra .tag) && not (portIn rates (number2 (valueAt s at) 0))
 
 -- this offset where it is in the plan, else the next that was sought
 abbrev pub orElse : List ℕ → ℕ → ℕ → ℕ

@@ -1,76 +1,100 @@
--- The fields as which a held plan is saved: the header, the ports, the flows, then the fields of later tags, each by rising number.
--- A field that says what its absence says is left out.
+-- What a held plan says, and the fields as which it is saved: the header, the ports, the flows, then the fields of later tags, each
+-- by rising number. What says no more than its absence is left out.
 use Prim.Native.Nat.{ℕ, zero, suc}
 use mathlib.Core.List.{List, [], _∷_, _++_, List·Memᴰ}
 use mathlib.Core.Bool.{Bool, cond, not}
 use lib.Dec.{ltb}
+use lib.ListN.{length}
 use Rattle.cqf.specs.Limits.{portSlots, flowSlots}
-use Rattle.cqf.specs.Plan.{Plan, clocksEqual, rateOf, blockingOf, extraOf, periodOf, countOf, lengthOf, jitterOf, hopsOf, routeOf}
-use Rattle.plan.specs.Field.{header, port, flow, extra, jitter, clock}
+use Rattle.cqf.specs.Plan.{Plan, clocksEqual, rateOf, blockingOf, extraOf, periodOf, countOf, lengthOf, jitterOf, routeOf}
+use Rattle.plan.specs.Layout.{Kind}
+use Rattle.plan_reading.specs.Part.{Part, header, port, flow, extra, jitter, clock}
 use Rattle.plan_reading.specs.FieldOrder.{SaysNothing}
-use Rattle.plan_reading.specs.Strict.{Entry, fieldsIn}
+use Rattle.plan_reading.specs.Strict.{Entry, entryOf, fieldsIn}
 use Rattle.plan_reading.specs.FieldBytes.{rowBytes}
 
--- a field where the test holds, and none where it does not
-abbrev pub when : Bool → Entry → List Entry
-when test e = cond test (e ∷ []) []
+-- the field that says this part alone
+abbrev plain : Kind → List ℕ → Entry
+plain k ns = entryOf (record { kind = k; numbers = ns; hops = 0 }) []
 
--- the fields of the first n slots
-unfoldable pub collect : ℕ → (ℕ → List Entry) → List Entry
+abbrev pub spell : Part → Entry
+spell (header g t) = plain Kind.header (g ∷ t ∷ [])
+spell (port n r b) = plain Kind.port (n ∷ r ∷ b ∷ [])
+spell (flow n p c l r) = entryOf (record { kind = Kind.flow; numbers = n ∷ p ∷ c ∷ l ∷ []; hops = length r }) r
+spell (extra n b) = plain Kind.extra (n ∷ b ∷ [])
+spell (jitter n j) = plain Kind.jitter (n ∷ j ∷ [])
+spell (clock k) = plain Kind.clock (k .drift ∷ k .timingJitter ∷ k .syncError ∷ [])
+
+abbrev pub spellAll : List Part → List Entry
+spellAll [] = []
+spellAll (x ∷ xs) = spell x ∷ spellAll xs
+
+-- a part where the test holds, and none where it does not
+abbrev pub when : Bool → Part → List Part
+when test x = cond test (x ∷ []) []
+
+-- the parts of the first n slots
+unfoldable pub collect : ℕ → (ℕ → List Part) → List Part
 collect zero at = []
 collect (suc n) at = collect n at ++ at n
 
 -- the header, the port in slot q, the flow in slot f, the port's extra bytes, the flow's jitter, the clocks
-abbrev pub headerField : Plan → Entry
-headerField p = record { part = header (p .guard) (p .top); route = [] }
+abbrev pub headerPart : Plan → Part
+headerPart p = header (p .guard) (p .top)
 
-abbrev pub portField : Plan → ℕ → Entry
-portField p q = record { part = port (suc q) (rateOf p q) (blockingOf p q); route = [] }
+abbrev pub portPart : Plan → ℕ → Part
+portPart p q = port (suc q) (rateOf p q) (blockingOf p q)
 
-abbrev pub flowField : Plan → ℕ → Entry
-flowField p f = record { part = flow (suc f) (periodOf p f) (countOf p f) (lengthOf p f) (hopsOf p f); route = routeOf p f }
+abbrev pub flowPart : Plan → ℕ → Part
+flowPart p f = flow (suc f) (periodOf p f) (countOf p f) (lengthOf p f) (routeOf p f)
 
-abbrev pub extraField : Plan → ℕ → Entry
-extraField p q = record { part = extra (suc q) (extraOf p q); route = [] }
+abbrev pub extraPart : Plan → ℕ → Part
+extraPart p q = extra (suc q) (extraOf p q)
 
-abbrev pub jitterField : Plan → ℕ → Entry
-jitterField p f = record { part = jitter (suc f) (jitterOf p f); route = [] }
+abbrev pub jitterPart : Plan → ℕ → Part
+jitterPart p f = jitter (suc f) (jitterOf p f)
 
-abbrev pub clockField : Plan → Entry
-clockField p = record { part = clock (p .clock); route = [] }
+abbrev pub clockPart : Plan → Part
+clockPart p = clock (p .clock)
 
 -- each where it says something
-abbrev pub portFields : Plan → ℕ → List Entry
-portFields p q = when (ltb 0 (rateOf p q)) (portField p q)
+abbrev pub portParts : Plan → ℕ → List Part
+portParts p q = when (ltb 0 (rateOf p q)) (portPart p q)
 
-abbrev pub flowFields : Plan → ℕ → List Entry
-flowFields p f = when (ltb 0 (periodOf p f)) (flowField p f)
+abbrev pub flowParts : Plan → ℕ → List Part
+flowParts p f = when (ltb 0 (periodOf p f)) (flowPart p f)
 
-abbrev pub extraFields : Plan → ℕ → List Entry
-extraFields p q = when (ltb 0 (extraOf p q)) (extraField p q)
+abbrev pub extraParts : Plan → ℕ → List Part
+extraParts p q = when (ltb 0 (extraOf p q)) (extraPart p q)
 
-abbrev pub jitterFields : Plan → ℕ → List Entry
-jitterFields p f = when (ltb 0 (jitterOf p f)) (jitterField p f)
+abbrev pub jitterParts : Plan → ℕ → List Part
+jitterParts p f = when (ltb 0 (jitterOf p f)) (jitterPart p f)
 
-abbrev pub clockFields : Plan → List Entry
-clockFields p = when (not (clocksEqual p)) (clockField p)
+abbrev pub clockParts : Plan → List Part
+clockParts p = when (not (clocksEqual p)) (clockPart p)
 
--- all of them, in strict order
-unfoldable pub savedFields : Plan → List Entry
+-- all that a plan says, in strict order of the fields that say it
+unfoldable pub savedParts : Plan → List Part
 unfolding collect
-savedFields p =
-    headerField p
-    ∷ (collect portSlots (portFields p)
-    ++ (collect flowSlots (flowFields p)
-    ++ (collect portSlots (extraFields p)
-    ++ (collect flowSlots (jitterFields p)
-    ++ clockFields p))))
+savedParts p =
+    headerPart p
+    ∷ (collect portSlots (portParts p)
+    ++ (collect flowSlots (flowParts p)
+    ++ (collect portSlots (extraParts p)
+    ++ (collect flowSlots (jitterParts p)
+    ++ clockParts p))))
 
--- and their bytes
+-- the fields, and their bytes
+abbrev pub savedFields : Plan → List Entry
+savedFields p = spellAll (savedParts p)
+
+abbrev pub partBytes : List Part → List ℕ
+partBytes xs = rowBytes (spellAll xs)
+
 unfoldable pub savedBytes : Plan → List ℕ
-unfolding savedFields rowBytes
-savedBytes p = rowBytes (savedFields p)
+unfolding savedParts rowBytes
+savedBytes p = partBytes (savedParts p)
 
 -- no field of a plan says what its absence says
 abbrev pub NoneSaysNothing : List ℕ → Type 0
-NoneSaysNothing s = (e : Entry) → List·Memᴰ e (fieldsIn s) → SaysNothing (e .part) → ⊥
+NoneSaysNothing s = (e : Entry) → List·Memᴰ e (fieldsIn s) → SaysNothing (e .field) → ⊥

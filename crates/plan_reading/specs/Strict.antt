@@ -9,7 +9,6 @@ use lib.ListN.{length}
 use Rattle.answers.specs.Refusals.{outOfOrder}
 use Rattle.cqf.specs.Plan.{Plan}
 use Rattle.plan.specs.Field.{Field, field, refused, fieldAt}
-use Rattle.plan_reading.specs.Kind.{ofFlow}
 use Rattle.plan_reading.specs.Rank.{before}
 use Rattle.plan_reading.specs.Reading.{PlanRead, accepted, rejected, Mode, routeAt, readAs}
 
@@ -20,13 +19,13 @@ pub record Accepts (mode : Mode) (s : List ℕ) : Type 0 where
   pub flows : ℕ
   pub reads : readAs mode s ≡ accepted plan ports flows
 
--- a field as it is read: its kind and numbers, and the ports of its route, which only a flow has
+-- a field as it is read: its kind and numbers, and the ports of its route
 pub record Entry : Type 0 where
-  pub part : Field
+  pub field : Field
   pub route : List ℕ
 
 abbrev pub entryOf : Field → List ℕ → Entry
-entryOf x r = record { part = x; route = ofFlow [] (λ n period count bytes hops. r) x }
+entryOf x r = record { field = x; route = r }
 
 -- the fields from this offset on, as far as each passes the tests 2 to 5. The first number bounds how many are read: the plan's
 -- length is enough.
@@ -34,7 +33,7 @@ unfoldable pub fieldsFrom : ℕ → List ℕ → ℕ → List Entry
 unfolding fieldAt
 fieldsFrom zero s at = []
 fieldsFrom (suc n) s at =
-    elim (fieldAt s at) [ field x next ↦ entryOf x (routeAt s at) ∷ fieldsFrom n s next | refused number offset ↦ [] ]
+    elim (fieldAt s at) [ field x next ↦ entryOf x (routeAt (x .kind) s at) ∷ fieldsFrom n s next | refused number offset ↦ [] ]
 
 -- the fields of a plan, from the front
 unfoldable pub fieldsIn : List ℕ → List Entry
@@ -48,12 +47,12 @@ SameContent s t = List·Permᴰ (fieldsIn s) (fieldsIn t)
 -- each field stands before all that follow it
 unfoldable pub ahead : Field → List Entry → Bool
 ahead x [] = true
-ahead x (e ∷ es) = before x (e .part) && ahead x es
+ahead x (e ∷ es) = before x (e .field) && ahead x es
 
 unfoldable pub rising : List Entry → Bool
 unfolding ahead
 rising [] = true
-rising (e ∷ es) = ahead (e .part) es && rising es
+rising (e ∷ es) = ahead (e .field) es && rising es
 
 -- the plan's fields stand in strict order
 abbrev pub InOrder : List ℕ → Type 0

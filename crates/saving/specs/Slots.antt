@@ -5,13 +5,13 @@ use mathlib.Core.Bool.{cond, not}
 use lib.Dec.{ltb}
 use lib.ListN.{getD}
 use Rattle.cqf.specs.Bounded.{sumTo}
-use Rattle.cqf.specs.Limits.{portSlots, flowSlots, maxExtra, maxHops}
+use Rattle.cqf.specs.Limits.{portSlots, flowSlots, maxExtra}
 use Rattle.cqf.specs.Plan.{Plan, clocksEqual, rateOf, extraOf, periodOf, jitterOf, hopsOf}
 use Rattle.plan.specs.Bytes.{headSize}
-use Rattle.plan.specs.Field.{headerSize, portSize, flowSize, extraSize, jitterSize, clockSize}
-use Rattle.plan_reading.specs.Strict.{Entry}
+use Rattle.plan.specs.Layout as wire
+use Rattle.plan_reading.specs.Part.{Part}
 use Rattle.plan_reading.specs.FieldBytes.{rowBytes}
-use Rattle.plan_reading.specs.Saved.{collect, portFields, flowFields, extraFields, jitterFields}
+use Rattle.plan_reading.specs.Saved.{partBytes, collect, portParts, flowParts, extraParts, jitterParts}
 use Rattle.saving.specs.declared.kind.Kind.{Kind}
 
 abbrev pub slotsOf : Kind → ℕ
@@ -20,26 +20,26 @@ slotsOf Kind.Flow = flowSlots
 slotsOf Kind.Extra = portSlots
 slotsOf Kind.Jitter = flowSlots
 
--- the field of this kind in a slot, if it has one
-abbrev pub fieldsOf : Kind → Plan → ℕ → List Entry
-fieldsOf Kind.Port = portFields
-fieldsOf Kind.Flow = flowFields
-fieldsOf Kind.Extra = extraFields
-fieldsOf Kind.Jitter = jitterFields
+-- what a field of this kind says of a slot, if it has one
+abbrev pub partsOf : Kind → Plan → ℕ → List Part
+partsOf Kind.Port = portParts
+partsOf Kind.Flow = flowParts
+partsOf Kind.Extra = extraParts
+partsOf Kind.Jitter = jitterParts
 
--- its bytes, and those of the fields of this kind in all slots
+-- the field's bytes, and those of the fields of this kind in all slots
 abbrev pub slotBytes : Kind → Plan → ℕ → List ℕ
-slotBytes kind p slot = rowBytes (fieldsOf kind p slot)
+slotBytes kind p slot = partBytes (partsOf kind p slot)
 
 abbrev pub kindBytes : Kind → Plan → List ℕ
-kindBytes kind p = rowBytes (collect (slotsOf kind) (fieldsOf kind p))
+kindBytes kind p = partBytes (collect (slotsOf kind) (partsOf kind p))
 
 -- how many bytes they are
 abbrev pub slotSize : Kind → Plan → ℕ → ℕ
-slotSize Kind.Port p q = cond (ltb 0 (rateOf p q)) (headSize + portSize) 0
-slotSize Kind.Flow p f = cond (ltb 0 (periodOf p f)) (headSize + (flowSize + 2 * hopsOf p f)) 0
-slotSize Kind.Extra p q = cond (ltb 0 (extraOf p q)) (headSize + extraSize) 0
-slotSize Kind.Jitter p f = cond (ltb 0 (jitterOf p f)) (headSize + jitterSize) 0
+slotSize Kind.Port p q = cond (ltb 0 (rateOf p q)) (headSize + wire.numbersSize wire.Kind.port) 0
+slotSize Kind.Flow p f = cond (ltb 0 (periodOf p f)) (headSize + (wire.numbersSize wire.Kind.flow + 2 * hopsOf p f)) 0
+slotSize Kind.Extra p q = cond (ltb 0 (extraOf p q)) (headSize + wire.numbersSize wire.Kind.extra) 0
+slotSize Kind.Jitter p f = cond (ltb 0 (jitterOf p f)) (headSize + wire.numbersSize wire.Kind.jitter) 0
 
 abbrev pub kindSize : Kind → Plan → ℕ
 kindSize kind p = sumTo (slotsOf kind) (slotSize kind p)
@@ -61,12 +61,12 @@ kindsBytes (suc k) p = kindsBytes k p ++ kindBytes (kindAt k) p
 
 -- how many bytes the clocks' field is, which is left out where the clocks are equal, and all fields of a plan
 abbrev pub clocksSize : Plan → ℕ
-clocksSize p = cond (not (clocksEqual p)) (headSize + clockSize) 0
+clocksSize p = cond (not (clocksEqual p)) (headSize + wire.numbersSize wire.Kind.clock) 0
 
 abbrev pub savedSize : Plan → ℕ
-savedSize p = headSize + headerSize + sumTo kinds (λ k. kindSize (kindAt k) p) + clocksSize p
+savedSize p = headSize + wire.numbersSize wire.Kind.header + sumTo kinds (λ k. kindSize (kindAt k) p) + clocksSize p
 
 -- what the tables of a valid plan keep to: no port adds more bytes to a frame, and no route has more ports, than a field may name
 pub record SlotsInRange (extras hops : List ℕ) : Type 0 where
   pub extra-most : (q : ℕ) → q < portSlots → getD extras q 0 ≤ maxExtra
-  pub hops-most : (f : ℕ) → f < flowSlots → getD hops f 0 ≤ maxHops
+  pub hops-most : (f : ℕ) → f < flowSlots → getD hops f 0 ≤ wire.layout wire.Kind.flow .mostHops

@@ -1,14 +1,13 @@
 // The clocks' field, which is left out where the clocks are equal.
 use numbers::clock::Clock;
-use plan::optional::CLOCK_SIZE;
-use plan::split::HEAD_SIZE;
+use plan::layout::CLOCK_SIZE;
+use plan::layout::HEAD_SIZE;
 use writing::field::put_clock;
 ghost use mathlib.Core.Path.{_≡_};
 ghost use mathlib.Core.List.{[]};
 ghost use Rattle.cqf.specs.Plan.{clocksEqual};
 ghost use Rattle.numbers.specs.Clock.{clockOf};
-ghost use Rattle.plan_reading.specs.FieldBytes.{rowBytes};
-ghost use Rattle.plan_reading.specs.Saved.{clockFields};
+ghost use Rattle.plan_reading.specs.Saved.{partBytes, clockParts};
 ghost use Rattle.tables.specs.Columns.{columns};
 ghost use Rattle.writing.specs.Laid.{laid};
 ghost use Rattle.saving.specs.Slots.{clocksSize};
@@ -37,7 +36,7 @@ pub(crate) fn clocks_size(clock: Clock) -> usize
 }
 
 pub(crate) fn put_clocks(clock: Clock, out: &mut [u8])
-    ensures { λ r. ⌜ now (out .exit) ≡ laid (rowBytes (clockFields (columns (clockOf clock) [] [] [] [] [] [] [] [] []))) (now (out .entry)) ⌝ }
+    ensures { λ r. ⌜ now (out .exit) ≡ laid (partBytes (clockParts (columns (clockOf clock) [] [] [] [] [] [] [] [] []))) (now (out .entry)) ⌝ }
 {
     if clocks_equal(clock) {
         return;

@@ -1,11 +1,12 @@
 // How many bytes the fields of a plan are.
 use crate::kind::Kind;
 use crate::kind::slots;
-use plan::optional::EXTRA_SIZE;
-use plan::optional::JITTER_SIZE;
-use plan::read::PORT_SIZE;
-use plan::route::FLOW_SIZE;
-use plan::split::HEAD_SIZE;
+use plan::layout::EXTRA_SIZE;
+use plan::layout::FLOW_SIZE;
+use plan::layout::HEAD_SIZE;
+use plan::layout::HOP_SIZE;
+use plan::layout::JITTER_SIZE;
+use plan::layout::PORT_SIZE;
 use tables::columns;
 ghost use mathlib.Core.Path.{_≡_};
 ghost use mathlib.Core.Bool.{cond};
@@ -43,7 +44,7 @@ pub(crate) fn slot_size<'a>(
 {
     match kind {
         Kind::Port => field_size(rates[slot], PORT_SIZE),
-        Kind::Flow => field_size(periods[slot], FLOW_SIZE + 2 * (hops[slot] as usize)),
+        Kind::Flow => field_size(periods[slot], FLOW_SIZE + HOP_SIZE * (hops[slot] as usize)),
         Kind::Extra => field_size(extras[slot] as u32, EXTRA_SIZE),
         Kind::Jitter => field_size(jitters[slot], JITTER_SIZE),
     }

@@ -3,22 +3,60 @@ use crate::number::put1;
 use crate::number::put2;
 use crate::number::put4;
 use numbers::clock::Clock;
-use plan::optional::CLOCK_SIZE;
-use plan::optional::EXTRA_SIZE;
-use plan::optional::JITTER_SIZE;
-use plan::read::CLOCK_TAG;
-use plan::read::EXTRA_TAG;
-use plan::read::HEADER_SIZE;
-use plan::read::HEADER_TAG;
-use plan::read::JITTER_TAG;
-use plan::read::PORT_SIZE;
-use plan::read::PORT_TAG;
-use plan::split::HEAD_SIZE;
+use plan::layout::BLOCKING_AT;
+use plan::layout::CLOCK_SIZE;
+use plan::layout::CLOCK_TAG;
+use plan::layout::DRIFT_AT;
+use plan::layout::EXTRA_AT;
+use plan::layout::EXTRA_PORT_AT;
+use plan::layout::EXTRA_SIZE;
+use plan::layout::EXTRA_TAG;
+use plan::layout::GUARD_AT;
+use plan::layout::HEAD_SIZE;
+use plan::layout::HEADER_SIZE;
+use plan::layout::HEADER_TAG;
+use plan::layout::JITTER_AT;
+use plan::layout::JITTER_FLOW_AT;
+use plan::layout::JITTER_SIZE;
+use plan::layout::JITTER_TAG;
+use plan::layout::PORT_AT;
+use plan::layout::PORT_SIZE;
+use plan::layout::PORT_TAG;
+use plan::layout::RATE_AT;
+use plan::layout::SIZE_AT;
+use plan::layout::SYNC_ERROR_AT;
+use plan::layout::TIMING_JITTER_AT;
+use plan::layout::TOP_AT;
 ghost use mathlib.Core.Path.{_≡_};
-ghost use Rattle.plan.specs.Field.{header, port, extra, jitter, clock};
+ghost use Rattle.plan_reading.specs.Part.{header, port, extra, jitter, clock};
 ghost use Rattle.numbers.specs.Clock.{clockOf};
 ghost use Rattle.writing.specs.Laid.{laid};
 ghost use Rattle.writing.specs.Fields.{headBytes, fieldBytes};
+
+// Where each number stands in its field.
+const GUARD: usize = HEAD_SIZE + GUARD_AT;
+
+const TOP: usize = HEAD_SIZE + TOP_AT;
+
+const PORT: usize = HEAD_SIZE + PORT_AT;
+
+const RATE: usize = HEAD_SIZE + RATE_AT;
+
+const BLOCKING: usize = HEAD_SIZE + BLOCKING_AT;
+
+const EXTRA_PORT: usize = HEAD_SIZE + EXTRA_PORT_AT;
+
+const EXTRA: usize = HEAD_SIZE + EXTRA_AT;
+
+const JITTER_FLOW: usize = HEAD_SIZE + JITTER_FLOW_AT;
+
+const JITTER: usize = HEAD_SIZE + JITTER_AT;
+
+const DRIFT: usize = HEAD_SIZE + DRIFT_AT;
+
+const TIMING_JITTER: usize = HEAD_SIZE + TIMING_JITTER_AT;
+
+const SYNC_ERROR: usize = HEAD_SIZE + SYNC_ERROR_AT;
 
 // Tag and length.
 pub fn put_head(out: &mut [u8], tag: u8, size: u16)
@@ -28,7 +66,7 @@ pub fn put_head(out: &mut [u8], tag: u8, size: u16)
         return;
     }
     put1(out, tag);
-    put2(&mut out[1..], size);
+    put2(&mut out[SIZE_AT..], size);
 }
 
 pub fn put_header(out: &mut [u8], guard: u32, top: u32)
@@ -38,8 +76,8 @@ pub fn put_header(out: &mut [u8], guard: u32, top: u32)
         return;
     }
     put_head(out, HEADER_TAG, HEADER_SIZE as u16);
-    put4(&mut out[3..], guard);
-    put4(&mut out[7..], top);
+    put4(&mut out[GUARD..], guard);
+    put4(&mut out[TOP..], top);
 }
 
 pub fn put_port(out: &mut [u8], number: u16, rate: u32, blocking: u16)
@@ -49,9 +87,9 @@ pub fn put_port(out: &mut [u8], number: u16, rate: u32, blocking: u16)
         return;
     }
     put_head(out, PORT_TAG, PORT_SIZE as u16);
-    put2(&mut out[3..], number);
-    put4(&mut out[5..], rate);
-    put2(&mut out[9..], blocking);
+    put2(&mut out[PORT..], number);
+    put4(&mut out[RATE..], rate);
+    put2(&mut out[BLOCKING..], blocking);
 }
 
 // A port's number and the bytes that it adds to each frame.
@@ -62,8 +100,8 @@ pub fn put_extra(out: &mut [u8], number: u16, bytes: u16)
         return;
     }
     put_head(out, EXTRA_TAG, EXTRA_SIZE as u16);
-    put2(&mut out[3..], number);
-    put2(&mut out[5..], bytes);
+    put2(&mut out[EXTRA_PORT..], number);
+    put2(&mut out[EXTRA..], bytes);
 }
 
 // A flow's number and its release jitter.
@@ -74,8 +112,8 @@ pub fn put_jitter(out: &mut [u8], number: u16, ns: u32)
         return;
     }
     put_head(out, JITTER_TAG, JITTER_SIZE as u16);
-    put2(&mut out[3..], number);
-    put4(&mut out[5..], ns);
+    put2(&mut out[JITTER_FLOW..], number);
+    put4(&mut out[JITTER..], ns);
 }
 
 pub fn put_clock(out: &mut [u8], numbers: Clock)
@@ -85,7 +123,7 @@ pub fn put_clock(out: &mut [u8], numbers: Clock)
         return;
     }
     put_head(out, CLOCK_TAG, CLOCK_SIZE as u16);
-    put4(&mut out[3..], numbers.drift);
-    put4(&mut out[7..], numbers.timing_jitter);
-    put4(&mut out[11..], numbers.sync_error);
+    put4(&mut out[DRIFT..], numbers.drift);
+    put4(&mut out[TIMING_JITTER..], numbers.timing_jitter);
+    put4(&mut out[SYNC_ERROR..], numbers.sync_error);
 }

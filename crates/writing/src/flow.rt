@@ -2,28 +2,42 @@
 use crate::field::put_head;
 use crate::number::put2;
 use crate::number::put4;
-use numbers::limits::MAX_HOPS;
-use plan::read::FLOW_TAG;
-use plan::route::FLOW_SIZE;
-use plan::split::HEAD_SIZE;
+use plan::layout::COUNT_AT;
+use plan::layout::FLOW_AT;
+use plan::layout::FLOW_SIZE;
+use plan::layout::FLOW_TAG;
+use plan::layout::HEAD_SIZE;
+use plan::layout::HOP_SIZE;
+use plan::layout::LENGTH_AT;
+use plan::layout::MAX_HOPS;
+use plan::layout::PERIOD_AT;
 ghost use mathlib.Core.Path.{_≡_};
 ghost use Rattle.plan_reading.specs.FieldBytes.{bytes2s};
 ghost use Rattle.writing.specs.Laid.{laid};
 ghost use Rattle.writing.specs.Fields.{flowBytes};
 
-const MOST_HOPS: usize = MAX_HOPS as usize;
+// Where each number, and the route, stands in its field.
+const FLOW: usize = HEAD_SIZE + FLOW_AT;
+
+const PERIOD: usize = HEAD_SIZE + PERIOD_AT;
+
+const COUNT: usize = HEAD_SIZE + COUNT_AT;
+
+const LENGTH: usize = HEAD_SIZE + LENGTH_AT;
+
+const ROUTE: usize = HEAD_SIZE + FLOW_SIZE;
 
 // The ports of a route, each in 2 bytes.
 pub fn put_route(out: &mut [u8], route: &[u8])
     ensures { λ r. ⌜ now (out .exit) ≡ laid (bytes2s (now (route .entry))) (now (out .entry)) ⌝ }
 {
     let hops = route.len();
-    if out.len() / 2 < hops {
+    if out.len() / HOP_SIZE < hops {
         return;
     }
     let mut i: usize = 0;
     while i < hops {
-        let at = 2 * i;
+        let at = HOP_SIZE * i;
         put2(&mut out[at..], route[i] as u16);
         i += 1;
     }
@@ -34,17 +48,17 @@ pub fn put_flow(out: &mut [u8], number: u16, period: u32, count: u16, bytes: u16
     ensures { λ r. ⌜ now (out .exit) ≡ laid (flowBytes number period count bytes (now (route .entry))) (now (out .entry)) ⌝ }
 {
     let hops = route.len();
-    if MOST_HOPS < hops {
+    if MAX_HOPS < hops {
         return;
     }
-    let size = FLOW_SIZE + 2 * hops;
+    let size = FLOW_SIZE + HOP_SIZE * hops;
     if out.len() < HEAD_SIZE + size {
         return;
     }
     put_head(out, FLOW_TAG, size as u16);
-    put2(&mut out[3..], number);
-    put4(&mut out[5..], period);
-    put2(&mut out[9..], count);
-    put2(&mut out[11..], bytes);
-    put_route(&mut out[13..], route);
+    put2(&mut out[FLOW..], number);
+    put4(&mut out[PERIOD..], period);
+    put2(&mut out[COUNT..], count);
+    put2(&mut out[LENGTH..], bytes);
+    put_route(&mut out[ROUTE..], route);
 }

@@ -9,7 +9,8 @@ use lib.Dec.{eqb}
 use lib.ListN.{length, getD, drop, length-drop, List·getD-eq-default}
 use Rattle.cqf.specs.Bounded.{every, elem, distinct}
 use Rattle.plan.specs.Bytes.{number2, numbers2}
-use Rattle.plan.specs.Field.{flowSize, hopsIn, routeLength, routePorts, routePort, routeIn}
+use Rattle.plan.specs.Layout.{Kind, numbersSize}
+use Rattle.plan.specs.Field.{hopsIn, routeLength, routePorts, routePort, routeIn}
 use Rattle.plan.specs.laws.Lists.{every-drop, elem-drop, distinct-drop, every-end, elem-end, distinct-end}
 
 -- h numbers are h
@@ -66,7 +67,7 @@ module _ (r : List ℕ) where
   pub distinct-past : (i : ℕ) → routeLength r ≤ i → distinct (drop i (routePorts r)) ≡ true
   distinct-past i h = distinct-end (routePorts r) i (omega (arith, route-length))
 
--- a flow's value names as many ports as its length says
-pub value-hops : (v : List ℕ) → length (routeIn v) ≡ hopsIn (length v)
+-- a value names as many ports as its length says
+pub value-hops : (k : Kind) (v : List ℕ) → length (routeIn k v) ≡ hopsIn k (length v)
 unfolding routeIn
-value-hops v = route-length (drop flowSize v) ∙ ap (λ (n : ℕ). n / 2) (length-drop flowSize v)
+value-hops k v = route-length (drop (numbersSize k) v) ∙ ap (λ (n : ℕ). n / 2) (length-drop (numbersSize k) v)

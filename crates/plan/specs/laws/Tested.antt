@@ -1,16 +1,18 @@
--- Laws of the tests 3, 4 and 5: which of the answers they lead to.
+-- Laws of the tests 2 to 5: which of the answers they lead to.
 use Prim.Native.Nat.{ℕ, _+_, _*_}
-use mathlib.Core.Path.{_≡_}
-use mathlib.Core.List.{List}
-use mathlib.Core.Bool.{true, false, _&&_}
-use borrow.Author.Tests.{ne-eqb}
+use mathlib.Core.Path.{_≡_, refl, sym, ap, _∙_}
+use mathlib.Core.List.{List, [], _∷_}
+use mathlib.Core.Option.{some, none}
+use mathlib.Core.Bool.{true, false, and-true, and-eq-true-iff}
+use mathlib.Mathlib.Data.Bool.Basic.{eq-false-of-not-eq-true}
+use native.Mathlib.Omega.{arith}
+use borrow.Author.Tests.{eq-eqb, ne-eqb, eqb-true}
 use lib.Dec.{eqb}
-use lib.ListN.{length}
+use lib.ListN.{length, drop-of-length-le}
 use Rattle.cqf.specs.Bounded.{every}
-use Rattle.cqf.specs.Limits.{guardOk, topOk, portOk, rateOk, lengthOk, blockingOk, extraOk, flowOk, periodOk, countOk, jitterOk, hopsOk}
-use Rattle.cqf.specs.Plan.{clockOk}
-use Rattle.plan.specs.Bytes.{number2, number4, headSize, tagAt, sizeAt, wholeAt, valueAt}
-use Rattle.plan.specs.Field.{header, port, flow, extra, jitter, clock, field, refused, headerTag, portTag, flowTag, extraTag, jitterTag, clockTag, headerSize, portSize, flowSize, extraSize, jitterSize, clockSize, hopsIn, routeIn, headerIn, portInValue, flowIn, extraIn, jitterIn, clockNumbers, clockIn, fieldIn, fieldAt}
+use Rattle.plan.specs.Bytes.{headSize, tagAt, sizeAt, wholeAt, valueAt}
+use Rattle.plan.specs.Layout.{Kind, layout, numbersSize, hopsAllowed, kinds}
+use Rattle.plan.specs.Field.{field, refused, numbersAt, inRanges, hopsIn, routePorts, routeIn, fieldBy, sizeOk, rangesOk, valueIn, kindBy, kindRead, fieldIn, fieldAt}
 
 -- test 2
 module _ (s : List ℕ) (at : ℕ) where
@@ -22,131 +24,75 @@ module _ (s : List ℕ) (at : ℕ) where
   unfolding fieldAt
   field-whole e = rw e
 
+-- test 3: each kind is found by its tag, and by no other
+pub kind-found : (k : Kind) → kindBy kinds (layout k .tag) ≡ some k
+unfolding kindBy
+kind-found Kind.header = refl
+kind-found Kind.port = refl
+kind-found Kind.flow = refl
+kind-found Kind.extra = refl
+kind-found Kind.jitter = refl
+kind-found Kind.clock = refl
+
+none-found : (ks : List Kind) (tag : ℕ) → ((k : Kind) → tag ≡ layout k .tag → ⊥) → kindBy ks tag ≡ none
+unfolding kindBy
+none-found [] tag other = refl
+none-found (k ∷ ks) tag other = rw (ne-eqb tag (layout k .tag) (other k), kindBy) (none-found ks tag other)
+
 module _ (v : List ℕ) (at next : ℕ) where
-  -- test 3: the tag says which field it is
-  pub tag-header : (tag : ℕ) → tag ≡ headerTag → fieldIn tag v at next ≡ headerIn v at next
+  pub tag-known : (k : Kind) (tag : ℕ) → tag ≡ layout k .tag → fieldIn tag v at next ≡ valueIn k v at next
   unfolding fieldIn
-  tag-header tag e = rw e
+  tag-known k tag e = ap (λ (t : ℕ). kindRead (kindBy kinds t) v at next) e ∙ ap (λ o. kindRead o v at next) (kind-found k)
 
-  pub tag-port : (tag : ℕ) → tag ≡ portTag → fieldIn tag v at next ≡ portInValue v at next
+  pub tag-unknown : (tag : ℕ) → ((k : Kind) → tag ≡ layout k .tag → ⊥) → fieldIn tag v at next ≡ refused 3 at
   unfolding fieldIn
-  tag-port tag e = rw e
+  tag-unknown tag other = ap (λ o. kindRead o v at next) (none-found kinds tag other)
 
-  pub tag-flow : (tag : ℕ) → tag ≡ flowTag → fieldIn tag v at next ≡ flowIn v at next
-  unfolding fieldIn
-  tag-flow tag e = rw e
+  -- tests 4 and 5: a value of another length, with a number out of range, or with neither
+  module _ (k : Kind) where
+    pub value-length : sizeOk k (length v) ≡ false → valueIn k v at next ≡ refused 4 at
+    unfolding valueIn
+    value-length e = rw e
 
-  pub tag-extra : (tag : ℕ) → tag ≡ extraTag → fieldIn tag v at next ≡ extraIn v at next
-  unfolding fieldIn
-  tag-extra tag e = rw e
+    pub value-range : sizeOk k (length v) ≡ true → rangesOk k v ≡ false → valueIn k v at next ≡ refused 5 at
+    unfolding valueIn
+    value-range e f = rw (e, f)
 
-  pub tag-jitter : (tag : ℕ) → tag ≡ jitterTag → fieldIn tag v at next ≡ jitterIn v at next
-  unfolding fieldIn
-  tag-jitter tag e = rw e
+    pub value-read : sizeOk k (length v) ≡ true → rangesOk k v ≡ true → valueIn k v at next ≡ field (fieldBy k v) next
+    unfolding valueIn
+    value-read e f = rw (e, f)
 
-  pub tag-clock : (tag : ℕ) → tag ≡ clockTag → fieldIn tag v at next ≡ clockIn v at next
-  unfolding fieldIn
-  tag-clock tag e = rw e
+    -- of a kind without a route
+    module _ (plain : layout k .mostHops ≡ 0) where
+      no-route : (h : ℕ) → hopsAllowed (layout k .mostHops) h ≡ eqb h 0
+      no-route h = ap (λ (m : ℕ). hopsAllowed m h) plain
 
-  pub tag-unknown
-      : (tag : ℕ)
-      → (tag ≡ headerTag → ⊥)
-      → (tag ≡ portTag → ⊥)
-      → (tag ≡ flowTag → ⊥)
-      → (tag ≡ extraTag → ⊥)
-      → (tag ≡ jitterTag → ⊥)
-      → (tag ≡ clockTag → ⊥)
-      → fieldIn tag v at next ≡ refused 3 at
-  unfolding fieldIn
-  tag-unknown tag h p f x j c = rw (ne-eqb _ _ h, ne-eqb _ _ p, ne-eqb _ _ f, ne-eqb _ _ x, ne-eqb _ _ j, ne-eqb _ _ c)
+      pub plain-length : (length v ≡ numbersSize k → ⊥) → valueIn k v at next ≡ refused 4 at
+      plain-length other = value-length (eq-false-of-not-eq-true λ e.
+          let t = and-eq-true-iff (hopsAllowed (layout k .mostHops) (hopsIn k (length v))) _ .0 e in
+          let none : hopsIn k (length v) ≡ 0 = eqb-true (hopsIn k (length v)) 0 (sym (no-route (hopsIn k (length v))) ∙ t .0) in
+          let same : length v ≡ numbersSize k + 2 * hopsIn k (length v) = eqb-true (length v) _ (t .1) in
+          other (omega arith))
 
-  -- a header of another length, with a number out of range, or with neither
-  pub header-length : eqb (length v) headerSize ≡ false → headerIn v at next ≡ refused 4 at
-  unfolding headerIn
-  header-length e = rw e
+      module _ (size : length v ≡ numbersSize k) where
+        hopless : hopsIn k (length v) ≡ 0
+        hopless = omega arith
 
-  pub header-range : eqb (length v) headerSize ≡ true → (guardOk (number4 v 0) && topOk (number4 v 4)) ≡ false
-      → headerIn v at next ≡ refused 5 at
-  unfolding headerIn
-  header-range e f = rw (e, f)
+        plain-sized : sizeOk k (length v) ≡ true
+        plain-sized = rw (hopless, no-route 0) (eq-eqb (length v) _ (omega arith))
 
-  pub header-read : eqb (length v) headerSize ≡ true → (guardOk (number4 v 0) && topOk (number4 v 4)) ≡ true
-      → headerIn v at next ≡ field (header (number4 v 0) (number4 v 4)) next
-  unfolding headerIn
-  header-read e f = rw (e, f)
+        routeless : routeIn k v ≡ []
+        unfolding routeIn
+        routeless = ap routePorts (drop-of-length-le v {i = numbersSize k} (omega arith))
 
-  -- the same of a port
-  pub port-length : eqb (length v) portSize ≡ false → portInValue v at next ≡ refused 4 at
-  unfolding portInValue
-  port-length e = rw e
+        plain-ranges : rangesOk k v ≡ inRanges (layout k .numbers) (numbersAt (layout k .numbers) v 0)
+        unfolding every
+        plain-ranges = rw routeless (and-true _)
 
-  pub port-range : eqb (length v) portSize ≡ true → (portOk (number2 v 0) && rateOk (number4 v 2) && blockingOk (number2 v 6)) ≡ false
-      → portInValue v at next ≡ refused 5 at
-  unfolding portInValue
-  port-range e f = rw (e, f)
+        pub plain-range : inRanges (layout k .numbers) (numbersAt (layout k .numbers) v 0) ≡ false → valueIn k v at next ≡ refused 5 at
+        plain-range f = value-range plain-sized (plain-ranges ∙ f)
 
-  pub port-read : eqb (length v) portSize ≡ true → (portOk (number2 v 0) && rateOk (number4 v 2) && blockingOk (number2 v 6)) ≡ true
-      → portInValue v at next ≡ field (port (number2 v 0) (number4 v 2) (number2 v 6)) next
-  unfolding portInValue
-  port-read e f = rw (e, f)
-
-  -- and of a flow, whose length says how many ports its route has
-  pub flow-length : (hopsOk (hopsIn (length v)) && eqb (length v) (flowSize + 2 * hopsIn (length v))) ≡ false
-      → flowIn v at next ≡ refused 4 at
-  unfolding flowIn
-  flow-length e = rw e
-
-  pub flow-range : (hopsOk (hopsIn (length v)) && eqb (length v) (flowSize + 2 * hopsIn (length v))) ≡ true
-      → (flowOk (number2 v 0) && periodOk (number4 v 2) && countOk (number2 v 6) && lengthOk (number2 v 8) && every portOk (routeIn v)) ≡ false
-      → flowIn v at next ≡ refused 5 at
-  unfolding flowIn
-  flow-range e f = rw (e, f)
-
-  pub flow-read : (hopsOk (hopsIn (length v)) && eqb (length v) (flowSize + 2 * hopsIn (length v))) ≡ true
-      → (flowOk (number2 v 0) && periodOk (number4 v 2) && countOk (number2 v 6) && lengthOk (number2 v 8) && every portOk (routeIn v)) ≡ true
-      → flowIn v at next ≡ field (flow (number2 v 0) (number4 v 2) (number2 v 6) (number2 v 8) (hopsIn (length v))) next
-  unfolding flowIn
-  flow-read e f = rw (e, f)
-
-  -- and of a port's extra bytes
-  pub extra-length : eqb (length v) extraSize ≡ false → extraIn v at next ≡ refused 4 at
-  unfolding extraIn
-  extra-length e = rw e
-
-  pub extra-range : eqb (length v) extraSize ≡ true → (portOk (number2 v 0) && extraOk (number2 v 2)) ≡ false
-      → extraIn v at next ≡ refused 5 at
-  unfolding extraIn
-  extra-range e f = rw (e, f)
-
-  pub extra-read : eqb (length v) extraSize ≡ true → (portOk (number2 v 0) && extraOk (number2 v 2)) ≡ true
-      → extraIn v at next ≡ field (extra (number2 v 0) (number2 v 2)) next
-  unfolding extraIn
-  extra-read e f = rw (e, f)
-
-  -- and of a flow's jitter
-  pub jitter-length : eqb (length v) jitterSize ≡ false → jitterIn v at next ≡ refused 4 at
-  unfolding jitterIn
-  jitter-length e = rw e
-
-  pub jitter-range : eqb (length v) jitterSize ≡ true → (flowOk (number2 v 0) && jitterOk (number4 v 2)) ≡ false
-      → jitterIn v at next ≡ refused 5 at
-  unfolding jitterIn
-  jitter-range e f = rw (e, f)
-
-  pub jitter-read : eqb (length v) jitterSize ≡ true → (flowOk (number2 v 0) && jitterOk (number4 v 2)) ≡ true
-      → jitterIn v at next ≡ field (jitter (number2 v 0) (number4 v 2)) next
-  unfolding jitterIn
-  jitter-read e f = rw (e, f)
-
-  -- and of a clock
-  pub clock-length : eqb (length v) clockSize ≡ false → clockIn v at next ≡ refused 4 at
-  unfolding clockIn
-  clock-length e = rw e
-
-  pub clock-range : eqb (length v) clockSize ≡ true → clockOk (clockNumbers v) ≡ false → clockIn v at next ≡ refused 5 at
-  unfolding clockIn
-  clock-range e f = rw (e, f)
-
-  pub clock-read : eqb (length v) clockSize ≡ true → clockOk (clockNumbers v) ≡ true → clockIn v at next ≡ field (clock (clockNumbers v)) next
-  unfolding clockIn
-  clock-read e f = rw (e, f)
+        pub plain-read
+            : inRanges (layout k .numbers) (numbersAt (layout k .numbers) v 0) ≡ true
+            → valueIn k v at next ≡ field (record { kind = k; numbers = numbersAt (layout k .numbers) v 0; hops = 0 }) next
+        plain-read f = value-read plain-sized (plain-ranges ∙ f) ∙ rw hopless

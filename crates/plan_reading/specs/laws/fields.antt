@@ -1,6 +1,7 @@
--- Laws of one field: its numbers in range, its kind, and its bytes as they are read and written.
+-- Laws of one field: its numbers in range, its kind and its parts, and its bytes as they are read and written.
 pub mod Within
 pub mod Passes
+pub mod Ranged
 pub mod Kinds
 pub mod Found
 pub mod Encoded

@@ -1,5 +1,7 @@
--- A row of fields: its bytes, and that they are read as the row.
+-- A row of fields: its bytes, that they are read as the row, and its parts.
 pub mod SavedRow
+pub mod RowParts
+pub mod Spelled
 pub mod Written
 pub mod EntryRead
 pub mod RowRead

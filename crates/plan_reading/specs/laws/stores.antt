@@ -1,9 +1,9 @@
--- Laws of the tables as fields are stored into them, column by column and slot by slot.
+-- Laws of the tables as parts are stored into them, column by column and slot by slot.
 pub mod Stores
 pub mod Puts
 pub mod Tables
-pub mod Stored
 pub mod Commute
+pub mod Stored
 pub mod Zero
 pub mod Columns
 pub mod Sources

@@ -1,6 +1,5 @@
--- Every accepted plan is valid: slot by slot, field by field.
+-- Every accepted plan is valid: slot by slot, part by part.
 pub mod Slots
 pub mod Held
-pub mod Drafts
-pub mod Optional
+pub mod Parts
 pub mod Valid

@@ -14,20 +14,20 @@ use Rattle.cqf.specs.laws.Bounds.{sumTo-most}
 use Rattle.cqf.specs.laws.Ranges.{extra-most}
 use Rattle.cqf.specs.laws.Valid.{Empty, Held, slot-cases}
 use Rattle.plan.specs.Bytes.{headSize}
-use Rattle.plan.specs.Field.{clock, headerSize, clockSize}
-use Rattle.plan_reading.specs.Strict.{Entry}
+use Rattle.plan.specs.Layout as wire
+use Rattle.plan_reading.specs.Part.{Part}
 use Rattle.plan_reading.specs.FieldBytes.{valueOf, bytesOf, rowBytes}
-use Rattle.plan_reading.specs.Saved.{collect, headerField, clockField, portFields, flowFields, extraFields, jitterFields, clockFields, savedFields, savedBytes}
+use Rattle.plan_reading.specs.Saved.{spell, partBytes, collect, headerPart, clockPart, portParts, flowParts, extraParts, jitterParts, clockParts, savedParts, savedBytes}
 use Rattle.tables.specs.Columns.{columns}
 use Rattle.saving.specs.declared.kind.Kind.{Kind}
-use Rattle.saving.specs.Slots.{slotsOf, fieldsOf, kindBytes, slotSize, kindSize, kinds, kindAt, kindsBytes, clocksSize, savedSize, SlotsInRange}
-use Rattle.saving.specs.laws.Sizes.{mostSize, when-length, slot-columns, row-append, collect-length, sum-next, sum-front, slots-few, cond-most, slot-most}
+use Rattle.saving.specs.Slots.{slotsOf, partsOf, kindBytes, slotSize, kindSize, kinds, kindAt, kindsBytes, clocksSize, savedSize, SlotsInRange}
+use Rattle.saving.specs.laws.Sizes.{mostSize, when-length, slot-columns, bytes-append, collect-length, sum-next, sum-front, slots-few, cond-most, slot-most}
 
 -- the columns that a kind goes by
 fields-columns
     : (kind : Kind) (p : Plan) (i : ℕ)
-    → fieldsOf kind (columns equalClocks (p .rates) (p .blockings) (p .extras) (p .periods) (p .counts) (p .lengths) (p .jitters) (p .hops) (p .routes)) i
-    ≡ fieldsOf kind p i
+    → partsOf kind (columns equalClocks (p .rates) (p .blockings) (p .extras) (p .periods) (p .counts) (p .lengths) (p .jitters) (p .hops) (p .routes)) i
+    ≡ partsOf kind p i
 fields-columns Kind.Port p i = refl
 fields-columns Kind.Flow p i = refl
 fields-columns Kind.Extra p i = refl
@@ -37,7 +37,7 @@ pub bytes-columns
     : (kind : Kind) (p : Plan)
     → kindBytes kind (columns equalClocks (p .rates) (p .blockings) (p .extras) (p .periods) (p .counts) (p .lengths) (p .jitters) (p .hops) (p .routes))
     ≡ kindBytes kind p
-bytes-columns kind p = ap (λ (at : ℕ → List Entry). rowBytes (collect (slotsOf kind) at)) (fun-ext (fields-columns kind p))
+bytes-columns kind p = ap (λ (at : ℕ → List Part). partBytes (collect (slotsOf kind) at)) (fun-ext (fields-columns kind p))
 
 pub size-columns
     : (kind : Kind) (p : Plan)
@@ -69,29 +69,34 @@ kinds-room p k l =
     omega (arith, kinds-length k p, collect-length (kindAt k) p (slotsOf (kindAt k)), kinds-length kinds p, sum-next k g, sum-front kinds (k + 1) g (omega arith))
 
 -- all fields
-rows : (ps fs es js cs : List Entry) → rowBytes (ps ++ (fs ++ (es ++ (js ++ cs)))) ≡ rowBytes ps ++ (rowBytes fs ++ (rowBytes es ++ (rowBytes js ++ rowBytes cs)))
-rows ps fs es js cs = simp row-append
+rows : (ps fs es js cs : List Part) → partBytes (ps ++ (fs ++ (es ++ (js ++ cs)))) ≡ partBytes ps ++ (partBytes fs ++ (partBytes es ++ (partBytes js ++ partBytes cs)))
+rows ps fs es js cs =
+    bytes-append ps (fs ++ (es ++ (js ++ cs)))
+    ∙ ap (λ (l : List ℕ). partBytes ps ++ l)
+    (bytes-append fs (es ++ (js ++ cs))
+    ∙ ap (λ (l : List ℕ). partBytes fs ++ l)
+    (bytes-append es (js ++ cs) ∙ ap (λ (l : List ℕ). partBytes es ++ l) (bytes-append js cs)))
 
 grouped : (h ps fs es js cs : List ℕ) → h ++ (ps ++ (fs ++ (es ++ (js ++ cs)))) ≡ (h ++ (((ps ++ fs) ++ es) ++ js)) ++ cs
 grouped h ps fs es js cs = simp append-assoc
 
-pub saved-parts : (p : Plan) → savedBytes p ≡ (bytesOf (headerField p) ++ kindsBytes kinds p) ++ rowBytes (clockFields p)
-unfolding savedBytes savedFields kindsBytes rowBytes
+pub saved-parts : (p : Plan) → savedBytes p ≡ (bytesOf (spell (headerPart p)) ++ kindsBytes kinds p) ++ partBytes (clockParts p)
+unfolding savedBytes savedParts kindsBytes rowBytes
 saved-parts p =
-    ap (λ (l : List ℕ). bytesOf (headerField p) ++ l)
-    (rows (collect portSlots (portFields p)) (collect flowSlots (flowFields p)) (collect portSlots (extraFields p)) (collect flowSlots (jitterFields p)) (clockFields p))
-    ∙ grouped (bytesOf (headerField p)) (kindBytes Kind.Port p) (kindBytes Kind.Flow p) (kindBytes Kind.Extra p) (kindBytes Kind.Jitter p) (rowBytes (clockFields p))
+    ap (λ (l : List ℕ). bytesOf (spell (headerPart p)) ++ l)
+    (rows (collect portSlots (portParts p)) (collect flowSlots (flowParts p)) (collect portSlots (extraParts p)) (collect flowSlots (jitterParts p)) (clockParts p))
+    ∙ grouped (bytesOf (spell (headerPart p))) (kindBytes Kind.Port p) (kindBytes Kind.Flow p) (kindBytes Kind.Extra p) (kindBytes Kind.Jitter p) (partBytes (clockParts p))
 
-pub parts-length : (p : Plan) → length (bytesOf (headerField p)) + length (kindsBytes kinds p) + length (rowBytes (clockFields p)) ≡ length (savedBytes p)
+pub parts-length : (p : Plan) → length (bytesOf (spell (headerPart p))) + length (kindsBytes kinds p) + length (partBytes (clockParts p)) ≡ length (savedBytes p)
 parts-length p =
-    let h = bytesOf (headerField p) in
+    let h = bytesOf (spell (headerPart p)) in
     let ks = kindsBytes kinds p in
-    let cs = rowBytes (clockFields p) in
+    let cs = partBytes (clockParts p) in
     omega (arith, ap length (saved-parts p), length-append (h ++ ks) cs, length-append h ks)
 
-clocks-length : (p : Plan) → length (rowBytes (clockFields p)) ≡ clocksSize p
+clocks-length : (p : Plan) → length (partBytes (clockParts p)) ≡ clocksSize p
 unfolding bytesOf valueOf
-clocks-length p = when-length (not (clocksEqual p)) (clockField p) (headSize + clockSize) refl
+clocks-length p = when-length (not (clocksEqual p)) (clockPart p) (headSize + wire.numbersSize wire.Kind.clock) refl
 
 saved-length : (p : Plan) → length (savedBytes p) ≡ savedSize p
 unfolding bytesOf valueOf
@@ -109,7 +114,7 @@ pub size-needed
     : (p : Plan)
     → savedSize (columns (p .clock) (p .rates) [] (p .extras) (p .periods) [] [] (p .jitters) (p .hops) []) ≡ length (savedBytes p)
 size-needed p =
-    ap (λ (g : ℕ → ℕ). headSize + headerSize + sumTo kinds g + clocksSize p) (fun-ext (λ k. size-same (kindAt k) p))
+    ap (λ (g : ℕ → ℕ). headSize + wire.numbersSize wire.Kind.header + sumTo kinds g + clocksSize p) (fun-ext (λ k. size-same (kindAt k) p))
     ∙ sym (saved-length p)
 
 -- the fields of a kind are few bytes
@@ -117,8 +122,8 @@ pub kind-most : (kind : Kind) (p : Plan) → SlotsInRange (p .extras) (p .hops) 
 kind-most kind p k =
     omega (arith, slots-few kind, sumTo-most (slotsOf kind) (slotSize kind p) mostSize (λ i l. slot-most kind p i k l))
 
-pub clocks-most : (p : Plan) → clocksSize p ≤ headSize + clockSize
-clocks-most p = cond-most (not (clocksEqual p)) (headSize + clockSize) (headSize + clockSize) (omega arith)
+pub clocks-most : (p : Plan) → clocksSize p ≤ headSize + wire.numbersSize wire.Kind.clock
+clocks-most p = cond-most (not (clocksEqual p)) (headSize + wire.numbersSize wire.Kind.clock) (headSize + wire.numbersSize wire.Kind.clock) (omega arith)
 
 -- the tables of a valid plan
 pub valid-range : (p : Plan) → validPlan p ≡ true → SlotsInRange (p .extras) (p .hops)

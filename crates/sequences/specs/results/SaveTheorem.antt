@@ -101,6 +101,6 @@ pub unmade-saved
     × ((f : ℕ) → f < flowSlots → routeOf (tidied p) f ≡ routeOf p f)
 unmade-saved p valid sized = (
   saved-as p (tidied p) (countTo portSlots (λ q. ltb 0 (rateOf p q))) (countTo flowSlots (λ f. ltb 0 (periodOf p f))) valid
-      (λ mode. saved-read p valid sized mode),
+      (λ mode. saved-read p valid sized (saved-length p valid) mode),
   λ f l. tidied-route p f l (valid-hops p valid f l),
 )

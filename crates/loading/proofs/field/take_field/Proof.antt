@@ -47,16 +47,23 @@ in-time : (c : tie.Else2) →
 in-time c = sym (c .before .is-late .ensures) ∙ c .if2 .left
 
 -- the route's bytes that were split off are those of the field that was read
-route-read : (c : tie.After-route-bytes) → routePorts (now (c .route-bytes .result)) ≡ routeAt (now (entry (past-6 (c .before .before)) .args .plan)) (entry (past-6 (c .before .before)) .args .at)
+route-read : (c : tie.After-route-bytes) →
+    let a = entry (past-6 (c .before .before .before)) in
+    routePorts (now (c .route-bytes .result)) ≡ routeAt (fieldOf (a .args .x) .kind) (now (a .args .plan)) (a .args .at)
 unfolding routeIn
 route-read c =
-    let a = entry (past-6 (c .before .before)) in
-    rw (c .route-bytes .ensures, c .before .field-value .ensures, part-whole _ _ (field-is-whole _ _ (fieldOf (a .args .x)) (a .args .next) (a .pre .2)))
-
-repeats-read : (c : tie.After-field-repeats) →
     let a = entry (past-6 (c .before .before .before)) in
-    c .field-repeats .result ≡ fieldRepeats (fieldOf (a .args .x)) (routeAt (now (a .args .plan)) (a .args .at))
-repeats-read c = c .field-repeats .ensures ∙ rw (route-read (c .before))
+    rw (
+      c .route-bytes .ensures,
+      c .before .route-start .ensures,
+      c .before .before .field-value .ensures,
+      part-whole _ _ (field-is-whole _ _ (fieldOf (a .args .x)) (a .args .next) (a .pre .2)),
+    )
+
+repeats-read : (c : tie.After-route-repeats) →
+    let a = entry (past-6 (c .before .before .before .before)) in
+    c .route-repeats .result ≡ fieldRepeats (routeAt (fieldOf (a .args .x) .kind) (now (a .args .plan)) (a .args .at))
+repeats-read c = c .route-repeats .ensures ∙ rw (route-read (c .before))
 
 element-copy-out-if1 : tie.Need-element-copy-out-if1
 element-copy-out-if1 c = omega (arith, c .key-of .ensures, key-below (fieldOf (c .before .before .args .x)) (found-numbers _ _ _ _ (c .before .before .pre .2)))
@@ -77,7 +84,7 @@ returns-2 c =
 
 returns-3 : tie.Need-returns-3
 returns-3 c =
-    let twelve = c .before .before .before .before in
+    let twelve = c .before .before .before .before .before in
     let six = past-6 twelve in
     let a = entry six in
     sym (step-repeats (modeOf (a .args .strict)) _ _ _ (held a) (fieldOf (a .args .x)) (a .args .next) (a .pre .2)
@@ -88,18 +95,18 @@ returns-3 c =
 store-field-requires : tie.Need-store-field-requires
 store-field-requires c κs =
     let route = past-7 c .before .before in
-    let a = entry (past-6 (route .before .before)) in
+    let a = entry (past-6 (route .before .before .before)) in
     (a .pre .0, a .pre .1, found-numbers _ _ _ _ (a .pre .2), rw (route-read route) (found-route _ _ _ _ (a .pre .2)))
 
 returns-4 : tie.Need-returns-4
 returns-4 c =
     let seven = past-7 (c .before) in
     let route = seven .before .before in
-    let twelve = route .before .before in
+    let twelve = route .before .before .before in
     let six = past-6 twelve in
     let a = entry six in
     rw (c .store-field .ensures, route-read route)
-    (ap (λ (key : ℕ). more (a .args .next) key (added (held a) (fieldOf (a .args .x)) (routeAt (now (a .args .plan)) (a .args .at)))) (six .before .before .key-of .ensures)
+    (ap (λ (key : ℕ). more (a .args .next) key (added (held a) (fieldOf (a .args .x)) (routeAt (fieldOf (a .args .x) .kind) (now (a .args .plan)) (a .args .at)))) (six .before .before .key-of .ensures)
     ∙ sym (step-added (modeOf (a .args .strict)) _ _ _ (held a) (fieldOf (a .args .x)) (a .args .next) (a .pre .2)
     (free six)
     (in-time twelve)
@@ -114,6 +121,7 @@ take-field-spec =
     returns
     (λ c κs. search needs)
     returns-2
+    (λ c κs. search needs)
     (λ c κs. search needs)
     (λ c κs. search needs)
     (λ c κs. search needs)

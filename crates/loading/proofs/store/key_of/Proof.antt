@@ -3,6 +3,9 @@ use borrow.Author.Needs.{needs}
 use Rattle.loading.proofs.store.key_of.Statement.{statement}
 use Rattle.loading.proofs.store.key_of.Tie as tie
 
+returns : tie.Need-returns
+returns c = rw (c .enum-told .given .1)
+
 returns-2 : tie.Need-returns-2
 returns-2 c = rw (c .before .before .field .given .1)
 
@@ -14,6 +17,9 @@ returns-4 c = rw (c .before .before .field3 .given .1)
 
 returns-5 : tie.Need-returns-5
 returns-5 c = rw (c .before .before .field4 .given .1)
+
+returns-6 : tie.Need-returns-6
+returns-6 c = rw (c .enum-told2 .given .1)
 
 pub key-of-spec : {M : Type 1} → statement M
 key-of-spec =
@@ -36,9 +42,9 @@ key-of-spec =
     (λ c. search needs)
     (λ c. search needs)
     (λ c. search needs)
-    (λ c. search needs)
+    returns
     returns-2
     returns-3
     returns-4
     returns-5
-    (λ c. search needs))
+    returns-6)

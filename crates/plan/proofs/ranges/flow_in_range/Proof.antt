@@ -1,6 +1,6 @@
 -- `flow_in_range` meets its contract: each return goes by the tests that led there.
 use mathlib.Core.Path.{_≡_, sym, _∙_}
-use mathlib.Core.Bool.{true}
+use mathlib.Core.Bool.{true, and-true}
 use borrow.Author.Needs.{needs}
 use borrow.Author.Tests.{not-true, not-false}
 use Rattle.cqf.specs.Limits.{flowOk, periodOk, countOk}
@@ -43,7 +43,7 @@ length-ok-requires c κs = search needs
 returns-4 : tie.Need-returns-4
 returns-4 c =
     c .length-ok .ensures
-    ∙ sym (rw (number (c .before .before .before .before .before), period (c .before .before .before), count (c .before)))
+    ∙ sym (rw (number (c .before .before .before .before .before), period (c .before .before .before), count (c .before)) (and-true _))
 
 pub flow-in-range-spec : {M : Type 1} → statement M
 flow-in-range-spec =

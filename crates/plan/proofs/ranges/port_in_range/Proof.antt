@@ -1,6 +1,6 @@
 -- `port_in_range` meets its contract: each return goes by the tests that led there.
 use mathlib.Core.Path.{_≡_, sym, _∙_}
-use mathlib.Core.Bool.{true}
+use mathlib.Core.Bool.{true, and-true}
 use borrow.Author.Needs.{needs}
 use borrow.Author.Tests.{not-true, not-false}
 use Rattle.cqf.specs.Limits.{portOk, rateOk}
@@ -30,7 +30,7 @@ blocking-ok-requires : tie.Need-blocking-ok-requires
 blocking-ok-requires c κs = search needs
 
 returns-3 : tie.Need-returns-3
-returns-3 c = c .blocking-ok .ensures ∙ sym (rw (number (c .before .before .before), rate (c .before)))
+returns-3 c = c .blocking-ok .ensures ∙ sym (rw (number (c .before .before .before), rate (c .before)) (and-true _))
 
 pub port-in-range-spec : {M : Type 1} → statement M
 port-in-range-spec =

@@ -1,7 +1,8 @@
 -- `field_of` meets its contract: test 3, and the field by its tag.
-use mathlib.Core.Path.{sym, _∙_}
+use mathlib.Core.Path.{_≡_, sym, _∙_}
 use borrow.Author.Needs.{needs}
-use Rattle.plan.specs.laws.Tested.{tag-header, tag-port, tag-flow, tag-extra, tag-jitter, tag-clock, tag-unknown}
+use Rattle.plan.specs.Layout.{Kind, layout}
+use Rattle.plan.specs.laws.Tested.{tag-known, tag-unknown}
 use Rattle.plan.proofs.read.field_of.Statement.{statement}
 use Rattle.plan.proofs.read.field_of.Tie as tie
 
@@ -9,49 +10,49 @@ header-of-requires : tie.Need-header-of-requires
 header-of-requires c κs = search needs
 
 returns : tie.Need-returns
-returns c = c .header-of .ensures ∙ sym (tag-header _ _ _ _ (c .before .if1 .taken))
+returns c = c .header-of .ensures ∙ sym (tag-known _ _ _ Kind.header _ (c .before .if1 .taken))
 
 port-of-requires : tie.Need-port-of-requires
 port-of-requires c κs = search needs
 
 returns-2 : tie.Need-returns-2
-returns-2 c = c .port-of .ensures ∙ sym (tag-port _ _ _ _ (c .before .if2 .taken))
+returns-2 c = c .port-of .ensures ∙ sym (tag-known _ _ _ Kind.port _ (c .before .if2 .taken))
 
 flow-of-requires : tie.Need-flow-of-requires
 flow-of-requires c κs = search needs
 
 returns-3 : tie.Need-returns-3
-returns-3 c = c .flow-of .ensures ∙ sym (tag-flow _ _ _ _ (c .before .if3 .taken))
+returns-3 c = c .flow-of .ensures ∙ sym (tag-known _ _ _ Kind.flow _ (c .before .if3 .taken))
 
 extra-of-requires : tie.Need-extra-of-requires
 extra-of-requires c κs = search needs
 
 returns-4 : tie.Need-returns-4
-returns-4 c = c .extra-of .ensures ∙ sym (tag-extra _ _ _ _ (c .before .if4 .taken))
+returns-4 c = c .extra-of .ensures ∙ sym (tag-known _ _ _ Kind.extra _ (c .before .if4 .taken))
 
 jitter-of-requires : tie.Need-jitter-of-requires
 jitter-of-requires c κs = search needs
 
 returns-5 : tie.Need-returns-5
-returns-5 c = c .jitter-of .ensures ∙ sym (tag-jitter _ _ _ _ (c .before .if5 .taken))
+returns-5 c = c .jitter-of .ensures ∙ sym (tag-known _ _ _ Kind.jitter _ (c .before .if5 .taken))
 
 clock-of-requires : tie.Need-clock-of-requires
 clock-of-requires c κs = search needs
 
 returns-6 : tie.Need-returns-6
-returns-6 c = c .clock-of .ensures ∙ sym (tag-clock _ _ _ _ (c .before .if6 .taken))
+returns-6 c = c .clock-of .ensures ∙ sym (tag-known _ _ _ Kind.clock _ (c .before .if6 .taken))
+
+-- the tag of no kind
+unknown : (c : tie.Else6) → (k : Kind) → c .before .before .before .before .before .before .before .args .tag ≡ layout k .tag → ⊥
+unknown c Kind.header = c .before .before .before .before .before .if1 .left
+unknown c Kind.port = c .before .before .before .before .if2 .left
+unknown c Kind.flow = c .before .before .before .if3 .left
+unknown c Kind.extra = c .before .before .if4 .left
+unknown c Kind.jitter = c .before .if5 .left
+unknown c Kind.clock = c .if6 .left
 
 returns-7 : tie.Need-returns-7
-returns-7 c =
-    let b = c .before in
-    sym
-    (tag-unknown _ _ _ _
-    (b .before .before .before .before .if1 .left)
-    (b .before .before .before .if2 .left)
-    (b .before .before .if3 .left)
-    (b .before .if4 .left)
-    (b .if5 .left)
-    (c .if6 .left))
+returns-7 c = sym (tag-unknown _ _ _ _ (unknown c))
 
 pub field-of-spec : {M : Type 1} → statement M
 field-of-spec =

@@ -1,39 +1,38 @@
 -- `flow_of` meets its contract: test 4, then test 5 on the numbers that were read and on the route.
-use Prim.Native.Nat.{_+_, _*_, _≤_}
+use Prim.Native.Nat.{_≤_}
 use mathlib.Core.Path.{_≡_, sym, _∙_}
-use mathlib.Core.Bool.{true, _&&_}
+use mathlib.Core.Bool.{true}
 use native.Mathlib.Omega.{arith}
 use borrow.Author.Needs.{needs}
 use borrow.Author.Tests.{not-true, not-false}
-use lib.Dec.{eqb}
 use lib.ListN.{length}
 use denote.Ref.{now}
 use Rattle.cqf.specs.Bounded.{every}
-use Rattle.cqf.specs.Limits.{portOk, flowOk, periodOk, countOk, lengthOk, hopsOk}
-use Rattle.plan.specs.Bytes.{number2, number4}
-use Rattle.plan.specs.Field.{flowSize, hopsIn, routeIn}
+use Rattle.cqf.specs.Limits.{portOk}
+use Rattle.plan.specs.Layout.{Kind, layout, numbersSize}
+use Rattle.plan.specs.Field.{numbersAt, inRanges, hopsIn, routeIn, sizeOk}
 use Rattle.plan.specs.laws.Lengths.{refused-length, allowed-length, allowed-long}
-use Rattle.plan.specs.laws.Tested.{flow-length, flow-range, flow-read}
+use Rattle.plan.specs.laws.Tested.{value-length, value-range, value-read}
 use Rattle.plan.proofs.read.flow_of.Statement.{statement}
 use Rattle.plan.proofs.read.flow_of.Tie as tie
 
 -- the length is that of a route, and this is how many ports it has
 sized : (c : tie.Else1) →
     let n = length (now (c .before .before .before .args .value)) in
-    (hopsOk (hopsIn n) && eqb n (flowSize + 2 * hopsIn n)) ≡ true
+    sizeOk Kind.flow n ≡ true
 sized c = allowed-length (length (now (c .before .before .before .args .value))) (c .before .hops-by-length .result) (c .before .hops-by-length .ensures) (c .if1 .left)
 
-counted : (c : tie.Else1) → c .before .hops-by-length .result ≡ hopsIn (length (now (c .before .before .before .args .value)))
+counted : (c : tie.Else1) → c .before .hops-by-length .result ≡ hopsIn Kind.flow (length (now (c .before .before .before .args .value)))
 counted c = rw (sized c) at (c .before .hops-by-length .ensures)
 
 -- so the numbers before the route are there
-long : (c : tie.Else1) → flowSize ≤ length (now (c .before .before .before .args .value))
+long : (c : tie.Else1) → numbersSize Kind.flow ≤ length (now (c .before .before .before .args .value))
 long c = allowed-long _ (sized c)
 
 -- the numbers that were tested are those in the value
 tested : (c : tie.After-flow-in-range) →
     let v = now (c .before .before .before .before .before .before .before .before .args .value) in
-    c .flow-in-range .result ≡ (flowOk (number2 v 0) && periodOk (number4 v 2) && countOk (number2 v 6) && lengthOk (number2 v 8))
+    c .flow-in-range .result ≡ inRanges (layout Kind.flow .numbers) (numbersAt (layout Kind.flow .numbers) v 0)
 tested c =
     let b = c .before in
     rw (b .before .before .before .be16 .ensures, b .before .before .be32 .ensures, b .before .be162 .ensures, b .be163 .ensures)
@@ -45,7 +44,7 @@ hops-by-length-requires c κs = search needs
 returns : tie.Need-returns
 returns c =
     let n = length (now (c .before .before .before .args .value)) in
-    sym (flow-length _ _ _ (refused-length n (sym (c .before .hops-by-length .ensures) ∙ c .if1 .taken)))
+    sym (value-length _ _ _ Kind.flow (refused-length n (sym (c .before .hops-by-length .ensures) ∙ c .if1 .taken)))
 
 be16-requires : tie.Need-be16-requires
 be16-requires c κs = omega (arith, long c)
@@ -65,7 +64,7 @@ flow-in-range-requires c κs = search needs
 returns-2 : tie.Need-returns-2
 returns-2 c =
     let f = sym (tested (c .before)) ∙ not-true _ (c .if2 .taken) in
-    sym (flow-range _ _ _ (sized (c .before .before .before .before .before .before)) (rw f))
+    sym (value-range _ _ _ Kind.flow (sized (c .before .before .before .before .before .before)) (rw f))
 
 route-bytes-requires : tie.Need-route-bytes-requires
 route-bytes-requires c κs = search needs
@@ -76,7 +75,7 @@ route-in-range-requires c κs = search needs
 -- the route that was tested is the one in the value
 route-tested : (c : tie.After-route-in-range) →
     c .route-in-range .result
-    ≡ every portOk (routeIn (now (c .before .before .before .before .before .before .before .before .before .before .before .args .value)))
+    ≡ every portOk (routeIn Kind.flow (now (c .before .before .before .before .before .before .before .before .before .before .before .args .value)))
 unfolding routeIn
 route-tested c = c .route-in-range .ensures ∙ rw (c .before .route-bytes .ensures)
 
@@ -85,7 +84,7 @@ returns-3 c =
     let b = c .before .before .before in
     let f = sym (tested (b .before)) ∙ not-false _ (b .if2 .left) in
     let g = sym (route-tested (c .before)) ∙ not-true _ (c .if3 .taken) in
-    sym (flow-range _ _ _ (sized (b .before .before .before .before .before .before)) (rw (f, g)))
+    sym (value-range _ _ _ Kind.flow (sized (b .before .before .before .before .before .before)) (rw (f, g)))
 
 returns-4 : tie.Need-returns-4
 returns-4 c =
@@ -100,7 +99,7 @@ returns-4 c =
       b .before .before .be163 .ensures,
       counted e,
     )
-    (sym (flow-read _ _ _ (sized e) (rw (f, g))))
+    (sym (value-read _ _ _ Kind.flow (sized e) (rw (f, g))))
 
 pub flow-of-spec : {M : Type 1} → statement M
 flow-of-spec =

@@ -1,25 +1,24 @@
 -- `header_of` meets its contract: test 4, then test 5 on the numbers that were read.
-use mathlib.Core.Path.{_≡_, sym, _∙_}
-use mathlib.Core.Bool.{_&&_}
+use mathlib.Core.Path.{_≡_, refl, sym, _∙_}
 use borrow.Author.Needs.{needs}
-use borrow.Author.Tests.{eq-eqb, ne-eqb, not-true, not-false}
+use borrow.Author.Tests.{not-true, not-false}
 use denote.Ref.{now}
-use Rattle.cqf.specs.Limits.{guardOk, topOk}
-use Rattle.plan.specs.Bytes.{number4}
-use Rattle.plan.specs.laws.Tested.{header-length, header-range, header-read}
+use Rattle.plan.specs.Layout.{Kind, layout}
+use Rattle.plan.specs.Field.{numbersAt, inRanges}
+use Rattle.plan.specs.laws.Tested.{plain-length, plain-range, plain-read}
 use Rattle.plan.proofs.read.header_of.Statement.{statement}
 use Rattle.plan.proofs.read.header_of.Tie as tie
 
 -- the numbers that were tested are those in the value
 tested : (c : tie.After-header-in-range) →
     let v = now (c .before .before .before .before .before .args .value) in
-    c .header-in-range .result ≡ (guardOk (number4 v 0) && topOk (number4 v 4))
+    c .header-in-range .result ≡ inRanges (layout Kind.header .numbers) (numbersAt (layout Kind.header .numbers) v 0)
 tested c =
     let b = c .before in
     rw (b .before .be32 .ensures, b .be322 .ensures) at (c .header-in-range .ensures)
 
 returns : tie.Need-returns
-returns c = sym (header-length _ _ _ (ne-eqb _ _ (c .if1 .taken)))
+returns c = sym (plain-length _ _ _ Kind.header refl (c .if1 .taken))
 
 be32-requires : tie.Need-be32-requires
 be32-requires c κs = search needs
@@ -32,13 +31,13 @@ header-in-range-requires c κs = search needs
 
 returns-2 : tie.Need-returns-2
 returns-2 c =
-    sym (header-range _ _ _ (eq-eqb _ _ (c .before .before .before .before .if1 .left)) (sym (tested (c .before)) ∙ not-true _ (c .if2 .taken)))
+    sym (plain-range _ _ _ Kind.header refl (c .before .before .before .before .if1 .left) (sym (tested (c .before)) ∙ not-true _ (c .if2 .taken)))
 
 returns-3 : tie.Need-returns-3
 returns-3 c =
     let b = c .before .before in
     rw (b .before .be32 .ensures, b .be322 .ensures)
-    (sym (header-read _ _ _ (eq-eqb _ _ (b .before .before .if1 .left)) (sym (tested (c .before)) ∙ not-false _ (c .if2 .left))))
+    (sym (plain-read _ _ _ Kind.header refl (b .before .before .if1 .left) (sym (tested (c .before)) ∙ not-false _ (c .if2 .left))))
 
 pub header-of-spec : {M : Type 1} → statement M
 header-of-spec =

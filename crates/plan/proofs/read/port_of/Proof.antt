@@ -1,25 +1,24 @@
 -- `port_of` meets its contract: test 4, then test 5 on the numbers that were read.
-use mathlib.Core.Path.{_≡_, sym, _∙_}
-use mathlib.Core.Bool.{_&&_}
+use mathlib.Core.Path.{_≡_, refl, sym, _∙_}
 use borrow.Author.Needs.{needs}
-use borrow.Author.Tests.{eq-eqb, ne-eqb, not-true, not-false}
+use borrow.Author.Tests.{not-true, not-false}
 use denote.Ref.{now}
-use Rattle.cqf.specs.Limits.{portOk, rateOk, blockingOk}
-use Rattle.plan.specs.Bytes.{number2, number4}
-use Rattle.plan.specs.laws.Tested.{port-length, port-range, port-read}
+use Rattle.plan.specs.Layout.{Kind, layout}
+use Rattle.plan.specs.Field.{numbersAt, inRanges}
+use Rattle.plan.specs.laws.Tested.{plain-length, plain-range, plain-read}
 use Rattle.plan.proofs.read.port_of.Statement.{statement}
 use Rattle.plan.proofs.read.port_of.Tie as tie
 
 -- the numbers that were tested are those in the value
 tested : (c : tie.After-port-in-range) →
     let v = now (c .before .before .before .before .before .before .args .value) in
-    c .port-in-range .result ≡ (portOk (number2 v 0) && rateOk (number4 v 2) && blockingOk (number2 v 6))
+    c .port-in-range .result ≡ inRanges (layout Kind.port .numbers) (numbersAt (layout Kind.port .numbers) v 0)
 tested c =
     let b = c .before in
     rw (b .before .before .be16 .ensures, b .before .be32 .ensures, b .be162 .ensures) at (c .port-in-range .ensures)
 
 returns : tie.Need-returns
-returns c = sym (port-length _ _ _ (ne-eqb _ _ (c .if1 .taken)))
+returns c = sym (plain-length _ _ _ Kind.port refl (c .if1 .taken))
 
 be16-requires : tie.Need-be16-requires
 be16-requires c κs = search needs
@@ -35,13 +34,13 @@ port-in-range-requires c κs = search needs
 
 returns-2 : tie.Need-returns-2
 returns-2 c =
-    sym (port-range _ _ _ (eq-eqb _ _ (c .before .before .before .before .before .if1 .left)) (sym (tested (c .before)) ∙ not-true _ (c .if2 .taken)))
+    sym (plain-range _ _ _ Kind.port refl (c .before .before .before .before .before .if1 .left) (sym (tested (c .before)) ∙ not-true _ (c .if2 .taken)))
 
 returns-3 : tie.Need-returns-3
 returns-3 c =
     let b = c .before .before in
     rw (b .before .before .be16 .ensures, b .before .be32 .ensures, b .be162 .ensures)
-    (sym (port-read _ _ _ (eq-eqb _ _ (b .before .before .before .if1 .left)) (sym (tested (c .before)) ∙ not-false _ (c .if2 .left))))
+    (sym (plain-read _ _ _ Kind.port refl (b .before .before .before .if1 .left) (sym (tested (c .before)) ∙ not-false _ (c .if2 .left))))
 
 pub port-of-spec : {M : Type 1} → statement M
 port-of-spec =

@@ -2,8 +2,7 @@
 use mathlib.Core.Path.{_≡_}
 use Prim.Native.Nat.{ℕ, _+_, _*_, _≤_}
 use native.Mathlib.Omega.{arith}
-use Rattle.cqf.specs.Limits.{maxHops}
-use Rattle.plan.specs.Field.{flowSize}
+use Rattle.plan.specs.Layout.{Kind, layout, numbersSize}
 use Rattle.plan.specs.laws.Lengths.{other-length, past}
 use Rattle.plan.proofs.route.hops_by_length.Statement.{statement}
 use Rattle.plan.proofs.route.hops_by_length.Tie as tie
@@ -59,7 +58,7 @@ returns-16 : tie.Need-returns-16
 returns-16 c = rw (c .match .keys16)
 
 -- a length that is none of the list has room for more ports than a field may name
-none : (c : lts.At-match-rest reads.Pre reads.Post) → (h : ℕ) → 1 ≤ h → h ≤ maxHops → c .before .args .size ≡ flowSize + 2 * h → ⊥
+none : (c : lts.At-match-rest reads.Pre reads.Post) → (h : ℕ) → 1 ≤ h → h ≤ layout Kind.flow .mostHops → c .before .args .size ≡ numbersSize Kind.flow + 2 * h → ⊥
 none c h low high e =
     let size = c .before .args .size in
     let r = c .match .rest in

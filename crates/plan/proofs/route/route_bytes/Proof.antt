@@ -5,7 +5,6 @@ use borrow.Author.Needs.{needs}
 use lib.ListN.{drop, drop-of-length-le, length-drop}
 use lib.Seq.{take-length}
 use denote.Ref.{now}
-use Rattle.plan.specs.Field.{flowSize}
 use Rattle.plan.proofs.route.route_bytes.Statement.{statement}
 use Rattle.plan.proofs.route.route_bytes.Tie as tie
 
@@ -13,7 +12,7 @@ slice-aggregate-result : tie.Need-slice-aggregate-result
 slice-aggregate-result c = search needs
 
 returns : tie.Need-returns
-returns c = sym (drop-of-length-le (now (c .before .before .args .value)) {i = flowSize} (omega arith))
+returns c = sym (drop-of-length-le (now (c .before .before .args .value)) {i = c .before .before .args .start} (omega arith))
 
 sub-result : tie.Need-sub-result
 sub-result c = search needs
@@ -27,7 +26,8 @@ part-result-end c = search needs
 returns-2 : tie.Need-returns-2
 returns-2 c =
     let v = now (c .before .before .args .value) in
-    rw (← length-drop flowSize v) (take-length (drop flowSize v))
+    let at = c .before .before .args .start in
+    rw (← length-drop at v) (take-length (drop at v))
 
 pub route-bytes-spec : {M : Type 1} → statement M
 route-bytes-spec =

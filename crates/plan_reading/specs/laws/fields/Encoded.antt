@@ -9,7 +9,9 @@ use lib.Dec.{ltb}
 use lib.ListN.{length, take, drop, length-take, List·getD-eq-default}
 use lib.Seq.{drop-cons, drop-drop, take-add, getD-take, getD-drop}
 use Rattle.plan.specs.Bytes.{byteAt, Octets, number2, number4, numbers2}
-use Rattle.plan_reading.specs.FieldBytes.{bytes2, bytes4, bytes2s}
+use Rattle.plan.specs.Layout.{Width, two, four, bytesIn, Number, widths}
+use Rattle.plan.specs.Field.{numberIn, numbersAt}
+use Rattle.plan_reading.specs.FieldBytes.{bytes2, bytes4, bytes2s, bytesBy, numbersBytes}
 
 -- a part of bytes is bytes
 pub octets-drop : (n : ℕ) (s : List ℕ) → Octets s → Octets (drop n s)
@@ -64,3 +66,14 @@ module _ (v : List ℕ) (o : Octets v) where
       ap (λ (n : ℕ). take n (drop i v)) more
       ∙ part-add v i 2 (2 * h)
       ∙ ap₂ _++_ (encoded2 i (omega arith)) (encoded2s (i + 2) h (omega arith))
+
+  -- a number of a width, and those of a row of the table
+  encoded-number : (w : Width) (i : ℕ) → i + bytesIn w ≤ length v → take (bytesIn w) (drop i v) ≡ bytesBy w (numberIn w v i)
+  encoded-number two i fits = encoded2 i fits
+  encoded-number four i fits = encoded4 i fits
+
+  pub encoded-numbers : (cs : List Number) (i : ℕ) → i + widths cs ≤ length v → take (widths cs) (drop i v) ≡ numbersBytes cs (numbersAt cs v i)
+  encoded-numbers [] i fits = refl
+  encoded-numbers (c ∷ cs) i fits =
+      part-add v i (bytesIn (c .width)) (widths cs)
+      ∙ ap₂ _++_ (encoded-number (c .width) i (omega arith)) (encoded-numbers cs (i + bytesIn (c .width)) (omega arith))

@@ -15,7 +15,7 @@ module _ (s : List ℕ) (at : ℕ) (x : Field) (m : ℕ) (e : fieldAt s at ≡ f
   pub found-numbers : NumbersOk x
   found-numbers = field-passes s at x m e .passes .ok
 
-  pub found-route : RouteFits x (routeAt s at)
+  pub found-route : RouteFits x (routeAt (x .kind) s at)
   found-route = field-passes s at x m e .passes .route
 
   -- the next offset is behind this one and within the plan

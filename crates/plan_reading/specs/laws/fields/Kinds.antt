@@ -1,28 +1,40 @@
--- What holds of what a field gives, by its key: shown of the kind that gives it, with its numbers in range, and of what any
--- other kind gives.
+-- What holds of what a part gives, by its key: shown of the kind that gives it, with its numbers in range, and of what any
+-- other kind gives. And the keys of fields and of their parts.
 use Prim.Native.Nat.{ℕ, _+_, _<_}
-use mathlib.Core.Path.{_≡_}
+use mathlib.Core.Path.{_≡_, refl}
 use mathlib.Core.List.{List}
-use mathlib.Core.Bool.{true}
+use mathlib.Core.Bool.{true, cond}
+use lib.ListN.{length, getD}
 use native.Mathlib.Omega.{arith}
 use Rattle.cqf.specs.Limits.{portSlots, flowSlots}
 use Rattle.cqf.specs.Plan.{Clock, clockOk}
-use Rattle.plan.specs.Field.{Field, header, port, flow, extra, jitter, clock}
-use Rattle.plan_reading.specs.Kind.{ofHeader, ofPort, ofFlow, ofExtra, ofJitter, ofClock}
-use Rattle.plan_reading.specs.Key.{headerKey, clockKey, keySlots, keyOf}
-use Rattle.plan_reading.specs.Ranges.{HeaderOk, PortOk, FlowOk, ExtraOk, JitterOk, RouteOk, NumbersOk, RouteFits}
+use Rattle.plan.specs.Layout.{Kind, layout}
+use Rattle.plan.specs.Field.{Field}
+use Rattle.plan_reading.specs.Part.{Part, header, port, flow, extra, jitter, clock, partsBy, partsOf, ofHeader, ofPort, ofFlow, ofExtra, ofJitter, ofClock}
+use Rattle.plan_reading.specs.Key.{headerKey, clockKey, keySlots, kindKey, keyOf}
+use Rattle.plan_reading.specs.Ranges.{HeaderOk, PortOk, FlowOk, ExtraOk, JitterOk, NumbersOk, PartOk}
 use Rattle.plan_reading.specs.laws.fields.Within.{within-high}
+use Rattle.plan_reading.specs.laws.fields.Ranged.{InRange, in-range, All}
+
+-- one number for each thing that parts say
+abbrev pub partKey : Part → ℕ
+partKey (header g t) = headerKey
+partKey (port n r b) = headerKey + n
+partKey (flow n p c l r) = portSlots + n
+partKey (extra n b) = portSlots + flowSlots + n
+partKey (jitter n j) = portSlots + flowSlots + portSlots + n
+partKey (clock k) = clockKey
 
 module _ {A : Type 0} (P : ℕ → A → Type 0) (other : A) (rest : (key : ℕ) → P key other) where
   pub of-header
       : (gives : (guard top : ℕ) → A)
       → ((g t : ℕ) → HeaderOk g t → P headerKey (gives g t))
-      → (x : Field)
-      → NumbersOk x
-      → P (keyOf x) (ofHeader other gives x)
+      → (x : Part)
+      → PartOk x
+      → P (partKey x) (ofHeader other gives x)
   of-header gives own (header g t) k = own g t k
   of-header gives own (port n r b) k = rest (headerKey + n)
-  of-header gives own (flow n p c l h) k = rest (portSlots + n)
+  of-header gives own (flow n p c l r) k = rest (portSlots + n)
   of-header gives own (extra n b) k = rest (portSlots + flowSlots + n)
   of-header gives own (jitter n j) k = rest (portSlots + flowSlots + portSlots + n)
   of-header gives own (clock c) k = rest clockKey
@@ -30,39 +42,38 @@ module _ {A : Type 0} (P : ℕ → A → Type 0) (other : A) (rest : (key : ℕ)
   pub of-port
       : (gives : (number rate blocking : ℕ) → A)
       → ((n r b : ℕ) → PortOk n r b → P (headerKey + n) (gives n r b))
-      → (x : Field)
-      → NumbersOk x
-      → P (keyOf x) (ofPort other gives x)
+      → (x : Part)
+      → PartOk x
+      → P (partKey x) (ofPort other gives x)
   of-port gives own (header g t) k = rest headerKey
   of-port gives own (port n r b) k = own n r b k
-  of-port gives own (flow n p c l h) k = rest (portSlots + n)
+  of-port gives own (flow n p c l r) k = rest (portSlots + n)
   of-port gives own (extra n b) k = rest (portSlots + flowSlots + n)
   of-port gives own (jitter n j) k = rest (portSlots + flowSlots + portSlots + n)
   of-port gives own (clock c) k = rest clockKey
 
   pub of-flow
-      : (route : List ℕ) (gives : (number period count bytes hops : ℕ) → A)
-      → ((n p c l h : ℕ) → FlowOk n p c l h → RouteOk h route → P (portSlots + n) (gives n p c l h))
-      → (x : Field)
-      → NumbersOk x
-      → RouteFits x route
-      → P (keyOf x) (ofFlow other gives x)
-  of-flow route gives own (header g t) k fits = rest headerKey
-  of-flow route gives own (port n r b) k fits = rest (headerKey + n)
-  of-flow route gives own (flow n p c l h) k fits = own n p c l h k fits
-  of-flow route gives own (extra n b) k fits = rest (portSlots + flowSlots + n)
-  of-flow route gives own (jitter n j) k fits = rest (portSlots + flowSlots + portSlots + n)
-  of-flow route gives own (clock c) k fits = rest clockKey
+      : (gives : (number period count bytes : ℕ) (route : List ℕ) → A)
+      → ((n p c l : ℕ) (r : List ℕ) → FlowOk n p c l (length r) → P (portSlots + n) (gives n p c l r))
+      → (x : Part)
+      → PartOk x
+      → P (partKey x) (ofFlow other gives x)
+  of-flow gives own (header g t) k = rest headerKey
+  of-flow gives own (port n r b) k = rest (headerKey + n)
+  of-flow gives own (flow n p c l r) k = own n p c l r k
+  of-flow gives own (extra n b) k = rest (portSlots + flowSlots + n)
+  of-flow gives own (jitter n j) k = rest (portSlots + flowSlots + portSlots + n)
+  of-flow gives own (clock c) k = rest clockKey
 
   pub of-extra
       : (gives : (number bytes : ℕ) → A)
       → ((n b : ℕ) → ExtraOk n b → P (portSlots + flowSlots + n) (gives n b))
-      → (x : Field)
-      → NumbersOk x
-      → P (keyOf x) (ofExtra other gives x)
+      → (x : Part)
+      → PartOk x
+      → P (partKey x) (ofExtra other gives x)
   of-extra gives own (header g t) k = rest headerKey
   of-extra gives own (port n r b) k = rest (headerKey + n)
-  of-extra gives own (flow n p c l h) k = rest (portSlots + n)
+  of-extra gives own (flow n p c l r) k = rest (portSlots + n)
   of-extra gives own (extra n b) k = own n b k
   of-extra gives own (jitter n j) k = rest (portSlots + flowSlots + portSlots + n)
   of-extra gives own (clock c) k = rest clockKey
@@ -70,12 +81,12 @@ module _ {A : Type 0} (P : ℕ → A → Type 0) (other : A) (rest : (key : ℕ)
   pub of-jitter
       : (gives : (number ns : ℕ) → A)
       → ((n j : ℕ) → JitterOk n j → P (portSlots + flowSlots + portSlots + n) (gives n j))
-      → (x : Field)
-      → NumbersOk x
-      → P (keyOf x) (ofJitter other gives x)
+      → (x : Part)
+      → PartOk x
+      → P (partKey x) (ofJitter other gives x)
   of-jitter gives own (header g t) k = rest headerKey
   of-jitter gives own (port n r b) k = rest (headerKey + n)
-  of-jitter gives own (flow n p c l h) k = rest (portSlots + n)
+  of-jitter gives own (flow n p c l r) k = rest (portSlots + n)
   of-jitter gives own (extra n b) k = rest (portSlots + flowSlots + n)
   of-jitter gives own (jitter n j) k = own n j k
   of-jitter gives own (clock c) k = rest clockKey
@@ -83,21 +94,36 @@ module _ {A : Type 0} (P : ℕ → A → Type 0) (other : A) (rest : (key : ℕ)
   pub of-clock
       : (gives : Clock → A)
       → ((c : Clock) → clockOk c ≡ true → P clockKey (gives c))
-      → (x : Field)
-      → NumbersOk x
-      → P (keyOf x) (ofClock other gives x)
+      → (x : Part)
+      → PartOk x
+      → P (partKey x) (ofClock other gives x)
   of-clock gives own (header g t) k = rest headerKey
   of-clock gives own (port n r b) k = rest (headerKey + n)
-  of-clock gives own (flow n p c l h) k = rest (portSlots + n)
+  of-clock gives own (flow n p c l r) k = rest (portSlots + n)
   of-clock gives own (extra n b) k = rest (portSlots + flowSlots + n)
   of-clock gives own (jitter n j) k = rest (portSlots + flowSlots + portSlots + n)
   of-clock gives own (clock c) k = own c k
 
 -- a field in range has its flag
 pub key-below : (x : Field) → NumbersOk x → keyOf x < keySlots
-key-below (header g t) k = omega arith
-key-below (port n r b) k = omega (arith, within-high _ _ n (k .number))
-key-below (flow n p c l h) k = omega (arith, within-high _ _ n (k .number))
-key-below (extra n b) k = omega (arith, within-high _ _ n (k .number))
-key-below (jitter n j) k = omega (arith, within-high _ _ n (k .number))
-key-below (clock c) k = omega arith
+key-below x ok = go (x .kind) (in-range (layout (x .kind) .numbers) (x .numbers) (ok .ranges))
+  where
+    go : (k : Kind) → InRange (layout k .numbers) 0 (x .numbers) → kindKey k + cond (layout k .numbered) (getD (x .numbers) 0 0) 0 < keySlots
+    go Kind.header t = omega arith
+    go Kind.port t = omega (arith, within-high _ _ (getD (x .numbers) 0 0) (t .0))
+    go Kind.flow t = omega (arith, within-high _ _ (getD (x .numbers) 0 0) (t .0))
+    go Kind.extra t = omega (arith, within-high _ _ (getD (x .numbers) 0 0) (t .0))
+    go Kind.jitter t = omega (arith, within-high _ _ (getD (x .numbers) 0 0) (t .0))
+    go Kind.clock t = omega arith
+
+-- each part has the key of its field
+pub parts-keyed : (x : Field) (r : List ℕ) → All (λ u. partKey u ≡ keyOf x) (partsOf x r)
+parts-keyed x r = go (x .kind)
+  where
+    go : (k : Kind) → All (λ u. partKey u ≡ kindKey k + cond (layout k .numbered) (getD (x .numbers) 0 0) 0) (partsBy k (x .numbers) r)
+    go Kind.header = (refl, tt)
+    go Kind.port = (refl, tt)
+    go Kind.flow = (refl, tt)
+    go Kind.extra = (refl, tt)
+    go Kind.jitter = (refl, tt)
+    go Kind.clock = (refl, tt)

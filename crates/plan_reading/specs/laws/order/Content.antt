@@ -22,7 +22,7 @@ use Rattle.plan_reading.specs.laws.order.Rows.{row-refused, row-field}
 
 -- the entry of a field that stands alone
 abbrev entryIn : List ℕ → Field → Entry
-entryIn b x = entryOf x (routeIn (valueAt b 0))
+entryIn b x = entryOf x (routeIn (x .kind) (valueAt b 0))
 
 -- these whole fields are read so
 data Row : List (List ℕ) → List Entry → Type 0 where
@@ -57,7 +57,7 @@ walk-row (b ∷ bs) s front (suc n) at d e p q enough (more is h) (one x after l
     let value : valueAt s at ≡ valueAt b 0 = rw (p, q) (value-inside front b (flatten bs) is) in
     let ends : after ≡ length (front ++ b) = omega (arith, r .follows, length-append front b, is .whole) in
     rw (row-field n s at x after stands)
-    (next x (rw (tag, value) at (r .passes)) (ap (λ (v : List ℕ). entryOf x (routeIn v)) (sym value))
+    (next x (rw (tag, value) at (r .passes)) (ap (λ (v : List ℕ). entryOf x (routeIn (x .kind) v)) (sym value))
     (walk-row bs s (front ++ b) n after _ e (p ∙ sym (append-assoc front b (flatten bs))) ends (omega (arith, r .follows)) h rest))
 
 -- whole fields are read in one way

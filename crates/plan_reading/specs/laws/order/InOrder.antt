@@ -43,7 +43,7 @@ none-late (suc n) front s at last least known low up =
         → Ascends (suc (keyOf x)) (fieldsFrom n s after)
         → lateFrom n (x ∷ front) s after ≡ length s
 
-    first : Rest → (x : Field) (after : ℕ) → fieldAt s at ≡ field x after → Ascends least (entryOf x (routeAt s at) ∷ fieldsFrom n s after)
+    first : Rest → (x : Field) (after : ℕ) → fieldAt s at ≡ field x after → Ascends least (entryOf x (routeAt (x .kind) s at) ∷ fieldsFrom n s after)
         → lateFrom (suc n) front s at ≡ length s
     first rest x after e (next k from up) =
         let in-time : ltb (keyOf x) last ≡ false = le-ltb (keyOf x) last (omega arith) in
@@ -90,23 +90,23 @@ strict-ascends (suc n) s at last d least p m k flagged floor e =
         let t = step-more strict s at last d after key d′ q in
         let x = t .part in
         let ok = found-numbers s at x after (t .stands) in
-        let floors = floor-next d x (routeAt s at) flagged ok in
-        let flags = added-flagged d x (routeAt s at) flagged in
+        let floors = floor-next d x (routeAt (x .kind) s at) flagged ok in
+        let flags = added-flagged d x (routeAt (x .kind) s at) flagged in
         let reads = sym (more-one strict s at last d n after key d′ inside q) ∙ e in
         rw (row-field n s at x after (t .stands))
         (next ok (floor x (t .fresh) (t .in-time))
-        (rest after (keyOf x) (added d x (routeAt s at)) (suc (keyOf x)) flags floors (rw (t .keyed, t .adds) reads)))
+        (rest after (keyOf x) (added d x (routeAt (x .kind) s at)) (suc (keyOf x)) flags floors (rw (t .keyed, t .adds) reads)))
 
     by-end : Rest → (b : Bool) → ltb at (length s) ≡ b → Ascends least (fieldsFrom (suc n) s at)
     by-end rest true q = by-step rest (ltb-true at (length s) q) (stepAt strict s at last d) refl
     by-end rest false q = rw (row-refused (suc n) s at 2 at (past-end s at (ltb-false at (length s) q))) none
 
 -- a field of such a row has a key from the row's first on
-ascends-from : {least : ℕ} {es : List Entry} {f : Entry} → Ascends least es → List·Memᴰ f es → least ≤ keyOf (f .part)
+ascends-from : {least : ℕ} {es : List Entry} {f : Entry} → Ascends least es → List·Memᴰ f es → least ≤ keyOf (f .field)
 ascends-from none m = absurd (List·Memᴰ·not-nil m)
 ascends-from {least} {f = f} (next {e = e} {es = es} k low up) m = go (ascends-from up) (List·Memᴰ·cases-cons m)
   where
-    go : (List·Memᴰ f es → suc (keyOf (e .part)) ≤ keyOf (f .part)) → (f ≡ e) ⊎ List·Memᴰ f es → least ≤ keyOf (f .part)
+    go : (List·Memᴰ f es → suc (keyOf (e .field)) ≤ keyOf (f .field)) → (f ≡ e) ⊎ List·Memᴰ f es → least ≤ keyOf (f .field)
     go rest (inl same) = rw same low
     go rest (inr m) = omega (arith, rest m)
 
@@ -130,13 +130,13 @@ ascends-same (next {e = e} {es = es} k low up) (next {e = f} {es = fs} m base ri
     tail-to : e ≡ f → (g : Entry) → List·Memᴰ g es → (g ≡ f) ⊎ List·Memᴰ g fs → List·Memᴰ g fs
     tail-to same g i (inr j) = j
     tail-to same g i (inl q) =
-        let z : keyOf (g .part) ≡ keyOf (e .part) = ap (λ (h : Entry). keyOf (h .part)) (q ∙ sym same) in
+        let z : keyOf (g .field) ≡ keyOf (e .field) = ap (λ (h : Entry). keyOf (h .field)) (q ∙ sym same) in
         absurd (omega (arith, ascends-from up i))
 
     tail-from : e ≡ f → (g : Entry) → List·Memᴰ g fs → (g ≡ e) ⊎ List·Memᴰ g es → List·Memᴰ g es
     tail-from same g i (inr j) = j
     tail-from same g i (inl q) =
-        let z : keyOf (g .part) ≡ keyOf (f .part) = ap (λ (h : Entry). keyOf (h .part)) (q ∙ same) in
+        let z : keyOf (g .field) ≡ keyOf (f .field) = ap (λ (h : Entry). keyOf (h .field)) (q ∙ same) in
         absurd (omega (arith, ascends-from rise i))
 
 -- a permutation holds the same

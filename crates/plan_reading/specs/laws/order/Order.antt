@@ -61,7 +61,7 @@ walk-stored (b ∷ bs) s front at d e p q (more is h) (one x after less stands f
     let ends : after ≡ length (front ++ b) = omega (arith, r .follows, length-append front b, is .whole) in
     Stored.next {d = d} {e = e} x (rw (tag, value) at (r .passes)) fresh
     (rw value at
-    (walk-stored bs s (front ++ b) after (added d x (routeAt s at)) e (p ∙ sym (append-assoc front b (flatten bs))) ends h rest))
+    (walk-stored bs s (front ++ b) after (added d x (routeAt (x .kind) s at)) e (p ∙ sym (append-assoc front b (flatten bs))) ends h rest))
 
 -- a permutation of whole fields is one
 pub all-permuted : {bs cs : List (List ℕ)} → List·Permᴰ bs cs → AllFields bs → AllFields cs

@@ -31,7 +31,7 @@ step-number s at last d k o e = go (fieldAt s at) refl e
 
     go : (r : FieldRead) → fieldAt s at ≡ r → fieldStep loose s at last d r ≡ stop k o → k ≤ 9
     go (refused number offset) q e = let same : number ≡ k = cc in omega (arith, refused-here s at number offset q .early)
-    go (field x next) q e = by-tests (taken d x) (fieldRepeats x (routeAt s at)) next (keyOf x) (added d x (routeAt s at)) e
+    go (field x next) q e = by-tests (taken d x) (fieldRepeats (routeAt (x .kind) s at)) next (keyOf x) (added d x (routeAt (x .kind) s at)) e
 
 closed-number : (s : List ℕ) (d : Draft) (k o : ℕ) → closing s d ≡ rejected k o → k ≤ 9
 unfolding closing

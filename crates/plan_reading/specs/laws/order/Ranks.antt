@@ -5,25 +5,28 @@ use mathlib.Core.Bool.{Bool, true, false, cond, _&&_, _||_}
 use native.Mathlib.Omega.{arith}
 use borrow.Author.Tests.{lt-ltb, le-ltb, ltb-true, ltb-false, eqb-true, eqb-false}
 use lib.Dec.{ltb, eqb}
+use lib.ListN.{getD}
 use Rattle.cqf.specs.Limits.{portSlots, flowSlots}
-use Rattle.plan.specs.Field.{Field, header, port, flow, extra, jitter, clock, headerTag, portTag, flowTag, extraTag, jitterTag, clockTag}
+use Rattle.plan.specs.Layout.{Kind, layout}
+use Rattle.plan.specs.Field.{Field}
 use Rattle.plan_reading.specs.Key.{keyOf}
 use Rattle.plan_reading.specs.Rank.{tagOf, numberOf, before}
 use Rattle.plan_reading.specs.Ranges.{NumbersOk}
 use Rattle.plan_reading.specs.laws.fields.Within.{within-low, within-high}
+use Rattle.plan_reading.specs.laws.fields.Ranged.{InRange, in-range}
 
 -- the first number that a tag has, and how many it has
 unfoldable firstNumber : ℕ → ℕ
-firstNumber tag = cond (eqb tag headerTag || eqb tag clockTag) 0 1
+firstNumber tag = cond (eqb tag (layout Kind.header .tag) || eqb tag (layout Kind.clock .tag)) 0 1
 
 unfoldable numbers : ℕ → ℕ
 numbers tag =
-    cond (eqb tag headerTag) 1
-    (cond (eqb tag portTag) portSlots
-    (cond (eqb tag flowTag) flowSlots
-    (cond (eqb tag extraTag) portSlots
-    (cond (eqb tag jitterTag) flowSlots
-    (cond (eqb tag clockTag) 1
+    cond (eqb tag (layout Kind.header .tag)) 1
+    (cond (eqb tag (layout Kind.port .tag)) portSlots
+    (cond (eqb tag (layout Kind.flow .tag)) flowSlots
+    (cond (eqb tag (layout Kind.extra .tag)) portSlots
+    (cond (eqb tag (layout Kind.jitter .tag)) flowSlots
+    (cond (eqb tag (layout Kind.clock .tag)) 1
     0)))))
 
 -- the first key of a tag
@@ -50,20 +53,26 @@ record Keyed (x : Field) : Type 0 where
 
 keyed : (x : Field) → NumbersOk x → Keyed x
 unfolding firstNumber numbers firstKey
-keyed (header g t) k = record { numbered = omega arith; placed = refl; fits = omega arith }
-keyed (port n r b) k =
-    let low = within-low _ _ n (k .number) in
-    record { numbered = low; placed = omega arith; fits = omega (arith, within-high _ _ n (k .number)) }
-keyed (flow n p c l h) k =
-    let low = within-low _ _ n (k .number) in
-    record { numbered = low; placed = omega arith; fits = omega (arith, within-high _ _ n (k .number)) }
-keyed (extra n b) k =
-    let low = within-low _ _ n (k .number) in
-    record { numbered = low; placed = omega arith; fits = omega (arith, within-high _ _ n (k .number)) }
-keyed (jitter n j) k =
-    let low = within-low _ _ n (k .number) in
-    record { numbered = low; placed = omega arith; fits = omega (arith, within-high _ _ n (k .number)) }
-keyed (clock c) k = record { numbered = omega arith; placed = refl; fits = omega arith }
+keyed x ok = go (x .kind) refl (in-range (layout (x .kind) .numbers) (x .numbers) (ok .ranges))
+  where
+    n : ℕ
+    n = getD (x .numbers) 0 0
+
+    go : (k : Kind) → x .kind ≡ k → InRange (layout k .numbers) 0 (x .numbers) → Keyed x
+    go Kind.header e t = record { numbered = rw e (omega arith); placed = rw e; fits = rw e (omega arith) }
+    go Kind.port e t =
+        let low = within-low _ _ n (t .0) in
+        record { numbered = rw e low; placed = rw e (omega arith); fits = rw e (omega (arith, within-high _ _ n (t .0))) }
+    go Kind.flow e t =
+        let low = within-low _ _ n (t .0) in
+        record { numbered = rw e low; placed = rw e (omega arith); fits = rw e (omega (arith, within-high _ _ n (t .0))) }
+    go Kind.extra e t =
+        let low = within-low _ _ n (t .0) in
+        record { numbered = rw e low; placed = rw e (omega arith); fits = rw e (omega (arith, within-high _ _ n (t .0))) }
+    go Kind.jitter e t =
+        let low = within-low _ _ n (t .0) in
+        record { numbered = rw e low; placed = rw e (omega arith); fits = rw e (omega (arith, within-high _ _ n (t .0))) }
+    go Kind.clock e t = record { numbered = rw e (omega arith); placed = rw e; fits = rw e (omega arith) }
 
 -- x is due before y exactly when its key is the lower
 pub before-key : (x y : Field) → NumbersOk x → NumbersOk y → before x y ≡ ltb (keyOf x) (keyOf y)

@@ -23,7 +23,7 @@ row-refused (suc n) s at k o e = rw (e, fieldsFrom)
 pub row-field
     : (n : ℕ) (s : List ℕ) (at : ℕ) (x : Field) (next : ℕ)
     → fieldAt s at ≡ field x next
-    → fieldsFrom (suc n) s at ≡ entryOf x (routeAt s at) ∷ fieldsFrom n s next
+    → fieldsFrom (suc n) s at ≡ entryOf x (routeAt (x .kind) s at) ∷ fieldsFrom n s next
 unfolding fieldsFrom
 row-field n s at x next e = rw (e, fieldsFrom)
 
@@ -32,9 +32,9 @@ pub data Ascends : ℕ → List Entry → Type 0 where
   none : {least : ℕ} → Ascends least []
   next
       : {least : ℕ} {e : Entry} {es : List Entry}
-      → NumbersOk (e .part)
-      → least ≤ keyOf (e .part)
-      → Ascends (suc (keyOf (e .part))) es
+      → NumbersOk (e .field)
+      → least ≤ keyOf (e .field)
+      → Ascends (suc (keyOf (e .field))) es
       → Ascends least (e ∷ es)
 
 -- each of them stands before all that follow it
@@ -42,17 +42,17 @@ ascends-ahead : (x : Field) {least : ℕ} {es : List Entry} → NumbersOk x → 
 unfolding ahead
 ascends-ahead x k below none = refl
 ascends-ahead x k below (next {e = e} m low rest) =
-    rw (before-key x (e .part) k m, lt-ltb (keyOf x) (keyOf (e .part)) (omega arith)) (ascends-ahead x k (omega arith) rest)
+    rw (before-key x (e .field) k m, lt-ltb (keyOf x) (keyOf (e .field)) (omega arith)) (ascends-ahead x k (omega arith) rest)
 
 pub ascends-rising : {least : ℕ} {es : List Entry} → Ascends least es → rising es ≡ true
 unfolding rising
 ascends-rising none = refl
-ascends-rising (next {e = e} m low rest) = rw (ascends-ahead (e .part) m (omega arith) rest) (ascends-rising rest)
+ascends-rising (next {e = e} m low rest) = rw (ascends-ahead (e .field) m (omega arith) rest) (ascends-rising rest)
 
 -- and where each does, their keys rise
 data Ranged : List Entry → Type 0 where
   none : Ranged []
-  next : {e : Entry} {es : List Entry} → NumbersOk (e .part) → Ranged es → Ranged (e ∷ es)
+  next : {e : Entry} {es : List Entry} → NumbersOk (e .field) → Ranged es → Ranged (e ∷ es)
 
 ranged : (n : ℕ) (s : List ℕ) (at : ℕ) → Ranged (fieldsFrom n s at)
 unfolding fieldsFrom
@@ -65,20 +65,20 @@ ranged (suc n) s at = go (ranged n s) (fieldAt s at) refl
 
 abbrev From : ℕ → List Entry → Type 0
 From least [] = Unit {0}
-From least (e ∷ es) = least ≤ keyOf (e .part)
+From least (e ∷ es) = least ≤ keyOf (e .field)
 
 rising-ascends : (least : ℕ) {es : List Entry} → Ranged es → From least es → rising es ≡ true → Ascends least es
 unfolding rising ahead
 rising-ascends least none from up = none
 rising-ascends least (next {e = e} {es = es} k rest) from up =
-    let t = and-eq-true-iff (ahead (e .part) es) (rising es) .0 up in
-    next k from (rising-ascends (suc (keyOf (e .part))) rest (after es rest (t .0)) (t .1))
+    let t = and-eq-true-iff (ahead (e .field) es) (rising es) .0 up in
+    next k from (rising-ascends (suc (keyOf (e .field))) rest (after es rest (t .0)) (t .1))
   where
-    after : (es : List Entry) → Ranged es → ahead (e .part) es ≡ true → From (suc (keyOf (e .part))) es
+    after : (es : List Entry) → Ranged es → ahead (e .field) es ≡ true → From (suc (keyOf (e .field))) es
     after [] r a = tt
     after (f ∷ fs) (next m r) a =
-        let b = and-eq-true-iff (before (e .part) (f .part)) (ahead (e .part) fs) .0 a .0 in
-        ltb-true (keyOf (e .part)) (keyOf (f .part)) (sym (before-key (e .part) (f .part) k m) ∙ b)
+        let b = and-eq-true-iff (before (e .field) (f .field)) (ahead (e .field) fs) .0 a .0 in
+        ltb-true (keyOf (e .field)) (keyOf (f .field)) (sym (before-key (e .field) (f .field) k m) ∙ b)
 
 pub rising-from : (n : ℕ) (s : List ℕ) (at : ℕ) → rising (fieldsFrom n s at) ≡ true → Ascends 0 (fieldsFrom n s at)
 rising-from n s at = rising-ascends 0 (ranged n s at) (any (fieldsFrom n s at))

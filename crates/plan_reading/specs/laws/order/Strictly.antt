@@ -61,15 +61,15 @@ module _ (n : ℕ) (s : List ℕ) (at last : ℕ) (d : Draft) (front : List Fiel
 
     -- test 12 finds it, and the loose reading finds nothing before
     nothing-before : taken d x ≡ false → foundBefore s at (readFrom loose (suc n) s at last d) ≡ false
-    nothing-before t = go (fieldRepeats x (routeAt s at)) refl
+    nothing-before t = go (fieldRepeats (routeAt (x .kind) s at)) refl
       where
-        go : (b : Bool) → fieldRepeats x (routeAt s at) ≡ b → foundBefore s at (readFrom loose (suc n) s at last d) ≡ false
+        go : (b : Bool) → fieldRepeats (routeAt (x .kind) s at) ≡ b → foundBefore s at (readFrom loose (suc n) s at last d) ≡ false
         go true g =
             rw (stop-one loose s at last d n 7 at inside (step-repeats loose s at last d x next e t refl g))
             (le-ltb at at (omega arith))
         go false g =
-            rw (more-one loose s at last d n next (keyOf x) (added d x (routeAt s at)) inside (step-added loose s at last d x next e t refl g))
-            (found-after loose n s next (keyOf x) (added d x (routeAt s at)) at (omega (arith, found-forward s at x next e)) inside)
+            rw (more-one loose s at last d n next (keyOf x) (added d x (routeAt (x .kind) s at)) inside (step-added loose s at last d x next e t refl g))
+            (found-after loose n s next (keyOf x) (added d x (routeAt (x .kind) s at)) at (omega (arith, found-forward s at x next e)) inside)
 
     from-late : taken d x ≡ false → overdue x front ≡ true → ltb (keyOf x) last ≡ true → Strictly (suc n) s at last d front
     from-late t o l =
@@ -78,7 +78,7 @@ module _ (n : ℕ) (s : List ℕ) (at last : ℕ) (d : Draft) (front : List Fiel
 
     -- it is in time
     module _ (t : taken d x ≡ false) (o : overdue x front ≡ false) (l : ltb (keyOf x) last ≡ false) where
-      from-repeats : fieldRepeats x (routeAt s at) ≡ true → Strictly (suc n) s at last d front
+      from-repeats : fieldRepeats (routeAt (x .kind) s at) ≡ true → Strictly (suc n) s at last d front
       from-repeats g =
           let past = late-past n front s at x next e o in
           let onward = late-onward n (x ∷ front) s next (found-within s at x next e) in
@@ -88,11 +88,11 @@ module _ (n : ℕ) (s : List ℕ) (at last : ℕ) (d : Draft) (front : List Fiel
           (lt-ltb at (lateFrom (suc n) front s at) (omega (arith, found-forward s at x next e)))
 
       from-added
-          : fieldRepeats x (routeAt s at) ≡ false
-          → Strictly n s next (keyOf x) (added d x (routeAt s at)) (x ∷ front)
+          : fieldRepeats (routeAt (x .kind) s at) ≡ false
+          → Strictly n s next (keyOf x) (added d x (routeAt (x .kind) s at)) (x ∷ front)
           → Strictly (suc n) s at last d front
       from-added g rest =
-          let after = added d x (routeAt s at) in
+          let after = added d x (routeAt (x .kind) s at) in
           more-one strict s at last d n next (keyOf x) after inside (step-added strict s at last d x next e t l g)
           ∙ rest
           ∙ rw (
@@ -111,15 +111,15 @@ module _ (n : ℕ) (s : List ℕ) (at last : ℕ) (d : Draft) (front : List Fiel
           : taken d x ≡ false
           → ltb (keyOf x) last ≡ false
           → (b : Bool)
-          → fieldRepeats x (routeAt s at) ≡ b
+          → fieldRepeats (routeAt (x .kind) s at) ≡ b
           → Strictly (suc n) s at last d front
       by-repeats t l true g = from-repeats t (known x ok ∙ l) l g
       by-repeats t l false g =
-          from-added t (known x ok ∙ l) l g (rest (added d x (routeAt s at)) (known-next front last x ok known l))
+          from-added t (known x ok ∙ l) l g (rest (added d x (routeAt (x .kind) s at)) (known-next front last x ok known l))
 
       by-key : taken d x ≡ false → (b : Bool) → ltb (keyOf x) last ≡ b → Strictly (suc n) s at last d front
       by-key t true l = from-late t (known x ok ∙ l) l
-      by-key t false l = by-repeats t l (fieldRepeats x (routeAt s at)) refl
+      by-key t false l = by-repeats t l (fieldRepeats (routeAt (x .kind) s at)) refl
 
       from-field : (b : Bool) → taken d x ≡ b → Strictly (suc n) s at last d front
       from-field true t = from-taken t

@@ -1,6 +1,6 @@
 -- Laws of what test 9 seeks: fields that name a port or a flow not in the plan.
 use Prim.Native.Nat.{ℕ, _+_, _≤_, _<_}
-use mathlib.Core.Path.{_≡_, refl, sym, _∙_}
+use mathlib.Core.Path.{_≡_, refl, sym, _∙_, subst}
 use mathlib.Core.List.{List}
 use mathlib.Core.Bool.{Bool, true, false, not}
 use native.Mathlib.Omega.{arith}
@@ -10,38 +10,42 @@ use lib.ListN.{length}
 use Rattle.cqf.specs.Bounded.{every}
 use Rattle.cqf.specs.Plan.{portIn}
 use Rattle.plan.specs.Bytes.{number2, headSize, tagAt, sizeAt, wholeAt, valueAt}
-use Rattle.plan.specs.Field.{flowTag, extraTag, jitterTag}
+use Rattle.plan.specs.Layout.{Kind, layout}
+use Rattle.plan.specs.Field.{Field, fieldBy}
+use Rattle.plan_reading.specs.Part.{Part, header, port, flow, extra, jitter, clock, partsOf}
 use Rattle.plan_reading.specs.Reading.{routeAt, hasFlow, namesAbsent, jitterAbsent, extraAbsent, orElse, firstField, firstAbsent}
 use Rattle.plan_reading.specs.laws.reading.First.{NoneFrom, none-front}
+use Rattle.plan_reading.specs.laws.fields.Passes.{Passes}
+use Rattle.plan_reading.specs.laws.fields.Ranged.{All}
 
 module _ (rates s : List ℕ) (at : ℕ) where
   -- only a flow has a route
-  pub absent-other : (tagAt s at ≡ flowTag → ⊥) → namesAbsent rates s at ≡ false
+  pub absent-other : (tagAt s at ≡ layout Kind.flow .tag → ⊥) → namesAbsent rates s at ≡ false
   unfolding namesAbsent
-  absent-other h = rw (ne-eqb (tagAt s at) flowTag h)
+  absent-other h = rw (ne-eqb (tagAt s at) (layout Kind.flow .tag) h)
 
-  pub absent-flow : tagAt s at ≡ flowTag → namesAbsent rates s at ≡ not (every (portIn rates) (routeAt s at))
+  pub absent-flow : tagAt s at ≡ layout Kind.flow .tag → namesAbsent rates s at ≡ not (every (portIn rates) (routeAt Kind.flow s at))
   unfolding namesAbsent
-  absent-flow h = rw (eq-eqb (tagAt s at) flowTag h)
+  absent-flow h = rw (eq-eqb (tagAt s at) (layout Kind.flow .tag) h)
 
   -- extra bytes name one port
-  pub absent-plain : (tagAt s at ≡ extraTag → ⊥) → extraAbsent rates s at ≡ false
+  pub absent-plain : (tagAt s at ≡ layout Kind.extra .tag → ⊥) → extraAbsent rates s at ≡ false
   unfolding extraAbsent
-  absent-plain h = rw (ne-eqb (tagAt s at) extraTag h)
+  absent-plain h = rw (ne-eqb (tagAt s at) (layout Kind.extra .tag) h)
 
-  pub absent-extra : tagAt s at ≡ extraTag → extraAbsent rates s at ≡ not (portIn rates (number2 (valueAt s at) 0))
+  pub absent-extra : tagAt s at ≡ layout Kind.extra .tag → extraAbsent rates s at ≡ not (portIn rates (number2 (valueAt s at) 0))
   unfolding extraAbsent
-  absent-extra h = rw (eq-eqb (tagAt s at) extraTag h)
+  absent-extra h = rw (eq-eqb (tagAt s at) (layout Kind.extra .tag) h)
 
 -- a jitter names one flow
 module _ (periods s : List ℕ) (at : ℕ) where
-  pub absent-steady : (tagAt s at ≡ jitterTag → ⊥) → jitterAbsent periods s at ≡ false
+  pub absent-steady : (tagAt s at ≡ layout Kind.jitter .tag → ⊥) → jitterAbsent periods s at ≡ false
   unfolding jitterAbsent
-  absent-steady h = rw (ne-eqb (tagAt s at) jitterTag h)
+  absent-steady h = rw (ne-eqb (tagAt s at) (layout Kind.jitter .tag) h)
 
-  pub absent-jitter : tagAt s at ≡ jitterTag → jitterAbsent periods s at ≡ not (hasFlow periods (number2 (valueAt s at) 0))
+  pub absent-jitter : tagAt s at ≡ layout Kind.jitter .tag → jitterAbsent periods s at ≡ not (hasFlow periods (number2 (valueAt s at) 0))
   unfolding jitterAbsent
-  absent-jitter h = rw (eq-eqb (tagAt s at) jitterTag h)
+  absent-jitter h = rw (eq-eqb (tagAt s at) (layout Kind.jitter .tag) h)
 
 -- an offset in the plan is the one, any other gives way to the next
 module _ (s : List ℕ) (at next : ℕ) where
@@ -116,11 +120,53 @@ module _ (rates periods s : List ℕ) (at : ℕ) where
         record { routes = a .rest; jitters = b .rest; extras = c .rest },
       )
 
-  pub there-route : tagAt s at ≡ flowTag → NamedThere rates periods s at → every (portIn rates) (routeAt s at) ≡ true
+  pub there-route : tagAt s at ≡ layout Kind.flow .tag → NamedThere rates periods s at → every (portIn rates) (routeAt Kind.flow s at) ≡ true
   there-route kind h = not-false _ (sym (absent-flow rates s at kind) ∙ h .routes)
 
-  pub there-jitter : tagAt s at ≡ jitterTag → NamedThere rates periods s at → hasFlow periods (number2 (valueAt s at) 0) ≡ true
+  pub there-jitter : tagAt s at ≡ layout Kind.jitter .tag → NamedThere rates periods s at → hasFlow periods (number2 (valueAt s at) 0) ≡ true
   there-jitter kind h = not-false _ (sym (absent-jitter periods s at kind) ∙ h .jitters)
 
-  pub there-extra : tagAt s at ≡ extraTag → NamedThere rates periods s at → portIn rates (number2 (valueAt s at) 0) ≡ true
+  pub there-extra : tagAt s at ≡ layout Kind.extra .tag → NamedThere rates periods s at → portIn rates (number2 (valueAt s at) 0) ≡ true
   there-extra kind h = not-false _ (sym (absent-extra rates s at kind) ∙ h .extras)
+
+-- what a part names is in the plan with these rates and periods: each port of a flow's route, the flow of a jitter, the port of
+-- extra bytes
+abbrev pub NamesPresent : (rates periods : List ℕ) → Part → Type 0
+NamesPresent rates periods (header guard top) = Unit {0}
+NamesPresent rates periods (port n rate blocking) = Unit {0}
+NamesPresent rates periods (flow n period count bytes route) = every (portIn rates) route ≡ true
+NamesPresent rates periods (extra n bytes) = portIn rates n ≡ true
+NamesPresent rates periods (jitter n ns) = hasFlow periods n ≡ true
+NamesPresent rates periods (clock k) = Unit {0}
+
+-- so test 9 finds the field at this offset just where its parts name what is absent
+module _ (rates periods s : List ℕ) (at : ℕ) where
+  abbrev Present : Kind → Type 0
+  Present k = All (NamesPresent rates periods) (partsOf (fieldBy k (valueAt s at)) (routeAt k s at))
+
+  there-present : (k : Kind) → tagAt s at ≡ layout k .tag → NamedThere rates periods s at → Present k
+  there-present Kind.header e h = (tt, tt)
+  there-present Kind.port e h = (tt, tt)
+  there-present Kind.flow e h = (there-route rates periods s at e h, tt)
+  there-present Kind.extra e h = (there-extra rates periods s at e h, tt)
+  there-present Kind.jitter e h = (there-jitter rates periods s at e h, tt)
+  there-present Kind.clock e h = (tt, tt)
+
+  present-there : (k : Kind) → tagAt s at ≡ layout k .tag → Present k → NamedThere rates periods s at
+  unfolding namesAbsent jitterAbsent extraAbsent
+  present-there Kind.header e h = record { routes = rw e; jitters = rw e; extras = rw e }
+  present-there Kind.port e h = record { routes = rw e; jitters = rw e; extras = rw e }
+  present-there Kind.flow e h = record { routes = rw (e, h .0); jitters = rw e; extras = rw e }
+  present-there Kind.extra e h = record { routes = rw e; jitters = rw e; extras = rw (e, h .0) }
+  present-there Kind.jitter e h = record { routes = rw e; jitters = rw (e, h .0); extras = rw e }
+  present-there Kind.clock e h = record { routes = rw e; jitters = rw e; extras = rw e }
+
+  module _ (x : Field) (k : Passes (tagAt s at) (valueAt s at) x) where
+    abbrev Names : Field → Type 0
+    Names y = All (NamesPresent rates periods) (partsOf y (routeAt (x .kind) s at))
+
+    pub parts-present : NamedThere rates periods s at → Names x
+    parts-present h = subst Names (k .numbers) (there-present (x .kind) (k .kind) h)
+
+    pub names-there : Names x → NamedThere rates periods s at
+    names-there h = present-there (x .kind) (k .kind) (subst Names (sym (k .numbers)) h)

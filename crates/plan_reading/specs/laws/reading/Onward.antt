@@ -8,9 +8,11 @@ use borrow.Author.Tests.{lt-ltb, le-ltb, ltb-true, ltb-false}
 use lib.Dec.{ltb}
 use lib.ListN.{length}
 use Rattle.plan.specs.Bytes.{headSize}
-use Rattle.plan.specs.Field.{Field, header, port, flow, extra, jitter, clock}
-use Rattle.plan_reading.specs.Draft.{Draft, added, portsIn, flowsIn}
-use Rattle.plan_reading.specs.Reading.{rejected, Mode, Step, stop, more, stepAt, closing, readFrom}
+use Rattle.plan.specs.Layout.{Kind}
+use Rattle.plan.specs.Field.{Field}
+use Rattle.plan_reading.specs.Part.{partsBy, partsOf}
+use Rattle.plan_reading.specs.Draft.{Draft, added, portsIn, flowsIn, sumOf}
+use Rattle.plan_reading.specs.Reading.{rejected, Mode, routeAt, Step, stop, more, stepAt, closing, readFrom}
 use Rattle.plan_reading.specs.laws.fields.Found.{found-forward, found-within}
 use Rattle.plan_reading.specs.laws.reading.Steps.{step-more}
 
@@ -22,21 +24,28 @@ pub record Onward (s : List ℕ) (at : ℕ) (d : Draft) (next : ℕ) (d′ : Dra
   pub flows : d′ .flows ≤ d .flows + 1
 
 -- a field adds one of a kind at the most
-pub portsIn-one : (x : Field) → portsIn x ≤ 1
-portsIn-one (header g t) = omega arith
-portsIn-one (port n r b) = omega arith
-portsIn-one (flow n p c l h) = omega arith
-portsIn-one (extra n b) = omega arith
-portsIn-one (jitter n j) = omega arith
-portsIn-one (clock c) = omega arith
+module _ (x : Field) (r : List ℕ) where
+  pub portsIn-one : sumOf portsIn (partsOf x r) ≤ 1
+  portsIn-one = go (x .kind)
+    where
+      go : (k : Kind) → sumOf portsIn (partsBy k (x .numbers) r) ≤ 1
+      go Kind.header = omega arith
+      go Kind.port = omega arith
+      go Kind.flow = omega arith
+      go Kind.extra = omega arith
+      go Kind.jitter = omega arith
+      go Kind.clock = omega arith
 
-pub flowsIn-one : (x : Field) → flowsIn x ≤ 1
-flowsIn-one (header g t) = omega arith
-flowsIn-one (port n r b) = omega arith
-flowsIn-one (flow n p c l h) = omega arith
-flowsIn-one (extra n b) = omega arith
-flowsIn-one (jitter n j) = omega arith
-flowsIn-one (clock c) = omega arith
+  pub flowsIn-one : sumOf flowsIn (partsOf x r) ≤ 1
+  flowsIn-one = go (x .kind)
+    where
+      go : (k : Kind) → sumOf flowsIn (partsBy k (x .numbers) r) ≤ 1
+      go Kind.header = omega arith
+      go Kind.port = omega arith
+      go Kind.flow = omega arith
+      go Kind.extra = omega arith
+      go Kind.jitter = omega arith
+      go Kind.clock = omega arith
 
 pub onward
     : (mode : Mode) (s : List ℕ) (at last : ℕ) (d : Draft) (next key : ℕ) (d′ : Draft)
@@ -45,13 +54,14 @@ pub onward
 unfolding added
 onward mode s at last d next key d′ e =
     let t = step-more mode s at last d next key d′ e in
-    let ep : d .ports + portsIn (t .part) ≡ d′ .ports = ap (λ (y : Draft). y .ports) (t .adds) in
-    let ef : d .flows + flowsIn (t .part) ≡ d′ .flows = ap (λ (y : Draft). y .flows) (t .adds) in
+    let r = routeAt (t .part .kind) s at in
+    let ep : d .ports + sumOf portsIn (partsOf (t .part) r) ≡ d′ .ports = ap (λ (y : Draft). y .ports) (t .adds) in
+    let ef : d .flows + sumOf flowsIn (partsOf (t .part) r) ≡ d′ .flows = ap (λ (y : Draft). y .flows) (t .adds) in
     record {
       forward = found-forward s at (t .part) next (t .stands);
       inside = found-within s at (t .part) next (t .stands);
-      ports = omega (arith, portsIn-one (t .part));
-      flows = omega (arith, flowsIn-one (t .part));
+      ports = omega (arith, portsIn-one (t .part) r);
+      flows = omega (arith, flowsIn-one (t .part) r);
     }
 
 module _ (mode : Mode) (s : List ℕ) (at last : ℕ) (d : Draft) where

@@ -1,17 +1,16 @@
 -- Where the reading refuses: a field's own refusals are at its tag, those of the whole plan come last.
-use Prim.Native.Nat.{ℕ, zero, suc, _+_, _*_, _≤_, _<_}
+use Prim.Native.Nat.{ℕ, zero, suc, _+_, _≤_, _<_}
 use mathlib.Core.Path.{_≡_, refl, sym, _∙_}
 use mathlib.Core.List.{List}
-use mathlib.Core.Bool.{Bool, true, false, cond, not, _&&_, _||_}
+use mathlib.Core.Option.{Option, some, none}
+use mathlib.Core.Bool.{Bool, true, false, cond, not, _||_}
 use native.Mathlib.Omega.{arith}
 use borrow.Author.Tests.{lt-leb, le-ltb, ltb-true, ltb-false}
 use lib.Dec.{leb, ltb, eqb}
 use lib.ListN.{length}
-use Rattle.cqf.specs.Bounded.{every}
-use Rattle.cqf.specs.Limits.{guardOk, topOk, portOk, rateOk, lengthOk, blockingOk, extraOk, flowOk, periodOk, countOk, jitterOk, hopsOk}
-use Rattle.cqf.specs.Plan.{clockOk}
-use Rattle.plan.specs.Bytes.{number2, number4, headSize, tagAt, sizeAt, wholeAt, valueAt}
-use Rattle.plan.specs.Field.{Field, FieldRead, field, refused, unless, headerTag, portTag, flowTag, extraTag, jitterTag, clockTag, headerSize, portSize, flowSize, extraSize, jitterSize, clockSize, hopsIn, routeIn, headerIn, portInValue, flowIn, extraIn, jitterIn, clockNumbers, clockIn, fieldIn, fieldAt}
+use Rattle.plan.specs.Bytes.{headSize, tagAt, sizeAt, wholeAt, valueAt}
+use Rattle.plan.specs.Layout.{Kind, kinds}
+use Rattle.plan.specs.Field.{FieldRead, field, refused, unless, fieldBy, sizeOk, rangesOk, valueIn, kindBy, kindRead, fieldIn, fieldAt}
 use Rattle.plan_reading.specs.Key.{headerKey, keyOf}
 use Rattle.plan_reading.specs.Draft.{Draft, hasKey, taken, fieldRepeats, added}
 use Rattle.plan_reading.specs.Reading.{accepted, rejected, Mode, Step, stop, more, routeAt, late, fieldStep, stepAt, firstAbsent, closing, readFrom}
@@ -23,70 +22,23 @@ pub record Here (at number offset : ℕ) : Type 0 where
   pub early : number ≤ 6
   pub place : offset ≡ at
 
--- the tests 4 and 5 of a value
-tested
-    : (at : ℕ) (four five : Bool) (x : Field) (next : ℕ) {k o : ℕ}
-    → unless 4 at four (unless 5 at five (field x next)) ≡ refused k o
-    → Here at k o
-tested at false five x next {k} e = let same : _≡_ {A = ℕ} 4 k = cc in record { early = omega arith; place = cc }
-tested at true false x next {k} e = let same : _≡_ {A = ℕ} 5 k = cc in record { early = omega arith; place = cc }
-tested at true true x next e = let z : _≡_ {A = ℕ} 0 1 = cc in absurd (omega arith)
-
--- the tag that is tested decides, or the tests of the tags after it do
-by-tag
-    : {A : Type 0} (tag kind : ℕ) (here rest : FieldRead) {r : FieldRead}
-    → (here ≡ r → A)
-    → (rest ≡ r → A)
-    → cond (eqb tag kind) here rest ≡ r
-    → A
-by-tag {A} tag kind here rest {r} is other = go (eqb tag kind)
+-- the tests 4 and 5 of a value, and test 3
+value-refused : (v : List ℕ) (at next : ℕ) (k : Kind) {n o : ℕ} → valueIn k v at next ≡ refused n o → Here at n o
+unfolding valueIn
+value-refused v at next k {n} {o} = go (sizeOk k (length v)) (rangesOk k v)
   where
-    go : (b : Bool) → cond b here rest ≡ r → A
-    go true e = is e
-    go false e = other e
+    go : (four five : Bool) → unless 4 at four (unless 5 at five (field (fieldBy k v) next)) ≡ refused n o → Here at n o
+    go false five e = let same : _≡_ {A = ℕ} 4 n = cc in record { early = omega arith; place = cc }
+    go true false e = let same : _≡_ {A = ℕ} 5 n = cc in record { early = omega arith; place = cc }
+    go true true e = let z : _≡_ {A = ℕ} 0 1 = cc in absurd (omega arith)
 
-module _ (v : List ℕ) (at next : ℕ) {k o : ℕ} where
-  header-refused : headerIn v at next ≡ refused k o → Here at k o
-  unfolding headerIn
-  header-refused = tested at (eqb (length v) headerSize) (guardOk (number4 v 0) && topOk (number4 v 4)) _ next
-
-  port-refused : portInValue v at next ≡ refused k o → Here at k o
-  unfolding portInValue
-  port-refused =
-      tested at (eqb (length v) portSize) (portOk (number2 v 0) && rateOk (number4 v 2) && blockingOk (number2 v 6)) _ next
-
-  flow-refused : flowIn v at next ≡ refused k o → Here at k o
-  unfolding flowIn
-  flow-refused =
-      tested at (hopsOk (hopsIn (length v)) && eqb (length v) (flowSize + 2 * hopsIn (length v)))
-      (flowOk (number2 v 0) && periodOk (number4 v 2) && countOk (number2 v 6) && lengthOk (number2 v 8) && every portOk (routeIn v))
-      _ next
-
-  extra-refused : extraIn v at next ≡ refused k o → Here at k o
-  unfolding extraIn
-  extra-refused = tested at (eqb (length v) extraSize) (portOk (number2 v 0) && extraOk (number2 v 2)) _ next
-
-  jitter-refused : jitterIn v at next ≡ refused k o → Here at k o
-  unfolding jitterIn
-  jitter-refused = tested at (eqb (length v) jitterSize) (flowOk (number2 v 0) && jitterOk (number4 v 2)) _ next
-
-  clock-refused : clockIn v at next ≡ refused k o → Here at k o
-  unfolding clockIn
-  clock-refused = tested at (eqb (length v) clockSize) (clockOk (clockNumbers v)) _ next
-
-  unknown-refused : refused 3 at ≡ refused k o → Here at k o
-  unknown-refused e = let same : _≡_ {A = ℕ} 3 k = cc in record { early = omega arith; place = cc }
-
-  value-refused : (tag : ℕ) → fieldIn tag v at next ≡ refused k o → Here at k o
-  unfolding fieldIn
-  value-refused tag =
-      by-tag tag headerTag _ _ header-refused
-      (by-tag tag portTag _ _ port-refused
-      (by-tag tag flowTag _ _ flow-refused
-      (by-tag tag extraTag _ _ extra-refused
-      (by-tag tag jitterTag _ _ jitter-refused
-      (by-tag tag clockTag _ _ clock-refused
-      unknown-refused)))))
+tag-refused : (v : List ℕ) (at next tag : ℕ) {n o : ℕ} → fieldIn tag v at next ≡ refused n o → Here at n o
+unfolding fieldIn
+tag-refused v at next tag {n} {o} = go (kindBy kinds tag)
+  where
+    go : (found : Option Kind) → kindRead found v at next ≡ refused n o → Here at n o
+    go none e = let same : _≡_ {A = ℕ} 3 n = cc in record { early = omega arith; place = cc }
+    go (some k) e = value-refused v at next k e
 
 -- a field that tests 2 to 5 refuse is refused at its tag
 pub refused-here : (s : List ℕ) (at k o : ℕ) → fieldAt s at ≡ refused k o → Here at k o
@@ -97,7 +49,7 @@ refused-here s at k o = go (wholeAt s at)
         : (whole : Bool)
         → unless 2 at whole (fieldIn (tagAt s at) (valueAt s at) at (at + headSize + sizeAt s at)) ≡ refused k o
         → Here at k o
-    go true e = value-refused (valueAt s at) at _ (tagAt s at) e
+    go true e = tag-refused (valueAt s at) at _ (tagAt s at) e
     go false e = let same : _≡_ {A = ℕ} 2 k = cc in record { early = omega arith; place = cc }
 
 -- a step that ends the reading does so at the field's tag
@@ -119,7 +71,7 @@ stop-here mode s at last d k o e = go (fieldAt s at) refl e
         let same : offset ≡ o = cc in
         sym same ∙ refused-here s at number offset q .place
     go (field x next) q e =
-        by-tests (taken d x) (late mode last x) (fieldRepeats x (routeAt s at)) next (keyOf x) (added d x (routeAt s at)) e
+        by-tests (taken d x) (late mode last x) (fieldRepeats (routeAt (x .kind) s at)) next (keyOf x) (added d x (routeAt (x .kind) s at)) e
 
 -- the tests 8 and 9 come when all fields are read
 pub closed-last : (s : List ℕ) (d : Draft) (at : ℕ) → foundBefore s at (closing s d) ≡ leb (length s) at

@@ -32,15 +32,15 @@ module _ (mode : Mode) (s : List ℕ) (at last : ℕ) (d : Draft) (x : Field) (m
   pub step-repeats
       : taken d x ≡ false
       → late mode last x ≡ false
-      → fieldRepeats x (routeAt s at) ≡ true
+      → fieldRepeats (routeAt (x .kind) s at) ≡ true
       → stepAt mode s at last d ≡ stop 7 at
   step-repeats e l g = passed ∙ rw (e, l, g)
 
   pub step-added
       : taken d x ≡ false
       → late mode last x ≡ false
-      → fieldRepeats x (routeAt s at) ≡ false
-      → stepAt mode s at last d ≡ more m (keyOf x) (added d x (routeAt s at))
+      → fieldRepeats (routeAt (x .kind) s at) ≡ false
+      → stepAt mode s at last d ≡ more m (keyOf x) (added d x (routeAt (x .kind) s at))
   step-added e l g = passed ∙ rw (e, l, g)
 
 -- a field that was not refused
@@ -49,9 +49,9 @@ pub record StepOutcome (mode : Mode) (s : List ℕ) (at last : ℕ) (d : Draft) 
   pub stands : fieldAt s at ≡ field part next
   pub fresh : taken d part ≡ false
   pub in-time : late mode last part ≡ false
-  pub no-repeat : fieldRepeats part (routeAt s at) ≡ false
+  pub no-repeat : fieldRepeats (routeAt (part .kind) s at) ≡ false
   pub keyed : keyOf part ≡ key
-  pub adds : added d part (routeAt s at) ≡ e
+  pub adds : added d part (routeAt (part .kind) s at) ≡ e
 
 pub step-more
     : (mode : Mode) (s : List ℕ) (at last : ℕ) (d : Draft) (next key : ℕ) (e : Draft)
@@ -65,13 +65,13 @@ step-more mode s at last d next key e h = go (fieldAt s at) refl h
     go (field x after) q h = six (taken d x) refl h
       where
         Seven : Bool → Step
-        Seven b = cond b (stop 7 at) (more after (keyOf x) (added d x (routeAt s at)))
+        Seven b = cond b (stop 7 at) (more after (keyOf x) (added d x (routeAt (x .kind) s at)))
 
         seven
             : taken d x ≡ false
             → late mode last x ≡ false
             → (b : Bool)
-            → fieldRepeats x (routeAt s at) ≡ b
+            → fieldRepeats (routeAt (x .kind) s at) ≡ b
             → Seven b ≡ more next key e
             → StepOutcome mode s at last d next key e
         seven t k true l h = let z : _≡_ {A = ℕ} 0 1 = cc in absurd (omega arith)
@@ -83,15 +83,15 @@ step-more mode s at last d next key e h = go (fieldAt s at) refl h
             : taken d x ≡ false
             → (b : Bool)
             → late mode last x ≡ b
-            → cond b (stop 12 at) (Seven (fieldRepeats x (routeAt s at))) ≡ more next key e
+            → cond b (stop 12 at) (Seven (fieldRepeats (routeAt (x .kind) s at))) ≡ more next key e
             → StepOutcome mode s at last d next key e
         twelve t true k h = let z : _≡_ {A = ℕ} 0 1 = cc in absurd (omega arith)
-        twelve t false k h = seven t k (fieldRepeats x (routeAt s at)) refl h
+        twelve t false k h = seven t k (fieldRepeats (routeAt (x .kind) s at)) refl h
 
         six
             : (b : Bool)
             → taken d x ≡ b
-            → cond b (stop 6 at) (cond (late mode last x) (stop 12 at) (Seven (fieldRepeats x (routeAt s at)))) ≡ more next key e
+            → cond b (stop 6 at) (cond (late mode last x) (stop 12 at) (Seven (fieldRepeats (routeAt (x .kind) s at)))) ≡ more next key e
             → StepOutcome mode s at last d next key e
         six true t h = let z : _≡_ {A = ℕ} 0 1 = cc in absurd (omega arith)
         six false t h = twelve t (late mode last x) refl h

@@ -24,8 +24,8 @@ pub data Reads (s : List ℕ) : ℕ → Draft → Draft → Type 0 where
       → at < length s
       → fieldAt s at ≡ field x next
       → taken d x ≡ false
-      → fieldRepeats x (routeAt s at) ≡ false
-      → Reads s next (added d x (routeAt s at)) e
+      → fieldRepeats (routeAt (x .kind) s at) ≡ false
+      → Reads s next (added d x (routeAt (x .kind) s at)) e
       → Reads s at d e
 
 -- a reading that ends with tests 8 and 9

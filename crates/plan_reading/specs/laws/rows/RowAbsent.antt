@@ -1,40 +1,30 @@
 -- Fields that name only ports and flows of the plan: test 9 finds none.
 use Prim.Native.Nat.{ℕ, zero, suc, _+_, _≤_}
-use mathlib.Core.Path.{_≡_, ap, _∙_}
+use mathlib.Core.Path.{_≡_}
 use mathlib.Core.List.{List, [], _∷_, _++_}
-use mathlib.Core.Bool.{Bool, true, false, not}
+use mathlib.Core.Bool.{Bool, true, false}
 use native.Mathlib.Omega.{arith}
 use lib.ListN.{length}
-use Rattle.cqf.specs.Bounded.{every}
-use Rattle.cqf.specs.Plan.{portIn}
-use Rattle.plan.specs.Bytes.{headSize, tagAt, sizeAt, wholeAt, valueAt}
-use Rattle.plan.specs.Field.{Field, header, port, flow, extra, jitter, clock}
+use Rattle.plan.specs.Bytes.{headSize, sizeAt, wholeAt}
+use Rattle.plan_reading.specs.Part.{partsOf}
 use Rattle.plan_reading.specs.Draft.{Draft}
-use Rattle.plan_reading.specs.Reading.{routeAt, hasFlow, namesAbsent, jitterAbsent, extraAbsent, firstAbsent}
+use Rattle.plan_reading.specs.Reading.{routeAt, namesAbsent, jitterAbsent, extraAbsent, firstAbsent}
 use Rattle.plan_reading.specs.Strict.{Entry, entryOf, fieldsFrom, fieldsIn}
 use Rattle.plan.specs.laws.Whole.{not-whole}
-use Rattle.plan_reading.specs.laws.fields.Passes.{Passes, field-is-whole, field-passes, extra-number, jitter-number}
+use Rattle.plan_reading.specs.laws.fields.Passes.{field-is-whole, field-passes}
+use Rattle.plan_reading.specs.laws.fields.Ranged.{All}
 use Rattle.plan_reading.specs.laws.fields.Found.{found-forward}
 use Rattle.plan_reading.specs.laws.reading.Walk.{Reads, done, one}
 use Rattle.plan_reading.specs.laws.reading.First.{NoneFrom, first-cut, first-past}
-use Rattle.plan_reading.specs.laws.reading.Absent.{absent-other, absent-flow, absent-plain, absent-extra, absent-steady, absent-jitter, first-extra, NamedThere, AllThere}
+use Rattle.plan_reading.specs.laws.reading.Absent.{first-extra, AllThere, NamesPresent, names-there}
 use Rattle.plan_reading.specs.laws.order.Rows.{row-field}
 
--- what a field names is in the plan with these rates and periods: each port of a flow's route, the flow of a jitter, the port
--- of extra bytes
-abbrev pub NamesPresent : (rates periods : List ℕ) → Field → List ℕ → Type 0
-NamesPresent rates periods (header guard top) r = Unit {0}
-NamesPresent rates periods (port n rate blocking) r = Unit {0}
-NamesPresent rates periods (flow n period count bytes hops) r = every (portIn rates) r ≡ true
-NamesPresent rates periods (extra n bytes) r = portIn rates n ≡ true
-NamesPresent rates periods (jitter n ns) r = hasFlow periods n ≡ true
-NamesPresent rates periods (clock k) r = Unit {0}
-
+-- what each part of each field names is in the plan with these rates and periods
 pub data AllPresent (rates periods : List ℕ) : List Entry → Type 0 where
   none : AllPresent rates periods []
   more
       : {e : Entry} {es : List Entry}
-      → NamesPresent rates periods (e .part) (e .route)
+      → All (NamesPresent rates periods) (partsOf (e .field) (e .route))
       → AllPresent rates periods es
       → AllPresent rates periods (e ∷ es)
 
@@ -45,49 +35,6 @@ pub present-append
     → AllPresent rates periods (es ++ fs)
 present-append none b = b
 present-append (more k a) b = more k (present-append a b)
-
-module _ (rates periods s : List ℕ) (at : ℕ) where
-  names-there
-      : (x : Field)
-      → Passes (tagAt s at) (valueAt s at) x
-      → NamesPresent rates periods x (entryOf x (routeAt s at) .route)
-      → NamedThere rates periods s at
-  names-there x k there = record { routes = routes x k there; jitters = jitters x k there; extras = extras x k there }
-    where
-      Of : Bool → Type 0
-      Of absent =
-          (x : Field)
-          → Passes (tagAt s at) (valueAt s at) x
-          → NamesPresent rates periods x (entryOf x (routeAt s at) .route)
-          → absent ≡ false
-
-      routes : Of (namesAbsent rates s at)
-      routes (header g t) k h = absent-other rates s at (λ e. absurd (omega (arith, k .kind)))
-      routes (port n r b) k h = absent-other rates s at (λ e. absurd (omega (arith, k .kind)))
-      routes (flow n p c l m) k h = absent-flow rates s at (k .kind) ∙ ap not h
-      routes (extra n b) k h = absent-other rates s at (λ e. absurd (omega (arith, k .kind)))
-      routes (jitter n j) k h = absent-other rates s at (λ e. absurd (omega (arith, k .kind)))
-      routes (clock c) k h = absent-other rates s at (λ e. absurd (omega (arith, k .kind)))
-
-      jitters : Of (jitterAbsent periods s at)
-      jitters (header g t) k h = absent-steady periods s at (λ e. absurd (omega (arith, k .kind)))
-      jitters (port n r b) k h = absent-steady periods s at (λ e. absurd (omega (arith, k .kind)))
-      jitters (flow n p c l m) k h = absent-steady periods s at (λ e. absurd (omega (arith, k .kind)))
-      jitters (extra n b) k h = absent-steady periods s at (λ e. absurd (omega (arith, k .kind)))
-      jitters (jitter n j) k h =
-          let number = jitter-number (tagAt s at) (valueAt s at) n j k in
-          absent-jitter periods s at (k .kind) ∙ ap (λ (m : ℕ). not (hasFlow periods m)) number ∙ ap not h
-      jitters (clock c) k h = absent-steady periods s at (λ e. absurd (omega (arith, k .kind)))
-
-      extras : Of (extraAbsent rates s at)
-      extras (header g t) k h = absent-plain rates s at (λ e. absurd (omega (arith, k .kind)))
-      extras (port n r b) k h = absent-plain rates s at (λ e. absurd (omega (arith, k .kind)))
-      extras (flow n p c l m) k h = absent-plain rates s at (λ e. absurd (omega (arith, k .kind)))
-      extras (extra n b) k h =
-          let number = extra-number (tagAt s at) (valueAt s at) n b k in
-          absent-extra rates s at (k .kind) ∙ ap (λ (m : ℕ). not (portIn rates m)) number ∙ ap not h
-      extras (jitter n j) k h = absent-plain rates s at (λ e. absurd (omega (arith, k .kind)))
-      extras (clock c) k h = absent-plain rates s at (λ e. absurd (omega (arith, k .kind)))
 
 -- neither a field that is not sought, nor the fields after it, nor the plan's end
 module _ (sought : List ℕ → ℕ → Bool) (s : List ℕ) (at : ℕ) where
@@ -117,7 +64,7 @@ module _ (rates periods s : List ℕ) where
     where
       go
           : (AllPresent rates periods (fieldsFrom n s next) → AllThere rates periods s next)
-          → AllPresent rates periods (entryOf x (routeAt s at) ∷ fieldsFrom n s next)
+          → AllPresent rates periods (entryOf x (routeAt (x .kind) s at) ∷ fieldsFrom n s next)
           → AllThere rates periods s at
       go after (more k others) =
           let r = field-passes s at x next stands in

@@ -4,22 +4,18 @@ use Prim.Native.Nat.{ℕ, _≤_, _<_}
 use mathlib.Core.Path.{_≡_, refl, sym, ap, _∙_}
 use mathlib.Core.Logic.{_⊎_, inl, inr}
 use mathlib.Core.List.{List, [], _∷_, List·Memᴰ, List·Memᴰ·not-nil, List·Memᴰ·cases-cons}
-use mathlib.Core.Bool.{Bool, true, false}
+use mathlib.Core.Bool.{true}
 use native.Mathlib.Omega.{arith}
-use borrow.Author.Tests.{le-leb, eqb-true, eqb-false}
-use lib.Dec.{eqb}
+use borrow.Author.Tests.{le-leb}
 use lib.ListN.{length, length-append}
-use lib.Seq.{getD-set-same, getD-set-other}
 use Rattle.cqf.specs.Bounded.{within}
-use Rattle.plan.specs.Field.{Field}
+use Rattle.plan_reading.specs.Part.{partsOf}
 use Rattle.plan_reading.specs.Key.{headerKey, keyOf}
-use Rattle.plan_reading.specs.Draft.{Draft, blank, hasKey, flowsIn, added}
-use Rattle.plan_reading.specs.Ranges.{NumbersOk}
+use Rattle.plan_reading.specs.Draft.{Draft, blank, hasKey, flowsIn, sumOf, added}
 use Rattle.plan_reading.specs.Reading.{Mode, loose, strict, accepted, maxBytes, closing, readFrom, readAs}
 use Rattle.plan_reading.specs.Strict.{Entry, rising}
 use Rattle.plan_reading.specs.FieldBytes.{bytesOf, rowBytes}
-use Rattle.plan_reading.specs.laws.fields.Kinds.{key-below}
-use Rattle.plan_reading.specs.laws.stores.Stored.{Flagged, added-flagged}
+use Rattle.plan_reading.specs.laws.stores.Stored.{Flagged, added-flagged, key-taken, key-stays}
 use Rattle.plan_reading.specs.laws.order.Order.{flagged-blank}
 use Rattle.plan_reading.specs.laws.reading.Steps.{step-added}
 use Rattle.plan_reading.specs.laws.reading.Onward.{read-end, read-more}
@@ -40,29 +36,11 @@ pub record Row (es : List Entry) : Type 0 where
   pub first : Entry
   pub others : List Entry
   pub begins : es ≡ first ∷ others
-  pub header : keyOf (first .part) ≡ headerKey
+  pub header : keyOf (first .field) ≡ headerKey
   -- and has a flow
   pub with-flow : 0 < addedAll blank es .flows
   -- what its fields name is in the plan that they give
   pub present : AllPresent (addedAll blank es .tables .rates) (addedAll blank es .tables .periods) es
-
--- the key of a field that was added is taken, and stays so
-key-taken : (d : Draft) (x : Field) (r : List ℕ) → Flagged d → NumbersOk x → hasKey (added d x r) (keyOf x) ≡ true
-unfolding added
-key-taken d x r flagged k = rw (getD-set-same (d .seen) (keyOf x) 1 0 (omega (arith, flagged, key-below x k)))
-
-key-stays
-    : (d : Draft) (x : Field) (r : List ℕ) (key : ℕ)
-    → Flagged d
-    → NumbersOk x
-    → hasKey d key ≡ true
-    → hasKey (added d x r) key ≡ true
-unfolding added
-key-stays d x r key flagged k e = go (eqb key (keyOf x)) refl
-  where
-    go : (b : Bool) → eqb key (keyOf x) ≡ b → hasKey (added d x r) key ≡ true
-    go true same = rw (eqb-true key (keyOf x) same) (key-taken d x r flagged k)
-    go false apart = rw (getD-set-other (d .seen) (keyOf x) key 1 0 (eqb-false key (keyOf x) apart)) e
 
 all-key
     : (d : Draft) (key : ℕ) {es : List Entry}
@@ -73,26 +51,26 @@ all-key
 unfolding addedAll
 all-key d key none flagged e = e
 all-key d key (more {e = f} ok rest) flagged e =
-    all-key (added d (f .part) (f .route)) key rest (added-flagged d (f .part) (f .route) flagged)
-    (key-stays d (f .part) (f .route) key flagged (ok .numbers) e)
+    all-key (added d (f .field) (f .route)) key rest (added-flagged d (f .field) (f .route) flagged)
+    (key-stays d (f .field) (f .route) key flagged (ok .numbers) e)
 
 -- flows are counted, so a row that has one counts some
 all-flows : (d : Draft) (es : List Entry) → d .flows ≤ addedAll d es .flows
 unfolding addedAll added
 all-flows d [] = omega arith
-all-flows d (e ∷ es) = omega (arith, all-flows (added d (e .part) (e .route)) es)
+all-flows d (e ∷ es) = omega (arith, all-flows (added d (e .field) (e .route)) es)
 
-pub some-flow : (d : Draft) (es : List Entry) (f : Entry) → List·Memᴰ f es → flowsIn (f .part) ≡ 1 → 0 < addedAll d es .flows
+pub some-flow : (d : Draft) (es : List Entry) (f : Entry) → List·Memᴰ f es → sumOf flowsIn (partsOf (f .field) (f .route)) ≡ 1 → 0 < addedAll d es .flows
 unfolding addedAll added
 some-flow d [] f i is = absurd (List·Memᴰ·not-nil i)
 some-flow d (e ∷ es) f i is = go (λ j. some-flow after es f j is) (List·Memᴰ·cases-cons i)
   where
     after : Draft
-    after = added d (e .part) (e .route)
+    after = added d (e .field) (e .route)
 
     go : (List·Memᴰ f es → 0 < addedAll after es .flows) → (f ≡ e) ⊎ List·Memᴰ f es → 0 < addedAll after es .flows
     go rest (inl same) =
-        let counted : flowsIn (e .part) ≡ 1 = rw same at is in
+        let counted : sumOf flowsIn (partsOf (e .field) (e .route)) ≡ 1 = rw same at is in
         omega (arith, all-flows after es)
     go rest (inr i) = rest i
 
@@ -117,11 +95,11 @@ module _ (es : List Entry) (row : Row es) where
       x : Entry
       x = row .first
 
-      go : AllOk (x ∷ row .others) → hasKey (addedAll (added blank (x .part) (x .route)) (row .others)) headerKey ≡ true
+      go : AllOk (x ∷ row .others) → hasKey (addedAll (added blank (x .field) (x .route)) (row .others)) headerKey ≡ true
       go (more ok rest) =
-          let d = added blank (x .part) (x .route) in
-          all-key d headerKey rest (added-flagged blank (x .part) (x .route) flagged-blank)
-          (sym (ap (hasKey d) (row .header)) ∙ key-taken blank (x .part) (x .route) flagged-blank (ok .numbers))
+          let d = added blank (x .field) (x .route) in
+          all-key d headerKey rest (added-flagged blank (x .field) (x .route) flagged-blank)
+          (sym (ap (hasKey d) (row .header)) ∙ key-taken blank (x .field) (x .route) flagged-blank (ok .numbers))
 
   closes : closing (rowBytes es) final ≡ accepted (final .tables) (final .ports) (final .flows)
   closes =
@@ -136,7 +114,7 @@ module _ (es : List Entry) (row : Row es) where
     where
       go : AllOk (row .first ∷ row .others) → 1 ≤ length (rowBytes (row .first ∷ row .others))
       go (more ok rest) =
-          omega (arith, length-append (bytesOf (row .first)) (rowBytes (row .others)), entry-length (row .first) (ok .fits))
+          omega (arith, length-append (bytesOf (row .first)) (rowBytes (row .others)), entry-length (row .first) ok)
 
   loosely : readAs loose (rowBytes es) ≡ accepted (final .tables) (final .ports) (final .flows)
   loosely =

@@ -13,13 +13,13 @@ use Rattle.plan.specs.Field.{Field, field, fieldAt}
 use Rattle.plan_reading.specs.Key.{keySlots, keyOf}
 use Rattle.plan_reading.specs.Draft.{Draft, blank, hasKey, fieldRepeats, added}
 use Rattle.plan_reading.specs.Reading.{routeAt}
-use Rattle.plan_reading.specs.Strict.{Entry, entryOf, fieldsFrom, fieldsIn, rising, InOrder}
+use Rattle.plan_reading.specs.Strict.{Entry, fieldsFrom, fieldsIn, rising, InOrder}
 use Rattle.plan_reading.specs.FieldBytes.{bytesOf, rowBytes}
 use Rattle.plan_reading.specs.laws.reading.Walk.{Reads, done, one}
 use Rattle.plan_reading.specs.laws.order.Late.{past-end}
 use Rattle.plan_reading.specs.laws.order.Rows.{row-refused, row-field, Ascends, none, next, rising-from}
 use Rattle.plan_reading.specs.laws.rows.SavedRow.{EntryOk, AllOk, none, more, addedAll}
-use Rattle.plan_reading.specs.laws.rows.EntryRead.{entry-length, field-there, entry-there, added-entry, repeats-entry}
+use Rattle.plan_reading.specs.laws.rows.EntryRead.{entry-length, field-there, route-there}
 
 -- s goes on at this offset with the bytes of these fields
 record Holds (s : List ℕ) (at : ℕ) (es : List Entry) : Type 0 where
@@ -34,13 +34,13 @@ holds-none s at h = ap length (h .bytes ∙ append-nil (h .front)) ∙ sym (h .o
 
 -- the field at the front is read, and the others follow it
 module _ (s : List ℕ) (at : ℕ) (e : Entry) (es : List Entry) (ok : EntryOk e) (h : Holds s at (e ∷ es)) where
-  front-field : fieldAt s at ≡ field (e .part) (at + length (bytesOf e))
+  front-field : fieldAt s at ≡ field (e .field) (at + length (bytesOf e))
   unfolding rowBytes
   front-field = rw (h .bytes, h .offset) (field-there (h .front) (rowBytes es) e ok)
 
-  front-entry : entryOf (e .part) (routeAt s at) ≡ e
+  front-route : routeAt (e .field .kind) s at ≡ e .route
   unfolding rowBytes
-  front-entry = rw (h .bytes, h .offset) (entry-there (h .front) (rowBytes es) e ok)
+  front-route = rw (h .bytes, h .offset) (route-there (h .front) (rowBytes es) e ok)
 
   holds-rest : Holds s (at + length (bytesOf e)) es
   unfolding rowBytes
@@ -55,7 +55,7 @@ module _ (s : List ℕ) (at : ℕ) (e : Entry) (es : List Entry) (ok : EntryOk e
   unfolding rowBytes
   front-inside =
       let whole = ap length (h .bytes) ∙ length-append (h .front) (bytesOf e ++ rowBytes es) in
-      omega (arith, whole, h .offset, length-append (bytesOf e) (rowBytes es), entry-length e (ok .fits))
+      omega (arith, whole, h .offset, length-append (bytesOf e) (rowBytes es), entry-length e ok)
 
 -- the fields that are read
 row-from : (n : ℕ) (s : List ℕ) (at : ℕ) {es : List Entry} → AllOk es → Holds s at es → length s ≤ at + n → fieldsFrom n s at ≡ es
@@ -63,9 +63,9 @@ row-from n s at none h enough = row-refused n s at 2 at (past-end s at (omega (a
 row-from zero s at (more {e = e} {es = es} ok rest) h enough = absurd (omega (arith, front-inside s at e es ok h))
 row-from (suc n) s at (more {e = e} {es = es} ok rest) h enough =
     let after = at + length (bytesOf e) in
-    let long = entry-length e (ok .fits) in
-    row-field n s at (e .part) after (front-field s at e es ok h)
-    ∙ ap₂ _∷_ (front-entry s at e es ok h) (row-from n s after rest (holds-rest s at e es ok h) (omega arith))
+    let long = entry-length e ok in
+    row-field n s at (e .field) after (front-field s at e es ok h)
+    ∙ ap₂ _∷_ (λ i. record { field = e .field; route = front-route s at e es ok h i }) (row-from n s after rest (holds-rest s at e es ok h) (omega arith))
 
 whole-row : (es : List Entry) → Holds (rowBytes es) 0 es
 whole-row es = record { front = []; bytes = refl; offset = refl }
@@ -113,19 +113,15 @@ walk-row
 unfolding addedAll
 walk-row s at least d none up free h = Reads.done {at = at} refl (omega (arith, holds-none s at h))
 walk-row s at least d (more {e = e} {es = es} ok rest) (next k low up) free h =
-    let same = front-entry s at e es ok h in
-    let adds : added d (e .part) (routeAt s at) ≡ added d (e .part) (e .route) =
-    added-entry d (e .part) (routeAt s at) ∙ ap (λ (f : Entry). added d (e .part) (f .route)) same in
-    let repeats : fieldRepeats (e .part) (routeAt s at) ≡ fieldRepeats (e .part) (e .route) =
-    repeats-entry (e .part) (routeAt s at) ∙ ap (λ (f : Entry). fieldRepeats (e .part) (f .route)) same in
+    let same = front-route s at e es ok h in
     let after = at + length (bytesOf e) in
-    let final = addedAll (added d (e .part) (e .route)) es in
-    Reads.one {at = at} {d = d} {e = final} (e .part) after (omega (arith, front-inside s at e es ok h)) (front-field s at e es ok h)
-    (free (keyOf (e .part)) low)
-    (repeats ∙ ok .no-repeat)
-    (rw adds
-    (walk-row s after (suc (keyOf (e .part))) (added d (e .part) (e .route)) rest up
-    (free-added d (e .part) (e .route) least free low)
+    let final = addedAll (added d (e .field) (e .route)) es in
+    Reads.one {at = at} {d = d} {e = final} (e .field) after (omega (arith, front-inside s at e es ok h)) (front-field s at e es ok h)
+    (free (keyOf (e .field)) low)
+    (ap fieldRepeats same ∙ ok .no-repeat)
+    (rw same
+    (walk-row s after (suc (keyOf (e .field))) (added d (e .field) (e .route)) rest up
+    (free-added d (e .field) (e .route) least free low)
     (holds-rest s at e es ok h)))
 
 pub row-reads : (es : List Entry) → AllOk es → rising es ≡ true → Reads (rowBytes es) 0 blank (addedAll blank es)

@@ -4,14 +4,13 @@ use mathlib.Core.List.{List, [], _∷_}
 use mathlib.Core.Bool.{false}
 use Rattle.plan_reading.specs.Draft.{Draft, fieldRepeats, added}
 use Rattle.plan_reading.specs.Ranges.{NumbersOk, RouteFits}
-use Rattle.plan_reading.specs.Strict.{Entry, entryOf}
+use Rattle.plan_reading.specs.Strict.{Entry}
 
--- a field that the tests 4, 5 and 7 pass; only a flow has a route
+-- a field that the tests 4, 5 and 7 pass
 pub record EntryOk (e : Entry) : Type 0 where
-  pub numbers : NumbersOk (e .part)
-  pub fits : RouteFits (e .part) (e .route)
-  pub no-repeat : fieldRepeats (e .part) (e .route) ≡ false
-  pub plain : e ≡ entryOf (e .part) (e .route)
+  pub numbers : NumbersOk (e .field)
+  pub fits : RouteFits (e .field) (e .route)
+  pub no-repeat : fieldRepeats (e .route) ≡ false
 
 pub data AllOk : List Entry → Type 0 where
   none : AllOk []
@@ -21,4 +20,4 @@ pub data AllOk : List Entry → Type 0 where
 unfoldable pub addedAll : Draft → List Entry → Draft
 unfolding added
 addedAll d [] = d
-addedAll d (e ∷ es) = addedAll (added d (e .part) (e .route)) es
+addedAll d (e ∷ es) = addedAll (added d (e .field) (e .route)) es

@@ -5,114 +5,43 @@ use mathlib.Core.List.{List, _∷_, _++_}
 use native.Mathlib.Omega.{arith}
 use lib.ListN.{length, take, drop, length-take, length-drop, take-append-drop, drop-of-length-le}
 use lib.Seq.{drop-cons, drop-drop, take-all}
-use Rattle.cqf.specs.Plan.{Clock}
-use Rattle.plan.specs.Bytes.{Octets, number2, number4, headSize, tagAt, sizeAt, valueAt}
-use Rattle.plan.specs.Field.{Field, header, port, flow, extra, jitter, clock, field, flowSize, hopsIn, routePorts, routeIn, clockNumbers, fieldAt}
+use Rattle.plan.specs.Bytes.{Octets, headSize, tagAt, sizeAt, valueAt}
+use Rattle.plan.specs.Layout.{Kind, layout, numbersSize}
+use Rattle.plan.specs.Field.{Field, field, routePorts, routeIn, fieldAt}
 use Rattle.plan_reading.specs.Draft.{Draft}
 use Rattle.plan_reading.specs.Reading.{routeAt}
 use Rattle.plan_reading.specs.Strict.{entryOf, fieldsFrom}
-use Rattle.plan_reading.specs.FieldBytes.{bytes2, bytes4, bytes2s, sizeOf, valueOf, bytesOf, rowBytes}
+use Rattle.plan_reading.specs.FieldBytes.{bytes2, bytes2s, numbersBytes, sizeOf, valueOf, bytesOf, rowBytes}
 use Rattle.plan.specs.laws.Whole.{whole-fits}
 use Rattle.plan_reading.specs.laws.fields.Passes.{Passes, field-is-whole, field-passes}
 use Rattle.plan_reading.specs.laws.reading.Walk.{Reads, done, one}
 use Rattle.plan_reading.specs.laws.order.Late.{past-end}
 use Rattle.plan_reading.specs.laws.order.Rows.{row-refused, row-field}
-use Rattle.plan_reading.specs.laws.fields.Encoded.{octets-drop, octets-take, part-add, encoded2, encoded4, encoded2s}
+use Rattle.plan_reading.specs.laws.fields.Encoded.{octets-drop, octets-take, part-add, encoded2, encoded2s, encoded-numbers}
 
 -- the value of a field
 module _ (tag : ℕ) (v : List ℕ) (o : Octets v) where
-  all : (n : ℕ) → length v ≡ n → v ≡ take n v
-  all n e = sym (take-all n v (omega arith))
-
-  header-bytes : (g t : ℕ) → Passes tag v (header g t) → v ≡ bytes4 g ++ bytes4 t
-  header-bytes g t k =
-      let z : header (number4 v 0) (number4 v 4) ≡ header g t = rw (k .kind) at (k .numbers) in
-      let a : number4 v 0 ≡ g = cc in
-      let b : number4 v 4 ≡ t = cc in
-      all 8 (k .size)
-      ∙ part-add v 0 4 4
-      ∙ ap₂ _++_ (encoded4 v o 0 (omega (arith, k .size))) (encoded4 v o 4 (omega (arith, k .size)))
-      ∙ ap₂ (λ (x y : ℕ). bytes4 x ++ bytes4 y) a b
-
-  port-bytes : (n r b : ℕ) → Passes tag v (port n r b) → v ≡ bytes2 n ++ (bytes4 r ++ bytes2 b)
-  port-bytes n r b k =
-      let z : port (number2 v 0) (number4 v 2) (number2 v 6) ≡ port n r b = rw (k .kind) at (k .numbers) in
-      let en : number2 v 0 ≡ n = cc in
-      let er : number4 v 2 ≡ r = cc in
-      let eb : number2 v 6 ≡ b = cc in
-      all 8 (k .size)
-      ∙ part-add v 0 2 6
-      ∙ ap₂ _++_ (encoded2 v o 0 (omega (arith, k .size)) ∙ ap bytes2 en)
-      (part-add v 2 4 2
-      ∙ ap₂ _++_ (encoded4 v o 2 (omega (arith, k .size)) ∙ ap bytes4 er) (encoded2 v o 6 (omega (arith, k .size)) ∙ ap bytes2 eb))
-
-  extra-bytes : (n b : ℕ) → Passes tag v (extra n b) → v ≡ bytes2 n ++ bytes2 b
-  extra-bytes n b k =
-      let z : extra (number2 v 0) (number2 v 2) ≡ extra n b = rw (k .kind) at (k .numbers) in
-      let en : number2 v 0 ≡ n = cc in
-      let eb : number2 v 2 ≡ b = cc in
-      all 4 (k .size)
-      ∙ part-add v 0 2 2
-      ∙ ap₂ _++_ (encoded2 v o 0 (omega (arith, k .size)) ∙ ap bytes2 en) (encoded2 v o 2 (omega (arith, k .size)) ∙ ap bytes2 eb)
-
-  jitter-bytes : (n j : ℕ) → Passes tag v (jitter n j) → v ≡ bytes2 n ++ bytes4 j
-  jitter-bytes n j k =
-      let z : jitter (number2 v 0) (number4 v 2) ≡ jitter n j = rw (k .kind) at (k .numbers) in
-      let en : number2 v 0 ≡ n = cc in
-      let ej : number4 v 2 ≡ j = cc in
-      all 6 (k .size)
-      ∙ part-add v 0 2 4
-      ∙ ap₂ _++_ (encoded2 v o 0 (omega (arith, k .size)) ∙ ap bytes2 en) (encoded4 v o 2 (omega (arith, k .size)) ∙ ap bytes4 ej)
-
-  clock-bytes : (c : Clock) → Passes tag v (clock c) → v ≡ bytes4 (c .drift) ++ (bytes4 (c .timingJitter) ++ bytes4 (c .syncError))
-  clock-bytes c k =
-      let z : clock (clockNumbers v) ≡ clock c = rw (k .kind) at (k .numbers) in
-      let same : clockNumbers v ≡ c = cc in
-      all 12 (k .size)
-      ∙ part-add v 0 4 8
-      ∙ ap₂ _++_ (encoded4 v o 0 (omega (arith, k .size)))
-      (part-add v 4 4 4 ∙ ap₂ _++_ (encoded4 v o 4 (omega (arith, k .size))) (encoded4 v o 8 (omega (arith, k .size))))
-      ∙ ap (λ (m : Clock). bytes4 (m .drift) ++ (bytes4 (m .timingJitter) ++ bytes4 (m .syncError))) same
-
-  -- the ports of a flow's route
-  route-bytes : (h : ℕ) → length v ≡ flowSize + 2 * h → take (2 * h) (drop flowSize v) ≡ bytes2s (routeIn v)
+  -- the ports of its route
+  route-bytes : (k : Kind) (h : ℕ) → length v ≡ numbersSize k + 2 * h → take (2 * h) (drop (numbersSize k) v) ≡ bytes2s (routeIn k v)
   unfolding routeIn routePorts
-  route-bytes h size =
-      let w = drop flowSize v in
-      let long : length w ≡ 2 * h = length-drop flowSize v ∙ omega arith in
+  route-bytes k h size =
+      let w = drop (numbersSize k) v in
+      let long : length w ≡ 2 * h = length-drop (numbersSize k) v ∙ omega arith in
       let hops : h ≡ length w / 2 = omega arith in
       ap (λ (m : ℕ). take (2 * m) w) hops
-      ∙ encoded2s w (octets-drop flowSize v o) 0 (length w / 2) (omega arith)
+      ∙ encoded2s w (octets-drop (numbersSize k) v o) 0 (length w / 2) (omega arith)
 
-  flow-bytes
-      : (n p c l h : ℕ)
-      → Passes tag v (flow n p c l h)
-      → v ≡ bytes2 n ++ (bytes4 p ++ (bytes2 c ++ (bytes2 l ++ bytes2s (routeIn v))))
-  flow-bytes n p c l h k =
-      let z : flow (number2 v 0) (number4 v 2) (number2 v 6) (number2 v 8) (hopsIn (length v)) ≡ flow n p c l h = rw (k .kind) at (k .numbers) in
-      let en : number2 v 0 ≡ n = cc in
-      let ep : number4 v 2 ≡ p = cc in
-      let ec : number2 v 6 ≡ c = cc in
-      let el : number2 v 8 ≡ l = cc in
-      let size : length v ≡ flowSize + 2 * h = k .size in
-      all (2 + (4 + (2 + (2 + 2 * h)))) (omega arith)
-      ∙ part-add v 0 2 (4 + (2 + (2 + 2 * h)))
-      ∙ ap₂ _++_ (encoded2 v o 0 (omega arith) ∙ ap bytes2 en)
-      (part-add v 2 4 (2 + (2 + 2 * h))
-      ∙ ap₂ _++_ (encoded4 v o 2 (omega arith) ∙ ap bytes4 ep)
-      (part-add v 6 2 (2 + 2 * h)
-      ∙ ap₂ _++_ (encoded2 v o 6 (omega arith) ∙ ap bytes2 ec)
-      (part-add v 8 2 (2 * h)
-      ∙ ap₂ _++_ (encoded2 v o 8 (omega arith) ∙ ap bytes2 el) (route-bytes h size))))
-
-  value-bytes : (x : Field) → Passes tag v x → v ≡ valueOf x (entryOf x (routeIn v) .route)
+  value-bytes : (x : Field) → Passes tag v x → v ≡ valueOf x (routeIn (x .kind) v)
   unfolding valueOf
-  value-bytes (header g t) k = header-bytes g t k
-  value-bytes (port n r b) k = port-bytes n r b k
-  value-bytes (flow n p c l h) k = flow-bytes n p c l h k
-  value-bytes (extra n b) k = extra-bytes n b k
-  value-bytes (jitter n j) k = jitter-bytes n j k
-  value-bytes (clock c) k = clock-bytes c k
+  value-bytes x k =
+      let n = numbersSize (x .kind) in
+      let start : 0 + n ≡ n = omega arith in
+      sym (take-all (n + 2 * x .hops) v (omega (arith, k .size)))
+      ∙ part-add v 0 n (2 * x .hops)
+      ∙ ap₂ _++_
+      (encoded-numbers v o (layout (x .kind) .numbers) 0 (omega (arith, k .size))
+      ∙ ap (λ (y : Field). numbersBytes (layout (x .kind) .numbers) (y .numbers)) (k .numbers))
+      (ap (λ (m : ℕ). take (2 * x .hops) (drop m v)) start ∙ route-bytes (x .kind) (x .hops) (k .size))
 
 -- a whole field
 module _ (s : List ℕ) (o : Octets s) (at : ℕ) (x : Field) (next : ℕ) (e : fieldAt s at ≡ field x next) where
@@ -141,7 +70,7 @@ module _ (s : List ℕ) (o : Octets s) (at : ℕ) (x : Field) (next : ℕ) (e : 
       (part-add s (at + 1) 2 (sizeAt s at)
       ∙ ap₂ _++_ (encoded2 s o (at + 1) (omega arith)) (ap (λ (n : ℕ). take (sizeAt s at) (drop n s)) after))
 
-  field-bytes : take (headSize + sizeAt s at) (drop at s) ≡ bytesOf (entryOf x (routeAt s at))
+  field-bytes : take (headSize + sizeAt s at) (drop at s) ≡ bytesOf (entryOf x (routeAt (x .kind) s at))
   unfolding bytesOf
   field-bytes =
       let k = field-passes s at x next e .passes in

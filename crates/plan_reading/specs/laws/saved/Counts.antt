@@ -4,7 +4,6 @@ use mathlib.Core.Path.{_≡_, refl, sym, ap, _∙_}
 use mathlib.Core.Logic.{_≢_}
 use mathlib.Core.List.{List, [], _∷_}
 use mathlib.Core.Bool.{Bool, true, false, cond, true≢false}
-use native.Mathlib.Nat.{add-zero}
 use native.Mathlib.Decide.{ℕ-discrete, decLt}
 use native.Mathlib.Omega.{arith}
 use borrow.Author.Tests.{lt-ltb, le-ltb}
@@ -15,9 +14,10 @@ use Rattle.cqf.specs.Bounded.{countTo}
 use Rattle.cqf.specs.Limits.{portSlots, flowSlots}
 use Rattle.cqf.specs.Plan.{Plan, noPlan, rateOf, periodOf}
 use Rattle.cqf.specs.laws.Bounded.{countTo-none}
-use Rattle.plan.specs.Field.{Field, header, port, flow, extra, jitter, clock}
+use Rattle.plan.specs.Layout.{Kind, layout}
+use Rattle.plan.specs.Field.{Field}
 use Rattle.plan_reading.specs.Key.{keySlots, keyOf}
-use Rattle.plan_reading.specs.Store.{store}
+use Rattle.plan_reading.specs.Store.{store, storeAll}
 use Rattle.plan_reading.specs.Draft.{Draft, blank, taken, added}
 use Rattle.plan_reading.specs.Ranges.{NumbersOk}
 use Rattle.plan_reading.specs.Reading.{accepted, Mode, readAs}
@@ -29,7 +29,8 @@ use Rattle.plan_reading.specs.laws.rows.SavedRow.{addedAll}
 use Rattle.plan_reading.specs.laws.stores.Stored.{Flagged, added-flagged}
 use Rattle.plan_reading.specs.laws.order.Order.{flagged-blank}
 use Rattle.plan_reading.specs.laws.stores.Tables.{sized-none}
-use Rattle.plan_reading.specs.laws.stores.Fresh.{Fresh, done, then}
+use Rattle.plan_reading.specs.laws.fields.Ranged.{in-range}
+use Rattle.plan_reading.specs.laws.rows.RowParts.{Free, done, then}
 use Rattle.plan_reading.specs.laws.reading.Walked.{accepted-row, accepted-counts}
 
 -- one more place below n holds where place i does now and did not
@@ -81,8 +82,8 @@ still-free seen k j fits e = (apart, rw (getD-set-other seen k j 1 0 apart) at e
 
 module _ {column seen : List ℕ} {base slots count k : ℕ} (c : Counted column seen base slots count) (fits : k < length seen) where
   -- a field that puts nothing there
-  counted-other : Counted column (set seen k 1) base slots count
-  counted-other = record { size = c .size; is = c .is; free = λ i l e. c .free i l (still-free seen k (base + i) fits e .1) }
+  counted-other : Counted column (set seen k 1) base slots (count + 0)
+  counted-other = record { size = c .size; is = omega (arith, c .is); free = λ i l e. c .free i l (still-free seen k (base + i) fits e .1) }
 
   -- one that does
   counted-own
@@ -124,52 +125,57 @@ counts-blank =
     }
 
 counts-added : (d : Draft) (x : Field) (r : List ℕ) → NumbersOk x → taken d x ≡ false → Counts d → Counts (added d x r)
-unfolding added store
-counts-added d x r ok fresh c = go x ok fresh (omega (arith, c .flags, key-below x ok))
+unfolding added storeAll store
+counts-added d x r ok fresh c = go (x .kind) (x .numbers) (x .hops) ok fresh (omega (arith, c .flags, key-below x ok))
   where
-    go : (x : Field) → NumbersOk x → taken d x ≡ false → keyOf x < length (d .seen) → Counts (added d x r)
-    go (header g t) ok fresh fits =
-        record { flags = added-flagged d (header g t) r (c .flags); ports = rw add-zero (counted-other (c .ports) fits); flows = rw add-zero (counted-other (c .flows) fits) }
-    go (port n v b) ok fresh fits =
-        let low = within-low 1 portSlots n (ok .number) in
-        record {
-          flags = added-flagged d (port n v b) r (c .flags);
-          ports = counted-own (c .ports) fits (n - 1) v (omega arith) (slot-below portSlots n (ok .number)) (within-low 1 _ v (ok .rate)) fresh;
-          flows = rw add-zero (counted-other (c .flows) fits);
-        }
-    go (flow n t k l h) ok fresh fits =
-        let low = within-low 1 flowSlots n (ok .number) in
-        record {
-          flags = added-flagged d (flow n t k l h) r (c .flags);
-          ports = rw add-zero (counted-other (c .ports) fits);
-          flows = counted-own (c .flows) fits (n - 1) t (omega arith) (slot-below flowSlots n (ok .number)) (omega (arith, within-low _ _ t (ok .period))) fresh;
-        }
-    go (extra n b) ok fresh fits =
-        record { flags = added-flagged d (extra n b) r (c .flags); ports = rw add-zero (counted-other (c .ports) fits); flows = rw add-zero (counted-other (c .flows) fits) }
-    go (jitter n j) ok fresh fits =
-        record { flags = added-flagged d (jitter n j) r (c .flags); ports = rw add-zero (counted-other (c .ports) fits); flows = rw add-zero (counted-other (c .flows) fits) }
-    go (clock k) ok fresh fits =
-        record { flags = added-flagged d (clock k) r (c .flags); ports = rw add-zero (counted-other (c .ports) fits); flows = rw add-zero (counted-other (c .flows) fits) }
+    of : Kind → List ℕ → ℕ → Field
+    of k ns h = record { kind = k; numbers = ns; hops = h }
 
-counts-row : (d : Draft) (es : List Entry) → Fresh d es → Counts d → Counts (addedAll d es)
+    go : (k : Kind) (ns : List ℕ) (h : ℕ) → NumbersOk (of k ns h) → taken d (of k ns h) ≡ false → keyOf (of k ns h) < length (d .seen) → Counts (added d (of k ns h) r)
+    go Kind.header ns h ok fresh fits =
+        record { flags = added-flagged d (of Kind.header ns h) r (c .flags); ports = counted-other (c .ports) fits; flows = counted-other (c .flows) fits }
+    go Kind.port ns h ok fresh fits =
+        let t = in-range (layout Kind.port .numbers) ns (ok .ranges) in
+        let low = within-low 1 portSlots (getD ns 0 0) (t .0) in
+        record {
+          flags = added-flagged d (of Kind.port ns h) r (c .flags);
+          ports = counted-own (c .ports) fits (getD ns 0 0 - 1) (getD ns 1 0) (omega arith) (slot-below portSlots (getD ns 0 0) (t .0)) (within-low 1 _ (getD ns 1 0) (t .1 .0)) fresh;
+          flows = counted-other (c .flows) fits;
+        }
+    go Kind.flow ns h ok fresh fits =
+        let t = in-range (layout Kind.flow .numbers) ns (ok .ranges) in
+        let low = within-low 1 flowSlots (getD ns 0 0) (t .0) in
+        record {
+          flags = added-flagged d (of Kind.flow ns h) r (c .flags);
+          ports = counted-other (c .ports) fits;
+          flows = counted-own (c .flows) fits (getD ns 0 0 - 1) (getD ns 1 0) (omega arith) (slot-below flowSlots (getD ns 0 0) (t .0)) (omega (arith, within-low _ _ (getD ns 1 0) (t .1 .0))) fresh;
+        }
+    go Kind.extra ns h ok fresh fits =
+        record { flags = added-flagged d (of Kind.extra ns h) r (c .flags); ports = counted-other (c .ports) fits; flows = counted-other (c .flows) fits }
+    go Kind.jitter ns h ok fresh fits =
+        record { flags = added-flagged d (of Kind.jitter ns h) r (c .flags); ports = counted-other (c .ports) fits; flows = counted-other (c .flows) fits }
+    go Kind.clock ns h ok fresh fits =
+        record { flags = added-flagged d (of Kind.clock ns h) r (c .flags); ports = counted-other (c .ports) fits; flows = counted-other (c .flows) fits }
+
+counts-row : (d : Draft) (es : List Entry) → Free d es → Counts d → Counts (addedAll d es)
 unfolding addedAll
 counts-row d [] done c = c
 counts-row d (e ∷ es) (then ok free rest) c =
-    counts-row (added d (e .part) (e .route)) es rest (counts-added d (e .part) (e .route) (ok .numbers) free c)
+    counts-row (added d (e .field) (e .route)) es rest (counts-added d (e .field) (e .route) (ok .numbers) free c)
 
 -- every accepted reading gives as many ports as have a rate, and as many flows as have a period
 module _ (mode : Mode) (s : List ℕ) (p : Plan) (ports flows : ℕ) (reads : readAs mode s ≡ accepted p ports flows) where
   all-counted : Counts (addedAll blank (fieldsIn s))
-  all-counted = counts-row blank (fieldsIn s) (accepted-row mode s p ports flows reads .fresh) counts-blank
+  all-counted = counts-row blank (fieldsIn s) (accepted-row mode s p ports flows reads .free) counts-blank
 
   pub ports-counted : ports ≡ countTo portSlots (λ q. ltb 0 (rateOf p q))
   ports-counted =
       sym (accepted-counts mode s p ports flows reads .0)
       ∙ all-counted .ports .is
-      ∙ ap (λ (q : Plan). countTo portSlots (λ i. ltb 0 (rateOf q i))) (accepted-row mode s p ports flows reads .tables)
+      ∙ ap (λ (q : Plan). countTo portSlots (λ i. ltb 0 (rateOf q i))) (accepted-row mode s p ports flows reads .leaves)
 
   pub flows-counted : flows ≡ countTo flowSlots (λ f. ltb 0 (periodOf p f))
   flows-counted =
       sym (accepted-counts mode s p ports flows reads .1)
       ∙ all-counted .flows .is
-      ∙ ap (λ (q : Plan). countTo flowSlots (λ i. ltb 0 (periodOf q i))) (accepted-row mode s p ports flows reads .tables)
+      ∙ ap (λ (q : Plan). countTo flowSlots (λ i. ltb 0 (periodOf q i))) (accepted-row mode s p ports flows reads .leaves)

@@ -1,40 +1,47 @@
--- The fields as which a plan is saved are those that it says.
+-- What a plan says: parts that stand in its tables and say more than their absence.
 use Prim.Native.Nat.{ℕ, zero, suc, _-_, _<_}
 use mathlib.Core.Path.{_≡_, refl, sym, _∙_, subst}
 use mathlib.Core.Logic.{_⊎_, inl, inr}
-use mathlib.Core.List.{List, [], _++_, List·Memᴰ, List·Memᴰ·head, List·Memᴰ·not-nil, List·Memᴰ·eq-of-singleton, List·Memᴰ·append-cases, Memᴰ·append-left, Memᴰ·append-right}
+use mathlib.Core.List.{List, _++_, List·Memᴰ, List·Memᴰ·head, List·Memᴰ·not-nil, List·Memᴰ·eq-of-singleton, List·Memᴰ·append-cases, Memᴰ·append-left, Memᴰ·append-right}
 use mathlib.Core.Bool.{Bool, true, false, not, true≢false, and-eq-true-iff}
 use native.Mathlib.Nat.{not-suc-le-zero}
 use native.Mathlib.Decide.{ℕ-discrete}
 use native.Mathlib.Omega.{arith}
 use borrow.Author.Tests.{eqb-true, not-true}
 use Rattle.cqf.specs.Limits.{portOk, flowOk}
-use Rattle.cqf.specs.Plan.{Plan, equalClocks, clocksEqual, rateOf, blockingOf, extraOf, periodOf, countOf, lengthOf, jitterOf, hopsOf, routeOf}
-use Rattle.plan.specs.Field.{Field, header, port, flow, extra, jitter, clock}
-use Rattle.plan_reading.specs.Strict.{Entry}
+use Rattle.cqf.specs.Plan.{Plan, equalClocks, clocksEqual, rateOf, blockingOf, extraOf, periodOf, countOf, lengthOf, jitterOf, routeOf}
+use Rattle.plan_reading.specs.Part.{Part, header, port, flow, extra, jitter, clock}
 use Rattle.plan_reading.specs.Saved.{when, collect}
 
--- field x with route r stands in the plan's tables, and says more than its absence
-abbrev pub SaysPart : Plan → Field → List ℕ → Type 0
-SaysPart p (header g t) r = (p .guard ≡ g) × (p .top ≡ t) × (r ≡ [])
-SaysPart p (port n v b) r = (portOk n ≡ true) × (0 < v) × (rateOf p (n - 1) ≡ v) × (blockingOf p (n - 1) ≡ b) × (r ≡ [])
-SaysPart p (flow n t c l h) r =
+-- the part's numbers stand in the plan's tables
+abbrev pub Stands : Plan → Part → Type 0
+Stands p (header g t) = (p .guard ≡ g) × (p .top ≡ t)
+Stands p (port n v b) = (portOk n ≡ true) × (rateOf p (n - 1) ≡ v) × (blockingOf p (n - 1) ≡ b)
+Stands p (flow n t c l r) =
     (flowOk n ≡ true)
-    × (0 < t)
     × (periodOf p (n - 1) ≡ t)
     × (countOf p (n - 1) ≡ c)
     × (lengthOf p (n - 1) ≡ l)
-    × (hopsOf p (n - 1) ≡ h)
     × (routeOf p (n - 1) ≡ r)
-SaysPart p (extra n b) r = (portOk n ≡ true) × (0 < b) × (extraOf p (n - 1) ≡ b) × (r ≡ [])
-SaysPart p (jitter n j) r = (flowOk n ≡ true) × (0 < j) × (jitterOf p (n - 1) ≡ j) × (r ≡ [])
-SaysPart p (clock k) r = (k ≡ equalClocks → ⊥) × (p .clock ≡ k) × (r ≡ [])
+Stands p (extra n b) = (portOk n ≡ true) × (extraOf p (n - 1) ≡ b)
+Stands p (jitter n j) = (flowOk n ≡ true) × (jitterOf p (n - 1) ≡ j)
+Stands p (clock k) = p .clock ≡ k
 
-abbrev pub Says : Plan → Entry → Type 0
-Says p e = SaysPart p (e .part) (e .route)
+-- it says more than its absence
+abbrev pub Tells : Part → Type 0
+Tells (header g t) = Unit {0}
+Tells (port n v b) = 0 < v
+Tells (flow n t c l r) = 0 < t
+Tells (extra n b) = 0 < b
+Tells (jitter n j) = 0 < j
+Tells (clock k) = k ≡ equalClocks → ⊥
 
--- a field of a collection is one of a slot
-pub collect-slot : {e : Entry} (n : ℕ) (at : ℕ → List Entry) → List·Memᴰ e (collect n at) → (i : ℕ) × (i < n) × List·Memᴰ e (at i)
+pub record Says (p : Plan) (x : Part) : Type 0 where
+  pub stands : Stands p x
+  pub tells : Tells x
+
+-- a part of a collection is one of a slot
+pub collect-slot : {e : Part} (n : ℕ) (at : ℕ → List Part) → List·Memᴰ e (collect n at) → (i : ℕ) × (i < n) × List·Memᴰ e (at i)
 unfolding collect
 collect-slot zero at m = absurd (List·Memᴰ·not-nil m)
 collect-slot {e} (suc n) at m = go (collect-slot n at) (List·Memᴰ·append-cases (collect n at) m)
@@ -46,7 +53,7 @@ collect-slot {e} (suc n) at m = go (collect-slot n at) (List·Memᴰ·append-cas
     go rest (inl k) = let t = rest k in (t .0, omega (arith, t .1), t .2)
     go rest (inr k) = (n, omega arith, k)
 
-pub slot-collect : {e : Entry} (n : ℕ) (at : ℕ → List Entry) (i : ℕ) → i < n → List·Memᴰ e (at i) → List·Memᴰ e (collect n at)
+pub slot-collect : {e : Part} (n : ℕ) (at : ℕ → List Part) (i : ℕ) → i < n → List·Memᴰ e (at i) → List·Memᴰ e (collect n at)
 unfolding collect
 slot-collect zero at i l m = absurd (not-suc-le-zero l)
 slot-collect {e} (suc n) at i l m = go (slot-collect n at i) (ℕ-discrete i n)
@@ -55,12 +62,12 @@ slot-collect {e} (suc n) at i l m = go (slot-collect n at i) (ℕ-discrete i n)
     go rest (yes same) = Memᴰ·append-right (collect n at) (subst (λ (j : ℕ). List·Memᴰ e (at j)) same m)
     go rest (no apart) = Memᴰ·append-left (at n) (rest (omega arith) m)
 
--- a field that stands where a test holds
-pub when-only : {e f : Entry} (test : Bool) → List·Memᴰ e (when test f) → (test ≡ true) × (e ≡ f)
+-- a part that stands where a test holds
+pub when-only : {e f : Part} (test : Bool) → List·Memᴰ e (when test f) → (test ≡ true) × (e ≡ f)
 when-only true m = (refl, List·Memᴰ·eq-of-singleton m)
 when-only false m = absurd (List·Memᴰ·not-nil m)
 
-pub when-there : {e f : Entry} (test : Bool) → test ≡ true → e ≡ f → List·Memᴰ e (when test f)
+pub when-there : {e f : Part} (test : Bool) → test ≡ true → e ≡ f → List·Memᴰ e (when test f)
 when-there true h same = List·Memᴰ·head same
 when-there false h same = absurd (true≢false (sym h))
 

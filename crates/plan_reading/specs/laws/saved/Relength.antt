@@ -16,93 +16,93 @@ use Rattle.cqf.specs.Plan.{Plan, clocksEqual, rateOf, extraOf, periodOf, jitter
 use Rattle.cqf.specs.Reprice.{withLength}
 use Rattle.cqf.specs.laws.RepriceValid.{length-slot, length-valid}
 use Rattle.plan_reading.specs.Reading.{accepted, Mode, readAs}
-use Rattle.plan_reading.specs.Strict.{Entry}
-use Rattle.plan_reading.specs.FieldBytes.{rowBytes}
-use Rattle.plan_reading.specs.Saved.{when, collect, headerField, portField, portFields, flowField, flowFields, extraField, extraFields, jitterField, jitterFields, clockField, clockFields, savedFields, savedBytes}
+use Rattle.plan_reading.specs.Part.{Part}
+use Rattle.plan_reading.specs.Saved.{when, collect, headerPart, portPart, portParts, flowPart, flowParts, extraPart, extraParts, jitterPart, jitterParts, clockPart, clockParts, savedParts, partBytes, savedBytes}
 use Rattle.plan_reading.specs.Relength.{relengthed, relengthedBytes}
 use Rattle.plan_reading.specs.Sized.{Sized}
 use Rattle.plan_reading.specs.Tidy.{Tidy}
+use Rattle.plan_reading.specs.laws.saved.SavedLength.{saved-length}
 use Rattle.plan_reading.specs.laws.saved.SavedRead.{saved-held}
 
-module _ (g : Entry → Entry) where
-  -- two lists of fields, each changed
-  join : (xs ys : List Entry) {xs′ ys′ : List Entry} → map g xs ≡ xs′ → map g ys ≡ ys′ → map g (xs ++ ys) ≡ xs′ ++ ys′
-  join xs ys a b = map-append g xs ys ∙ ap₂ (λ (x y : List Entry). x ++ y) a b
+module _ (g : Part → Part) where
+  -- two lists of parts, each changed
+  join : (xs ys : List Part) {xs′ ys′ : List Part} → map g xs ≡ xs′ → map g ys ≡ ys′ → map g (xs ++ ys) ≡ xs′ ++ ys′
+  join xs ys a b = map-append g xs ys ∙ ap₂ (λ (x y : List Part). x ++ y) a b
 
-  map-collect : (n : ℕ) (at other : ℕ → List Entry) → ((i : ℕ) → map g (at i) ≡ other i) → map g (collect n at) ≡ collect n other
+  map-collect : (n : ℕ) (at other : ℕ → List Part) → ((i : ℕ) → map g (at i) ≡ other i) → map g (collect n at) ≡ collect n other
   unfolding collect
   map-collect zero at other same = refl
   map-collect (suc n) at other same = join (collect n at) (at n) (map-collect n at other same) (same n)
 
-  map-when : (b : Bool) (e : Entry) {e′ : Entry} → g e ≡ e′ → map g (when b e) ≡ when b e′
-  map-when true e same = ap (λ (x : Entry). x ∷ []) same
+  map-when : (b : Bool) (e : Part) {e′ : Part} → g e ≡ e′ → map g (when b e) ≡ when b e′
+  map-when true e same = ap (λ (x : Part). x ∷ []) same
   map-when false e same = refl
 
 saved-is
     : (p : Plan)
-    → savedFields p
-    ≡ headerField p
-    ∷ (collect portSlots (portFields p)
-    ++ (collect flowSlots (flowFields p)
-    ++ (collect portSlots (extraFields p)
-    ++ (collect flowSlots (jitterFields p)
-    ++ clockFields p))))
-unfolding savedFields
+    → savedParts p
+    ≡ headerPart p
+    ∷ (collect portSlots (portParts p)
+    ++ (collect flowSlots (flowParts p)
+    ++ (collect portSlots (extraParts p)
+    ++ (collect flowSlots (jitterParts p)
+    ++ clockParts p))))
+unfolding savedParts
 saved-is p = refl
 
 module _ (p : Plan) (f bytes : ℕ) (slot : f < length (p .lengths)) where
-  abbrev change : Entry → Entry
+  abbrev change : Part → Part
   change = relengthed (suc f) bytes
 
-  -- the field of a flow, and those of each other kind
-  flow-changed : (i : ℕ) → change (flowField p i) ≡ flowField (withLength p f bytes) i
+  -- the part of a flow, and those of each other kind
+  flow-changed : (i : ℕ) → change (flowPart p i) ≡ flowPart (withLength p f bytes) i
   unfolding withLength
   flow-changed i = go (ℕ-discrete i f)
     where
-      go : Dec (i ≡ f) → change (flowField p i) ≡ flowField (withLength p f bytes) i
+      go : Dec (i ≡ f) → change (flowPart p i) ≡ flowPart (withLength p f bytes) i
       go (yes e) = rw (e, eq-eqb (suc f) (suc f) refl, getD-set-same (p .lengths) f bytes 0 slot)
       go (no ne) = rw (ne-eqb (suc i) (suc f) (λ e. ne (omega arith)), getD-set-other (p .lengths) f i bytes 0 ne)
 
-  flows-changed : (i : ℕ) → map change (flowFields p i) ≡ flowFields (withLength p f bytes) i
+  flows-changed : (i : ℕ) → map change (flowParts p i) ≡ flowParts (withLength p f bytes) i
   unfolding withLength
-  flows-changed i = map-when change (ltb 0 (periodOf p i)) (flowField p i) (flow-changed i)
+  flows-changed i = map-when change (ltb 0 (periodOf p i)) (flowPart p i) (flow-changed i)
 
-  ports-same : (i : ℕ) → map change (portFields p i) ≡ portFields (withLength p f bytes) i
+  ports-same : (i : ℕ) → map change (portParts p i) ≡ portParts (withLength p f bytes) i
   unfolding withLength
-  ports-same i = map-when change (ltb 0 (rateOf p i)) (portField p i) refl
+  ports-same i = map-when change (ltb 0 (rateOf p i)) (portPart p i) refl
 
-  extras-same : (i : ℕ) → map change (extraFields p i) ≡ extraFields (withLength p f bytes) i
+  extras-same : (i : ℕ) → map change (extraParts p i) ≡ extraParts (withLength p f bytes) i
   unfolding withLength
-  extras-same i = map-when change (ltb 0 (extraOf p i)) (extraField p i) refl
+  extras-same i = map-when change (ltb 0 (extraOf p i)) (extraPart p i) refl
 
-  jitters-same : (i : ℕ) → map change (jitterFields p i) ≡ jitterFields (withLength p f bytes) i
+  jitters-same : (i : ℕ) → map change (jitterParts p i) ≡ jitterParts (withLength p f bytes) i
   unfolding withLength
-  jitters-same i = map-when change (ltb 0 (jitterOf p i)) (jitterField p i) refl
+  jitters-same i = map-when change (ltb 0 (jitterOf p i)) (jitterPart p i) refl
 
-  clock-same : map change (clockFields p) ≡ clockFields (withLength p f bytes)
+  clock-same : map change (clockParts p) ≡ clockParts (withLength p f bytes)
   unfolding withLength
-  clock-same = map-when change (not (clocksEqual p)) (clockField p) refl
+  clock-same = map-when change (not (clocksEqual p)) (clockPart p) refl
 
-  header-same : change (headerField p) ≡ headerField (withLength p f bytes)
+  header-same : change (headerPart p) ≡ headerPart (withLength p f bytes)
   unfolding withLength
   header-same = refl
 
-  -- all fields
-  pub fields-changed : map change (savedFields p) ≡ savedFields (withLength p f bytes)
-  fields-changed =
+  -- all parts
+  pub parts-changed : map change (savedParts p) ≡ savedParts (withLength p f bytes)
+  parts-changed =
       let q = withLength p f bytes in
       ap (map change) (saved-is p)
-      ∙ ap₂ (λ (e : Entry) (es : List Entry). e ∷ es) header-same
-      (join change (collect portSlots (portFields p)) _ (map-collect change portSlots (portFields p) (portFields q) ports-same)
-      (join change (collect flowSlots (flowFields p)) _ (map-collect change flowSlots (flowFields p) (flowFields q) flows-changed)
-      (join change (collect portSlots (extraFields p)) _ (map-collect change portSlots (extraFields p) (extraFields q) extras-same)
-      (join change (collect flowSlots (jitterFields p)) (clockFields p) (map-collect change flowSlots (jitterFields p) (jitterFields q) jitters-same)
+      ∙ ap₂ (λ (e : Part) (es : List Part). e ∷ es) header-same
+      (join change (collect portSlots (portParts p)) _ (map-collect change portSlots (portParts p) (portParts q) ports-same)
+      (join change (collect flowSlots (flowParts p)) _ (map-collect change flowSlots (flowParts p) (flowParts q) flows-changed)
+      (join change (collect portSlots (extraParts p)) _ (map-collect change portSlots (extraParts p) (extraParts q) extras-same)
+      (join change (collect flowSlots (jitterParts p)) (clockParts p) (map-collect change flowSlots (jitterParts p) (jitterParts q) jitters-same)
       clock-same))))
       ∙ sym (saved-is q)
 
   pub bytes-changed : relengthedBytes p (suc f) bytes ≡ savedBytes (withLength p f bytes)
   unfolding relengthedBytes savedBytes
-  bytes-changed = ap rowBytes fields-changed
+  bytes-changed = ap partBytes parts-changed
 
   sized-changed : Sized p → Sized (withLength p f bytes)
   unfolding withLength
@@ -133,5 +133,6 @@ pub changed-read
 unfolding withLength
 changed-read p f bytes valid sized tidy there ok mode =
     let slot = length-slot p valid f there in
+    let changed = length-valid p valid f there bytes ok in
     ap (readAs mode) (bytes-changed p f bytes slot)
-    ∙ saved-held (withLength p f bytes) (length-valid p valid f there bytes ok) (sized-changed p f bytes slot sized) tidy mode
+    ∙ saved-held (withLength p f bytes) changed (sized-changed p f bytes slot sized) (saved-length (withLength p f bytes) changed) tidy mode

@@ -1,6 +1,6 @@
 -- How many port and flow fields a plan is saved with.
 use Prim.Native.Nat.{ℕ, zero, suc, _+_, _<_}
-use mathlib.Core.Path.{_≡_, refl, _∙_}
+use mathlib.Core.Path.{_≡_, refl, ap, _∙_}
 use mathlib.Core.List.{List, [], _∷_, _++_}
 use mathlib.Core.Bool.{Bool, true, false, cond, not}
 use native.Mathlib.Omega.{arith}
@@ -8,78 +8,80 @@ use lib.Dec.{ltb}
 use Rattle.cqf.specs.Bounded.{countTo}
 use Rattle.cqf.specs.Limits.{portSlots, flowSlots}
 use Rattle.cqf.specs.Plan.{Plan, clocksEqual, rateOf, extraOf, periodOf, jitterOf, validPlan}
-use Rattle.plan.specs.Field.{Field, header}
-use Rattle.plan_reading.specs.Draft.{Draft, blank, portsIn, flowsIn, added}
+use Rattle.plan.specs.Field.{Field}
+use Rattle.plan_reading.specs.Part.{Part, partsOf}
+use Rattle.plan_reading.specs.Draft.{Draft, blank, portsIn, flowsIn, sumOf, added}
 use Rattle.plan_reading.specs.Strict.{Entry}
-use Rattle.plan_reading.specs.Saved.{when, collect, portFields, flowFields, extraFields, jitterFields, clockFields, savedFields, portField, flowField, extraField, jitterField, clockField}
+use Rattle.plan_reading.specs.Saved.{spell, when, collect, headerPart, portPart, flowPart, extraPart, jitterPart, clockPart, portParts, flowParts, extraParts, jitterParts, clockParts, savedParts, savedFields}
 use Rattle.plan_reading.specs.laws.rows.SavedRow.{addedAll}
-use Rattle.plan_reading.specs.laws.saved.Says.{jittersOn, extrasOn, flowsOn}
+use Rattle.plan_reading.specs.laws.rows.RowParts.{partsRow}
+use Rattle.plan_reading.specs.laws.rows.Spelled.{spelled-parts, spell-in}
 use Rattle.plan_reading.specs.laws.rows.RowAccepted.{some-flow}
+use Rattle.plan_reading.specs.laws.saved.Says.{jittersOn, extrasOn, flowsOn}
 use Rattle.plan_reading.specs.laws.saved.SavedOk.{saved-flow}
 
--- the sum of a number of each field
-unfoldable tally : (Field → ℕ) → List Entry → ℕ
-tally g [] = 0
-tally g (e ∷ es) = g (e .part) + tally g es
+module _ (g : Part → ℕ) where
+  pub sum-append : (xs ys : List Part) → sumOf g (xs ++ ys) ≡ sumOf g xs + sumOf g ys
+  sum-append [] ys = omega arith
+  sum-append (x ∷ xs) ys = omega (arith, sum-append xs ys)
 
-module _ (g : Field → ℕ) where
-  tally-append : (es fs : List Entry) → tally g (es ++ fs) ≡ tally g es + tally g fs
-  unfolding tally
-  tally-append [] fs = omega arith
-  tally-append (e ∷ es) fs = omega (arith, tally-append es fs)
-
-  -- a field where a test holds
-  tally-when : (test : Bool) (e : Entry) (n : ℕ) → g (e .part) ≡ n → tally g (when test e) ≡ cond test n 0
-  unfolding tally
-  tally-when true e n h = omega arith
-  tally-when false e n h = refl
+  -- a part where a test holds
+  sum-when : (test : Bool) (x : Part) (n : ℕ) → g x ≡ n → sumOf g (when test x) ≡ cond test n 0
+  sum-when true x n h = omega arith
+  sum-when false x n h = refl
 
   -- one for each slot in which the test holds, or none at all
-  tally-count : (n : ℕ) (at : ℕ → List Entry) (test : ℕ → Bool) → ((i : ℕ) → tally g (at i) ≡ cond (test i) 1 0) → tally g (collect n at) ≡ countTo n test
-  unfolding collect countTo tally
-  tally-count zero at test all = refl
-  tally-count (suc n) at test all = omega (arith, tally-append (collect n at) (at n), tally-count n at test all, all n)
+  sum-count : (n : ℕ) (at : ℕ → List Part) (test : ℕ → Bool) → ((i : ℕ) → sumOf g (at i) ≡ cond (test i) 1 0) → sumOf g (collect n at) ≡ countTo n test
+  unfolding collect countTo
+  sum-count zero at test all = refl
+  sum-count (suc n) at test all = omega (arith, sum-append (collect n at) (at n), sum-count n at test all, all n)
 
-  tally-none : (n : ℕ) (at : ℕ → List Entry) → ((i : ℕ) → tally g (at i) ≡ 0) → tally g (collect n at) ≡ 0
-  unfolding collect tally
-  tally-none zero at all = refl
-  tally-none (suc n) at all = omega (arith, tally-append (collect n at) (at n), tally-none n at all, all n)
+  sum-none : (n : ℕ) (at : ℕ → List Part) → ((i : ℕ) → sumOf g (at i) ≡ 0) → sumOf g (collect n at) ≡ 0
+  unfolding collect
+  sum-none zero at all = refl
+  sum-none (suc n) at all = omega (arith, sum-append (collect n at) (at n), sum-none n at all, all n)
 
-  none-when : (test : Bool) (e : Entry) → g (e .part) ≡ 0 → tally g (when test e) ≡ 0
-  none-when test e h = tally-when test e 0 h ∙ both test
+  none-when : (test : Bool) (x : Part) → g x ≡ 0 → sumOf g (when test x) ≡ 0
+  none-when test x h = sum-when test x 0 h ∙ both test
     where
       both : (b : Bool) → cond {A = ℕ} b 0 0 ≡ 0
       both true = refl
       both false = refl
 
   -- what a row adds to a number of the draft that counts so
-  tally-added
+  sum-added
       : (count : Draft → ℕ)
-      → ((d : Draft) (x : Field) (r : List ℕ) → count (added d x r) ≡ count d + g x)
+      → ((d : Draft) (x : Field) (r : List ℕ) → count (added d x r) ≡ count d + sumOf g (partsOf x r))
       → (d : Draft) (es : List Entry)
-      → count (addedAll d es) ≡ count d + tally g es
-  unfolding addedAll tally
-  tally-added count law d [] = omega arith
-  tally-added count law d (e ∷ es) = omega (arith, tally-added count law (added d (e .part) (e .route)) es, law d (e .part) (e .route))
-
-  -- the saved fields, part by part
-  tally-saved
-      : (p : Plan)
-      → tally g (savedFields p)
-      ≡ g (header (p .guard) (p .top))
-      + (tally g (collect portSlots (portFields p))
-      + (tally g (collect flowSlots (flowFields p))
-      + (tally g (collect portSlots (extraFields p))
-      + (tally g (collect flowSlots (jitterFields p))
-      + tally g (clockFields p)))))
-  unfolding savedFields tally
-  tally-saved p =
+      → count (addedAll d es) ≡ count d + sumOf g (partsRow es)
+  unfolding addedAll
+  sum-added count law d [] = omega arith
+  sum-added count law d (e ∷ es) =
       omega (
         arith,
-        tally-append (collect portSlots (portFields p)) (flowsOn p),
-        tally-append (collect flowSlots (flowFields p)) (extrasOn p),
-        tally-append (collect portSlots (extraFields p)) (jittersOn p),
-        tally-append (collect flowSlots (jitterFields p)) (clockFields p),
+        sum-added count law (added d (e .field) (e .route)) es,
+        law d (e .field) (e .route),
+        sum-append (partsOf (e .field) (e .route)) (partsRow es),
+      )
+
+  -- what is saved, kind by kind
+  sum-saved
+      : (p : Plan)
+      → sumOf g (savedParts p)
+      ≡ g (headerPart p)
+      + (sumOf g (collect portSlots (portParts p))
+      + (sumOf g (collect flowSlots (flowParts p))
+      + (sumOf g (collect portSlots (extraParts p))
+      + (sumOf g (collect flowSlots (jitterParts p))
+      + sumOf g (clockParts p)))))
+  unfolding savedParts
+  sum-saved p =
+      omega (
+        arith,
+        sum-append (collect portSlots (portParts p)) (flowsOn p),
+        sum-append (collect flowSlots (flowParts p)) (extrasOn p),
+        sum-append (collect portSlots (extraParts p)) (jittersOn p),
+        sum-append (collect flowSlots (jitterParts p)) (clockParts p),
       )
 
 module _ (p : Plan) where
@@ -89,13 +91,14 @@ module _ (p : Plan) where
   saved-ports =
       omega (
         arith,
-        tally-added portsIn (λ d. d .ports) (λ d x r. refl) blank (savedFields p),
-        tally-saved portsIn p,
-        tally-count portsIn portSlots (portFields p) (λ q. ltb 0 (rateOf p q)) (λ q. tally-when portsIn (ltb 0 (rateOf p q)) (portField p q) 1 refl),
-        tally-none portsIn flowSlots (flowFields p) (λ f. none-when portsIn (ltb 0 (periodOf p f)) (flowField p f) refl),
-        tally-none portsIn portSlots (extraFields p) (λ q. none-when portsIn (ltb 0 (extraOf p q)) (extraField p q) refl),
-        tally-none portsIn flowSlots (jitterFields p) (λ f. none-when portsIn (ltb 0 (jitterOf p f)) (jitterField p f) refl),
-        none-when portsIn (not (clocksEqual p)) (clockField p) refl,
+        sum-added portsIn (λ d. d .ports) (λ d x r. refl) blank (savedFields p),
+        ap (sumOf portsIn) (spelled-parts (savedParts p)),
+        sum-saved portsIn p,
+        sum-count portsIn portSlots (portParts p) (λ q. ltb 0 (rateOf p q)) (λ q. sum-when portsIn (ltb 0 (rateOf p q)) (portPart p q) 1 refl),
+        sum-none portsIn flowSlots (flowParts p) (λ f. none-when portsIn (ltb 0 (periodOf p f)) (flowPart p f) refl),
+        sum-none portsIn portSlots (extraParts p) (λ q. none-when portsIn (ltb 0 (extraOf p q)) (extraPart p q) refl),
+        sum-none portsIn flowSlots (jitterParts p) (λ f. none-when portsIn (ltb 0 (jitterOf p f)) (jitterPart p f) refl),
+        none-when portsIn (not (clocksEqual p)) (clockPart p) refl,
       )
 
   -- as many flows as have a period
@@ -104,15 +107,18 @@ module _ (p : Plan) where
   saved-flows =
       omega (
         arith,
-        tally-added flowsIn (λ d. d .flows) (λ d x r. refl) blank (savedFields p),
-        tally-saved flowsIn p,
-        tally-none flowsIn portSlots (portFields p) (λ q. none-when flowsIn (ltb 0 (rateOf p q)) (portField p q) refl),
-        tally-count flowsIn flowSlots (flowFields p) (λ f. ltb 0 (periodOf p f)) (λ f. tally-when flowsIn (ltb 0 (periodOf p f)) (flowField p f) 1 refl),
-        tally-none flowsIn portSlots (extraFields p) (λ q. none-when flowsIn (ltb 0 (extraOf p q)) (extraField p q) refl),
-        tally-none flowsIn flowSlots (jitterFields p) (λ f. none-when flowsIn (ltb 0 (jitterOf p f)) (jitterField p f) refl),
-        none-when flowsIn (not (clocksEqual p)) (clockField p) refl,
+        sum-added flowsIn (λ d. d .flows) (λ d x r. refl) blank (savedFields p),
+        ap (sumOf flowsIn) (spelled-parts (savedParts p)),
+        sum-saved flowsIn p,
+        sum-none flowsIn portSlots (portParts p) (λ q. none-when flowsIn (ltb 0 (rateOf p q)) (portPart p q) refl),
+        sum-count flowsIn flowSlots (flowParts p) (λ f. ltb 0 (periodOf p f)) (λ f. sum-when flowsIn (ltb 0 (periodOf p f)) (flowPart p f) 1 refl),
+        sum-none flowsIn portSlots (extraParts p) (λ q. none-when flowsIn (ltb 0 (extraOf p q)) (extraPart p q) refl),
+        sum-none flowsIn flowSlots (jitterParts p) (λ f. none-when flowsIn (ltb 0 (jitterOf p f)) (jitterPart p f) refl),
+        none-when flowsIn (not (clocksEqual p)) (clockPart p) refl,
       )
 
   -- a valid plan has one
   pub saved-some : validPlan p ≡ true → 0 < addedAll blank (savedFields p) .flows
-  saved-some valid = some-flow blank (savedFields p) (flowField p (saved-flow p valid .0)) (saved-flow p valid .1) refl
+  saved-some valid =
+      let f = saved-flow p valid in
+      some-flow blank (savedFields p) (spell (flowPart p (f .0))) (spell-in (savedParts p) (f .1)) refl

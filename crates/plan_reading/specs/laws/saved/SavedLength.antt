@@ -12,122 +12,72 @@ use Rattle.cqf.specs.Plan.{Plan, clocksEqual, rateOf, extraOf, periodOf, jitter
 use Rattle.cqf.specs.laws.Lists.{sublist-length}
 use Rattle.cqf.specs.laws.Valid.{Empty, Held, slot-cases}
 use Rattle.plan.specs.Bytes.{headSize}
-use Rattle.plan.specs.Field.{headerSize, portSize, flowSize, extraSize, jitterSize, clockSize}
+use Rattle.plan.specs.Layout.{Kind, layout, numbersSize}
+use Rattle.plan_reading.specs.Part.{Part}
 use Rattle.plan_reading.specs.Reading.{maxBytes}
-use Rattle.plan_reading.specs.Strict.{Entry}
-use Rattle.plan_reading.specs.FieldBytes.{bytesOf, rowBytes}
-use Rattle.plan_reading.specs.Saved.{when, collect, headerField, portFields, flowFields, extraFields, jitterFields, clockFields, savedFields, savedBytes}
+use Rattle.plan_reading.specs.FieldBytes.{bytes2s, valueOf, bytesOf, rowBytes}
+use Rattle.plan_reading.specs.Saved.{spell, when, collect, headerPart, portPart, flowPart, extraPart, jitterPart, clockPart, portParts, flowParts, extraParts, jitterParts, clockParts, savedParts, partBytes, savedBytes}
 use Rattle.plan_reading.specs.laws.fields.Decoded.{ports-length}
+use Rattle.plan_reading.specs.laws.saved.Says.{jittersOn, extrasOn, flowsOn, portsOn}
 
--- the length of a row: field by field, and part by part
-row-length : (e : Entry) (es : List Entry) → length (rowBytes (e ∷ es)) ≡ length (bytesOf e) + length (rowBytes es)
+-- the length of the bytes of parts: one by one, and list by list
+part-length : (x : Part) (xs : List Part) → length (partBytes (x ∷ xs)) ≡ length (bytesOf (spell x)) + length (partBytes xs)
 unfolding rowBytes
-row-length e es = length-append (bytesOf e) (rowBytes es)
+part-length x xs = length-append (bytesOf (spell x)) (partBytes xs)
 
-pub rows-length : (es fs : List Entry) → length (rowBytes (es ++ fs)) ≡ length (rowBytes es) + length (rowBytes fs)
+pub parts-length : (xs ys : List Part) → length (partBytes (xs ++ ys)) ≡ length (partBytes xs) + length (partBytes ys)
 unfolding rowBytes
-rows-length [] fs = omega arith
-rows-length (e ∷ es) fs = omega (arith, row-length e (es ++ fs), row-length e es, rows-length es fs)
+parts-length [] ys = omega arith
+parts-length (x ∷ xs) ys = omega (arith, part-length x (xs ++ ys), part-length x xs, parts-length xs ys)
 
--- a field or none, and those of the first n slots, where none is longer than this
-when-most : (test : Bool) (e : Entry) (most : ℕ) → length (bytesOf e) ≤ most → length (rowBytes (when test e)) ≤ most
+-- a part or none, and those of the first n slots, where none is longer than this
+when-most : (test : Bool) (x : Part) (most : ℕ) → length (bytesOf (spell x)) ≤ most → length (partBytes (when test x)) ≤ most
 unfolding rowBytes
-when-most true e most h = omega (arith, row-length e [])
-when-most false e most h = omega arith
+when-most true x most h = omega (arith, part-length x [])
+when-most false x most h = omega arith
 
 collect-most
-    : (n : ℕ) (at : ℕ → List Entry) (most : ℕ)
-    → ((i : ℕ) → i < n → length (rowBytes (at i)) ≤ most)
-    → length (rowBytes (collect n at)) ≤ n * most
+    : (n : ℕ) (at : ℕ → List Part) (most : ℕ)
+    → ((i : ℕ) → i < n → length (partBytes (at i)) ≤ most)
+    → length (partBytes (collect n at)) ≤ n * most
 unfolding collect rowBytes
 collect-most zero at most h = omega arith
 collect-most (suc n) at most h =
-    omega (arith, rows-length (collect n at) (at n), collect-most n at most (λ i l. h i (omega arith)), h n (omega arith))
+    omega (arith, parts-length (collect n at) (at n), collect-most n at most (λ i l. h i (omega arith)), h n (omega arith))
 
--- the longest field of each kind with its head
-abbrev headerMost : ℕ
-headerMost = headSize + headerSize
-
-abbrev portMost : ℕ
-portMost = headSize + portSize
-
-abbrev flowMost : ℕ
-flowMost = headSize + flowSize + 2 * maxHops
-
-abbrev extraMost : ℕ
-extraMost = headSize + extraSize
-
-abbrev jitterMost : ℕ
-jitterMost = headSize + jitterSize
-
-abbrev clockMost : ℕ
-clockMost = headSize + clockSize
+-- the longest field of a kind with its head
+abbrev mostBytes : Kind → ℕ
+mostBytes k = headSize + (numbersSize k + 2 * layout k .mostHops)
 
 -- the longest saved plan, of 15,002 bytes: each port with extra bytes, each flow with the longest route and a jitter
 abbrev pub savedMost : ℕ
 savedMost =
-    headerMost + portSlots * portMost + flowSlots * flowMost + portSlots * extraMost + flowSlots * jitterMost + clockMost
+    mostBytes Kind.header
+    + portSlots * mostBytes Kind.port
+    + flowSlots * mostBytes Kind.flow
+    + portSlots * mostBytes Kind.extra
+    + flowSlots * mostBytes Kind.jitter
+    + mostBytes Kind.clock
 
 module _ (p : Plan) where
-  header-most : length (bytesOf (headerField p)) ≤ headerMost
-  unfolding bytesOf
-  header-most = omega arith
-
-  port-most : (q : ℕ) → length (rowBytes (portFields p q)) ≤ portMost
-  unfolding bytesOf
-  port-most q = when-most (ltb 0 (rateOf p q)) _ portMost (omega arith)
-
-  flow-most : (f : ℕ) → hopsOf p f ≤ maxHops → length (rowBytes (flowFields p f)) ≤ flowMost
-  unfolding bytesOf
-  flow-most f h =
-      let long = ports-length (routeOf p f) in
-      when-most (ltb 0 (periodOf p f)) _ flowMost (omega (arith, sublist-length (p .routes) (f * routeStride) (hopsOf p f)))
-
-  extra-most : (q : ℕ) → length (rowBytes (extraFields p q)) ≤ extraMost
-  unfolding bytesOf
-  extra-most q = when-most (ltb 0 (extraOf p q)) _ extraMost (omega arith)
-
-  jitter-most : (f : ℕ) → length (rowBytes (jitterFields p f)) ≤ jitterMost
-  unfolding bytesOf
-  jitter-most f = when-most (ltb 0 (jitterOf p f)) _ jitterMost (omega arith)
-
-  clock-most : length (rowBytes (clockFields p)) ≤ clockMost
-  unfolding bytesOf
-  clock-most = when-most (not (clocksEqual p)) _ clockMost (omega arith)
-
-  -- part by part
-  parts-length
-      : (a b c d e : List Entry)
-      → length (rowBytes (headerField p ∷ (a ++ (b ++ (c ++ (d ++ e))))))
-      ≡ length (bytesOf (headerField p))
-      + length (rowBytes a)
-      + length (rowBytes b)
-      + length (rowBytes c)
-      + length (rowBytes d)
-      + length (rowBytes e)
-  parts-length a b c d e =
-      omega (
-        arith,
-        row-length (headerField p) (a ++ (b ++ (c ++ (d ++ e)))),
-        rows-length a (b ++ (c ++ (d ++ e))),
-        rows-length b (c ++ (d ++ e)),
-        rows-length c (d ++ e),
-        rows-length d e,
-      )
-
-  pub saved-most : ((f : ℕ) → f < flowSlots → hopsOf p f ≤ maxHops) → length (savedBytes p) ≤ savedMost
-  unfolding savedBytes savedFields
+  pub saved-most : ((f : ℕ) → f < flowSlots → hopsOf p f ≤ layout Kind.flow .mostHops) → length (savedBytes p) ≤ savedMost
+  unfolding savedBytes savedParts bytesOf valueOf
   saved-most hops =
-      let ports = collect-most portSlots (portFields p) portMost (λ q l. port-most q) in
-      let flows = collect-most flowSlots (flowFields p) flowMost (λ f l. flow-most f (hops f l)) in
-      let extras = collect-most portSlots (extraFields p) extraMost (λ q l. extra-most q) in
-      let jitters = collect-most flowSlots (jitterFields p) jitterMost (λ f l. jitter-most f) in
+      let long : (f : ℕ) → f < flowSlots → length (bytes2s (routeOf p f)) ≤ 2 * layout Kind.flow .mostHops =
+      λ f l. omega (arith, ports-length (routeOf p f), sublist-length (p .routes) (f * routeStride) (hopsOf p f), hops f l) in
+      let ports = collect-most portSlots (portParts p) (mostBytes Kind.port) (λ q l. when-most (ltb 0 (rateOf p q)) (portPart p q) _ (omega arith)) in
+      let flows =
+      collect-most flowSlots (flowParts p) (mostBytes Kind.flow) (λ f l. when-most (ltb 0 (periodOf p f)) (flowPart p f) _ (omega (arith, long f l))) in
+      let extras = collect-most portSlots (extraParts p) (mostBytes Kind.extra) (λ q l. when-most (ltb 0 (extraOf p q)) (extraPart p q) _ (omega arith)) in
+      let jitters = collect-most flowSlots (jitterParts p) (mostBytes Kind.jitter) (λ f l. when-most (ltb 0 (jitterOf p f)) (jitterPart p f) _ (omega arith)) in
+      let clocks = when-most (not (clocksEqual p)) (clockPart p) (mostBytes Kind.clock) (omega arith) in
       omega (
         arith,
-        parts-length (collect portSlots (portFields p)) (collect flowSlots (flowFields p)) (collect portSlots (extraFields p))
-            (collect flowSlots (jitterFields p)) (clockFields p),
-        header-most,
-        clock-most,
+        part-length (headerPart p) (portsOn p),
+        parts-length (collect portSlots (portParts p)) (flowsOn p),
+        parts-length (collect flowSlots (flowParts p)) (extrasOn p),
+        parts-length (collect portSlots (extraParts p)) (jittersOn p),
+        parts-length (collect flowSlots (jitterParts p)) (clockParts p),
       )
 
   -- the routes of a valid plan are no longer than a route may be

@@ -9,41 +9,42 @@ use Rattle.cqf.specs.Limits.{portSlots, flowSlots}
 use Rattle.cqf.specs.Plan.{Plan, clocksEqual, rateOf, extraOf, periodOf, jitterOf}
 use Rattle.plan_reading.specs.Key.{headerKey, portKeys, flowKeys, extraKeys, jitterKeys, clockKey, keySlots, keyOf}
 use Rattle.plan_reading.specs.Ranges.{NumbersOk}
-use Rattle.plan_reading.specs.Strict.{Entry, rising}
-use Rattle.plan_reading.specs.Saved.{when, collect, headerField, portFields, flowFields, extraFields, jitterFields, savedFields, portField, flowField, extraField, jitterField, clockField}
+use Rattle.plan_reading.specs.Part.{Part}
+use Rattle.plan_reading.specs.Strict.{rising}
+use Rattle.plan_reading.specs.Saved.{spell, spellAll, when, collect, headerPart, portPart, flowPart, extraPart, jitterPart, clockPart, portParts, flowParts, extraParts, jitterParts, savedParts, savedFields}
 use Rattle.plan_reading.specs.laws.order.Rows.{Ascends, ascends-rising}
 use Rattle.plan_reading.specs.laws.saved.Entries.{Says}
-use Rattle.plan_reading.specs.laws.saved.Says.{port-says, flow-says, extra-says, jitter-says, clock-says}
+use Rattle.plan_reading.specs.laws.saved.Says.{header-says, port-says, flow-says, extra-says, jitter-says, clock-says}
 
 -- fields in range whose keys rise, from the one key on and below the other
-data Spans : ℕ → ℕ → List Entry → Type 0 where
+data Spans : ℕ → ℕ → List Part → Type 0 where
   none : {low high : ℕ} → low ≤ high → Spans low high []
   next
-      : {low high : ℕ} {e : Entry} {es : List Entry}
-      → NumbersOk (e .part)
-      → low ≤ keyOf (e .part)
-      → Spans (suc (keyOf (e .part))) high es
-      → Spans low high (e ∷ es)
+      : {low high : ℕ} {x : Part} {xs : List Part}
+      → NumbersOk (spell x .field)
+      → low ≤ keyOf (spell x .field)
+      → Spans (suc (keyOf (spell x .field))) high xs
+      → Spans low high (x ∷ xs)
 
-spans-ascends : {low high : ℕ} {es : List Entry} → Spans low high es → Ascends low es
+spans-ascends : {low high : ℕ} {xs : List Part} → Spans low high xs → Ascends low (spellAll xs)
 spans-ascends (none l) = Ascends.none
 spans-ascends (next k l rest) = Ascends.next k l (spans-ascends rest)
 
-spans-from : {low mid high : ℕ} {es : List Entry} → low ≤ mid → Spans mid high es → Spans low high es
+spans-from : {low mid high : ℕ} {xs : List Part} → low ≤ mid → Spans mid high xs → Spans low high xs
 spans-from {low} {high = high} l (none m) = let k : low ≤ high = omega arith in none k
-spans-from {low} l (next {e = e} k m rest) = next {low = low} {e = e} k (omega arith) rest
+spans-from {low} l (next {x = x} k m rest) = next {low = low} {x = x} k (omega arith) rest
 
-spans-append : {low mid high : ℕ} {es fs : List Entry} → Spans low mid es → Spans mid high fs → Spans low high (es ++ fs)
+spans-append : {low mid high : ℕ} {xs ys : List Part} → Spans low mid xs → Spans mid high ys → Spans low high (xs ++ ys)
 spans-append (none l) after = spans-from l after
 spans-append (next k l rest) after = next k l (spans-append rest after)
 
 -- a field for each slot, or none
-spans-when : (test : Bool) (e : Entry) (key : ℕ) → (test ≡ true → NumbersOk (e .part)) → keyOf (e .part) ≡ key → Spans key (suc key) (when test e)
-spans-when true e key ok same = let k : suc (keyOf (e .part)) ≤ suc key = omega arith in next {low = key} {e = e} (ok refl) (omega arith) (none k)
-spans-when false e key ok same = let k : key ≤ suc key = omega arith in none k
+spans-when : (test : Bool) (x : Part) (key : ℕ) → (test ≡ true → NumbersOk (spell x .field)) → keyOf (spell x .field) ≡ key → Spans key (suc key) (when test x)
+spans-when true x key ok same = let k : suc (keyOf (spell x .field)) ≤ suc key = omega arith in next {low = key} {x = x} (ok refl) (omega arith) (none k)
+spans-when false x key ok same = let k : key ≤ suc key = omega arith in none k
 
 spans-collect
-    : (low n : ℕ) (at : ℕ → List Entry)
+    : (low n : ℕ) (at : ℕ → List Part)
     → ((i : ℕ) → i < n → Spans (low + i) (suc (low + i)) (at i))
     → Spans low (low + n) (collect n at)
 unfolding collect
@@ -52,27 +53,27 @@ spans-collect low (suc n) at all =
     let same : low + suc n ≡ suc (low + n) = omega arith in
     rw same (spans-append (spans-collect low n at (λ i l. all i (omega arith))) (all n (omega arith)))
 
-module _ (p : Plan) (ok : (e : Entry) → Says p e → NumbersOk (e .part)) where
-  slot : (test : Bool) (e : Entry) (key : ℕ) → (test ≡ true → Says p e) → keyOf (e .part) ≡ key → Spans key (suc key) (when test e)
-  slot test e key says same = spans-when test e key (λ h. ok e (says h)) same
+module _ (p : Plan) (ok : (x : Part) → Says p x → NumbersOk (spell x .field)) where
+  slot : (test : Bool) (x : Part) (key : ℕ) → (test ≡ true → Says p x) → keyOf (spell x .field) ≡ key → Spans key (suc key) (when test x)
+  slot test x key says same = spans-when test x key (λ h. ok x (says h)) same
 
-  saved-spans : Spans headerKey keySlots (savedFields p)
-  unfolding savedFields
+  saved-spans : Spans headerKey keySlots (savedParts p)
+  unfolding savedParts
   saved-spans =
-      next {low = headerKey} {e = headerField p} (ok (headerField p) (refl, refl, refl)) (omega arith)
+      next {low = headerKey} {x = headerPart p} (ok (headerPart p) (header-says p)) (omega arith)
       (spans-append
-      (spans-collect portKeys portSlots (portFields p)
-      (λ q l. slot (ltb 0 (rateOf p q)) (portField p q) (portKeys + q) (port-says p q l) (omega arith)))
+      (spans-collect portKeys portSlots (portParts p)
+      (λ q l. slot (ltb 0 (rateOf p q)) (portPart p q) (portKeys + q) (port-says p q l) (omega arith)))
       (spans-append
-      (spans-collect flowKeys flowSlots (flowFields p)
-      (λ f l. slot (ltb 0 (periodOf p f)) (flowField p f) (flowKeys + f) (flow-says p f l) (omega arith)))
+      (spans-collect flowKeys flowSlots (flowParts p)
+      (λ f l. slot (ltb 0 (periodOf p f)) (flowPart p f) (flowKeys + f) (flow-says p f l) (omega arith)))
       (spans-append
-      (spans-collect extraKeys portSlots (extraFields p)
-      (λ q l. slot (ltb 0 (extraOf p q)) (extraField p q) (extraKeys + q) (extra-says p q l) (omega arith)))
+      (spans-collect extraKeys portSlots (extraParts p)
+      (λ q l. slot (ltb 0 (extraOf p q)) (extraPart p q) (extraKeys + q) (extra-says p q l) (omega arith)))
       (spans-append
-      (spans-collect jitterKeys flowSlots (jitterFields p)
-      (λ f l. slot (ltb 0 (jitterOf p f)) (jitterField p f) (jitterKeys + f) (jitter-says p f l) (omega arith)))
-      (slot (not (clocksEqual p)) (clockField p) clockKey (clock-says p) refl)))))
+      (spans-collect jitterKeys flowSlots (jitterParts p)
+      (λ f l. slot (ltb 0 (jitterOf p f)) (jitterPart p f) (jitterKeys + f) (jitter-says p f l) (omega arith)))
+      (slot (not (clocksEqual p)) (clockPart p) clockKey (clock-says p) refl)))))
 
   pub saved-ascends : Ascends 0 (savedFields p)
   saved-ascends = spans-ascends saved-spans

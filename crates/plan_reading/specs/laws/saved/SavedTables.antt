@@ -14,23 +14,27 @@ use Rattle.cqf.specs.Limits.{portSlots, flowSlots, routeStride}
 use Rattle.cqf.specs.Plan.{Clock, Plan, noPlan, equalClocks, clocksEqual, hopsOf, validPlan}
 use Rattle.cqf.specs.laws.Lists.{sublist-at}
 use Rattle.cqf.specs.laws.Tabulate.{tabulate-length, tabulate-at}
-use Rattle.plan.specs.Field.{Field, clock}
+use Rattle.plan_reading.specs.Part.{Part, clock}
 use Rattle.plan_reading.specs.Store.{putsClock, store}
-use Rattle.plan_reading.specs.Draft.{blank}
-use Rattle.plan_reading.specs.Saved.{headerField, savedFields, clockField}
+use Rattle.plan_reading.specs.Ranges.{PartOk}
+use Rattle.plan_reading.specs.Saved.{headerPart, clockPart, savedParts, savedFields}
 use Rattle.plan_reading.specs.Tidy.{tidiedAt, tidied}
 use Rattle.plan_reading.specs.Sized.{Sized}
-use Rattle.plan_reading.specs.laws.saved.Entries.{SaysPart, clocks-equal}
-use Rattle.plan_reading.specs.laws.saved.Says.{clock-says, saved-says}
+use Rattle.plan_reading.specs.laws.fields.Ranged.{all-at}
+use Rattle.plan_reading.specs.laws.reading.Walked.{fresh-row}
+use Rattle.plan_reading.specs.laws.rows.Spelled.{spelled-parts}
 use Rattle.plan_reading.specs.laws.stores.Sources.{Some, tablesOf, alone-source}
 use Rattle.plan_reading.specs.laws.stores.Columns
-use Rattle.plan_reading.specs.laws.saved.SavedOk.{says-ok}
+use Rattle.plan_reading.specs.laws.stores.Fresh.{fresh-stands}
+use Rattle.plan_reading.specs.laws.saved.Entries.{Stands, clocks-equal}
+use Rattle.plan_reading.specs.laws.saved.Says.{header-says, clock-says, saved-says, says-saved}
+use Rattle.plan_reading.specs.laws.saved.SavedOk.{saved-ok, saved-rising}
 use Rattle.plan_reading.specs.laws.saved.Tidy.{route-place}
-use Rattle.plan_reading.specs.laws.saved.SavedSlots.{left-sized, left-says, left-none, same-port, same-extra, same-jitter, same-flow}
+use Rattle.plan_reading.specs.laws.saved.SavedSlots.{RowOf, left-sized, left-stands, left-none, same-port, same-extra, same-jitter, same-flow}
 
-module _ (p : Plan) (valid : validPlan p ≡ true) where
+module _ (p : Plan) (valid : validPlan p ≡ true) (xs : List Part) (row : RowOf p xs) where
   abbrev q : Plan
-  q = tablesOf (savedFields p)
+  q = tablesOf xs
 
   -- a place of the routes
   same-place
@@ -43,14 +47,14 @@ module _ (p : Plan) (valid : validPlan p ≡ true) where
       go : (b : Bool) → ltb i (hopsOf p f) ≡ b → getD (q .routes) (f * routeStride + i) 0 ≡ cond b (getD (p .routes) (f * routeStride + i) 0) 0
       go true test =
           let inside = ltb-true i (hopsOf p f) test in
-          let same = same-flow p valid f l in
+          let same = same-flow p valid xs row f l in
           sym (sublist-at (q .routes) (f * routeStride) (hopsOf q f) i (omega (arith, same .hops)))
           ∙ ap (λ (r : List ℕ). getD r i 0) (same .route)
           ∙ sublist-at (p .routes) (f * routeStride) (hopsOf p f) i inside
       go false test =
           let past = ltb-false i (hopsOf p f) test in
-          left-none p valid Columns.route-column (f * routeStride + i)
-          (λ e h t. omega (arith, route-place p e f i (says-ok p valid e h) h less t))
+          left-none p valid xs row Columns.route-column (f * routeStride + i)
+          (λ x m t. absurd (omega (arith, route-place p x f i (all-at PartOk xs (row .fresh .ok) m) (row .stand m) less t)))
 
   same-route : (j : ℕ) → j < flowSlots * routeStride → getD (q .routes) j 0 ≡ tidiedAt p j
   same-route j l =
@@ -62,36 +66,37 @@ module _ (p : Plan) (valid : validPlan p ≡ true) where
       ∙ ap (λ (k : ℕ). cond (ltb i (hopsOf p f)) (getD (p .routes) k 0) 0) place
 
   same-clock : q .clock ≡ p .clock
-  unfolding store noPlan blank
+  unfolding store noPlan
   same-clock = go (clocksEqual p) refl
     where
       none : p .clock ≡ equalClocks
-          → (q .clock ≡ equalClocks) ⊎ Some (λ e. (k : Clock) × (putsClock (e .part) ≡ some k)) (savedFields p)
+          → (q .clock ≡ equalClocks) ⊎ Some (λ x. (k : Clock) × (putsClock x ≡ some k)) xs
           → q .clock ≡ p .clock
       none same (inl left) = left ∙ sym same
       none same (inr s) =
-          let u = Columns.given-clock (s .0 .part) (s .2 .0) (s .2 .1) in
-          let h : SaysPart p (clock (u .0)) (s .0 .route) = subst (λ (x : Field). SaysPart p x (s .0 .route)) (u .1) (saved-says p (s .1)) in
-          absurd (h .0 (sym (h .1) ∙ same))
+          let u = Columns.given-clock (s .0) (s .2 .0) (s .2 .1) in
+          let here : Stands q (clock (u .0)) = subst (Stands q) (u .1) (fresh-stands (row .fresh) (s .1)) in
+          let held : Stands p (clock (u .0)) = subst (Stands p) (u .1) (row .stand (s .1)) in
+          here ∙ sym held
 
       go : (b : Bool) → clocksEqual p ≡ b → q .clock ≡ p .clock
-      go true e = none (clocks-equal p e) (alone-source (λ r. r .clock) putsClock (λ r x route. refl) blank (savedFields p))
-      go false e = left-says p valid (clockField p) (clock-says p (ap not e)) .1
+      go true e = none (clocks-equal p e) (alone-source (λ r. r .clock) putsClock (λ r x. refl) noPlan xs)
+      go false e = left-stands p valid xs row (clockPart p) (clock-says p (ap not e))
 
-  -- the tables of the saved fields
-  pub saved-tables : Sized p → tablesOf (savedFields p) ≡ tidied p
+  -- the tables of the row
+  pub left-tables : Sized p → tablesOf xs ≡ tidied p
   unfolding tidied
-  saved-tables sized =
-      let left = left-sized p valid in
-      let head = left-says p valid (headerField p) (refl, refl, refl) in
-      let rates = Columns.same-column portSlots (q .rates) (p .rates) (left .rates) (sized .rates) (λ i l. same-port p valid i l .0) in
-      let blockings = Columns.same-column portSlots (q .blockings) (p .blockings) (left .blockings) (sized .blockings) (λ i l. same-port p valid i l .1) in
-      let extras = Columns.same-column portSlots (q .extras) (p .extras) (left .extras) (sized .extras) (same-extra p valid) in
-      let periods = Columns.same-column flowSlots (q .periods) (p .periods) (left .periods) (sized .periods) (λ i l. same-flow p valid i l .period) in
-      let counts = Columns.same-column flowSlots (q .counts) (p .counts) (left .counts) (sized .counts) (λ i l. same-flow p valid i l .count) in
-      let lengths = Columns.same-column flowSlots (q .lengths) (p .lengths) (left .lengths) (sized .lengths) (λ i l. same-flow p valid i l .bytes) in
-      let jitters = Columns.same-column flowSlots (q .jitters) (p .jitters) (left .jitters) (sized .jitters) (same-jitter p valid) in
-      let hops = Columns.same-column flowSlots (q .hops) (p .hops) (left .hops) (sized .hops) (λ i l. same-flow p valid i l .hops) in
+  left-tables sized =
+      let left = left-sized p valid xs row in
+      let head = left-stands p valid xs row (headerPart p) (header-says p) in
+      let rates = Columns.same-column portSlots (q .rates) (p .rates) (left .rates) (sized .rates) (λ i l. same-port p valid xs row i l .0) in
+      let blockings = Columns.same-column portSlots (q .blockings) (p .blockings) (left .blockings) (sized .blockings) (λ i l. same-port p valid xs row i l .1) in
+      let extras = Columns.same-column portSlots (q .extras) (p .extras) (left .extras) (sized .extras) (same-extra p valid xs row) in
+      let periods = Columns.same-column flowSlots (q .periods) (p .periods) (left .periods) (sized .periods) (λ i l. same-flow p valid xs row i l .period) in
+      let counts = Columns.same-column flowSlots (q .counts) (p .counts) (left .counts) (sized .counts) (λ i l. same-flow p valid xs row i l .count) in
+      let lengths = Columns.same-column flowSlots (q .lengths) (p .lengths) (left .lengths) (sized .lengths) (λ i l. same-flow p valid xs row i l .bytes) in
+      let jitters = Columns.same-column flowSlots (q .jitters) (p .jitters) (left .jitters) (sized .jitters) (same-jitter p valid xs row) in
+      let hops = Columns.same-column flowSlots (q .hops) (p .hops) (left .hops) (sized .hops) (λ i l. same-flow p valid xs row i l .hops) in
       let places = flowSlots * routeStride in
       let routes =
       Columns.same-column places (q .routes) (tabulate places (tidiedAt p)) (left .routes) (tabulate-length places (tidiedAt p))
@@ -110,3 +115,13 @@ module _ (p : Plan) (valid : validPlan p ≡ true) where
         hops = hops i;
         routes = routes i;
       }
+
+-- the parts of which a plan is saved are such a row
+pub saved-tables : (p : Plan) → validPlan p ≡ true → Sized p → tablesOf (savedParts p) ≡ tidied p
+saved-tables p valid =
+    left-tables p valid (savedParts p)
+    (record {
+      fresh = rw (spelled-parts (savedParts p)) at (fresh-row (savedFields p) (saved-ok p valid) (saved-rising p valid));
+      stand = λ m. saved-says p m .stands;
+      said = says-saved p;
+    })

@@ -1,4 +1,4 @@
--- What a row of fields of which none has the key of another leaves is tidy, and a tidy plan has nothing to be tidied.
+-- What a row of parts of which none has the key of another leaves is tidy, and a tidy plan has nothing to be tidied.
 use Prim.Native.Nat.{ℕ, _+_, _-_, _*_, _/_, _%_, _≤_, _<_}
 use mathlib.Core.Path.{_≡_, refl, sym, ap, _∙_, subst}
 use mathlib.Core.List.{List}
@@ -13,53 +13,49 @@ use Rattle.cqf.specs.Limits.{flowSlots, routeStride}
 use Rattle.cqf.specs.Plan.{Plan, hopsOf, routeOf}
 use Rattle.cqf.specs.laws.Lists.{sublist-length}
 use Rattle.cqf.specs.laws.Tabulate.{tabulate-length, tabulate-at}
-use Rattle.plan.specs.Field.{Field, flow}
+use Rattle.plan_reading.specs.Part.{Part, flow}
 use Rattle.plan_reading.specs.Store.{putsRoute}
-use Rattle.plan_reading.specs.Draft.{blank}
-use Rattle.plan_reading.specs.Ranges.{NumbersOk}
-use Rattle.plan_reading.specs.FieldOrder.{SaysNothing}
-use Rattle.plan_reading.specs.Strict.{Entry}
+use Rattle.plan_reading.specs.Ranges.{PartOk}
 use Rattle.plan_reading.specs.Tidy.{Tidy, tidiedAt, tidied}
-use Rattle.plan_reading.specs.laws.fields.Within.{within-high}
-use Rattle.plan_reading.specs.laws.stores.Stores.{sublist-same}
 use Rattle.plan_reading.specs.Sized.{Sized}
-use Rattle.plan_reading.specs.laws.rows.SavedRow.{EntryOk}
-use Rattle.plan_reading.specs.laws.saved.Entries.{SaysPart, Says}
+use Rattle.plan_reading.specs.laws.fields.Within.{within-high}
+use Rattle.plan_reading.specs.laws.fields.Ranged.{all-at}
+use Rattle.plan_reading.specs.laws.stores.Stores.{sublist-same}
 use Rattle.plan_reading.specs.laws.stores.Sources.{Touches, tablesOf, source}
 use Rattle.plan_reading.specs.laws.stores.Columns.{same-column, route-column, touched-route}
-use Rattle.plan_reading.specs.laws.stores.Fresh.{Fresh, fresh-ok, fresh-says}
+use Rattle.plan_reading.specs.laws.stores.Fresh.{Fresh, fresh-stands}
+use Rattle.plan_reading.specs.laws.saved.Entries.{Stands}
 
--- a route that is said stands in the places of its own flow, as far as its hops go
+-- a route that stands in the tables does so in the places of its own flow, as far as its hops go
 pub route-place
-    : (p : Plan) (e : Entry) (f i : ℕ)
-    → EntryOk e
-    → Says p e
+    : (p : Plan) (x : Part) (f i : ℕ)
+    → PartOk x
+    → Stands p x
     → i < routeStride
-    → Touches (f * routeStride + i) (putsRoute (e .route) (e .part))
+    → Touches (f * routeStride + i) (putsRoute x)
     → i < hopsOf p f
-route-place p e f i ok h less t =
-    let u = touched-route (e .route) (e .part) (f * routeStride + i) t in
-    let x = flow (u .0) (u .1) (u .2) (u .3) (u .4) in
-    let s : SaysPart p x (e .route) = subst (λ (y : Field). SaysPart p y (e .route)) (u .5) h in
-    let k : NumbersOk x = subst NumbersOk (u .5) (ok .numbers) in
+route-place p x f i ok h less t =
+    let u = touched-route x (f * routeStride + i) t in
+    let r = u .4 in
+    let y = flow (u .0) (u .1) (u .2) (u .3) r in
+    let s : Stands p y = subst (Stands p) (u .5) h in
+    let k : PartOk y = subst PartOk (u .5) ok in
     let slot = u .0 - 1 in
-    let long : length (e .route) ≡ hopsOf p slot = ap length (sym (s .6)) ∙ sublist-length (p .routes) (slot * routeStride) (hopsOf p slot) in
-    let short = within-high _ _ (u .4) (k .hops) in
-    let same : slot ≡ f = omega (arith, s .5, u .6 .0, u .6 .1) in
+    let long : length r ≡ hopsOf p slot = ap length (sym (s .4)) ∙ sublist-length (p .routes) (slot * routeStride) (hopsOf p slot) in
+    let short = within-high _ _ (length r) (k .hops) in
+    let same : slot ≡ f = omega (arith, u .6 .0, u .6 .1) in
     let here : hopsOf p slot ≡ hopsOf p f = ap (hopsOf p) same in
     omega (arith, u .6 .1)
 
 -- what such a row leaves
-pub fresh-tidy : (es : List Entry) → Fresh blank es → Tidy (tablesOf es)
-fresh-tidy es fresh f i l past less = go (decLt 0 (getD (tablesOf es .routes) (f * routeStride + i) 0))
+pub fresh-tidy : (xs : List Part) → Fresh xs → Tidy (tablesOf xs)
+fresh-tidy xs fresh f i l past less = go (decLt 0 (getD (tablesOf xs .routes) (f * routeStride + i) 0))
   where
-    go : Dec (0 < getD (tablesOf es .routes) (f * routeStride + i) 0) → getD (tablesOf es .routes) (f * routeStride + i) 0 ≡ 0
+    go : Dec (0 < getD (tablesOf xs .routes) (f * routeStride + i) 0) → getD (tablesOf xs .routes) (f * routeStride + i) 0 ≡ 0
     go (no none) = omega arith
     go (yes there) =
-        let s = source route-column es (f * routeStride + i) there in
-        let u = touched-route (s .0 .route) (s .0 .part) (f * routeStride + i) (s .2) in
-        let tells : SaysNothing (s .0 .part) → ⊥ = λ z. subst SaysNothing (u .5) z in
-        absurd (omega (arith, route-place (tablesOf es) (s .0) f i (fresh-ok fresh (s .1)) (fresh-says fresh (s .1) tells) less (s .2)))
+        let s = source route-column xs (f * routeStride + i) there in
+        absurd (omega (arith, route-place (tablesOf xs) (s .0) f i (all-at PartOk xs (fresh .ok) (s .1)) (fresh-stands fresh (s .1)) less (s .2)))
 
 -- a tidy plan
 pub tidied-same : (p : Plan) → Sized p → Tidy p → tidied p ≡ p

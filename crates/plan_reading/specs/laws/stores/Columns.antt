@@ -1,4 +1,4 @@
--- The columns of the tables, and the kind of field that puts a number into each.
+-- The columns of the tables, and the kind of part that puts a number into each.
 use Prim.Native.Nat.{ℕ, zero, suc, _-_, _*_, _<_}
 use mathlib.Core.Path.{_≡_, refl, sym, _∙_}
 use mathlib.Core.List.{List}
@@ -8,7 +8,7 @@ use lib.ListN.{length, getD, replicate}
 use lib.Seq.{ext-getD}
 use Rattle.cqf.specs.Limits.{portSlots, flowSlots, routeStride}
 use Rattle.cqf.specs.Plan.{Clock, noPlan}
-use Rattle.plan.specs.Field.{Field, header, port, flow, extra, jitter, clock}
+use Rattle.plan_reading.specs.Part.{Part, header, port, flow, extra, jitter, clock}
 use Rattle.plan_reading.specs.Put.{run}
 use Rattle.plan_reading.specs.Store.{headerNumber, portNumber, flowNumber, putsRate, putsBlocking, putsExtra, putsPeriod, putsCount, putsLength, putsJitter, putsHops, putsRoute, putsClock, store}
 use Rattle.plan_reading.specs.laws.stores.Sources.{Column, Touches}
@@ -24,44 +24,44 @@ pub same-column : (n : ℕ) (l m : List ℕ) → length l ≡ n → length m ≡
 same-column n l m a b same = ext-getD 0 l m (a ∙ sym b) (λ i k. same i (omega arith))
 
 -- each column
-pub rate-column : Column (λ p. p .rates) (λ r. putsRate)
+pub rate-column : Column (λ p. p .rates) putsRate
 unfolding store noPlan
-rate-column = record { stores = λ p x r. refl; empty = zeros portSlots }
+rate-column = record { stores = λ p x. refl; empty = zeros portSlots }
 
-pub blocking-column : Column (λ p. p .blockings) (λ r. putsBlocking)
+pub blocking-column : Column (λ p. p .blockings) putsBlocking
 unfolding store noPlan
-blocking-column = record { stores = λ p x r. refl; empty = zeros portSlots }
+blocking-column = record { stores = λ p x. refl; empty = zeros portSlots }
 
-pub extra-column : Column (λ p. p .extras) (λ r. putsExtra)
+pub extra-column : Column (λ p. p .extras) putsExtra
 unfolding store noPlan
-extra-column = record { stores = λ p x r. refl; empty = zeros portSlots }
+extra-column = record { stores = λ p x. refl; empty = zeros portSlots }
 
-pub period-column : Column (λ p. p .periods) (λ r. putsPeriod)
+pub period-column : Column (λ p. p .periods) putsPeriod
 unfolding store noPlan
-period-column = record { stores = λ p x r. refl; empty = zeros flowSlots }
+period-column = record { stores = λ p x. refl; empty = zeros flowSlots }
 
-pub count-column : Column (λ p. p .counts) (λ r. putsCount)
+pub count-column : Column (λ p. p .counts) putsCount
 unfolding store noPlan
-count-column = record { stores = λ p x r. refl; empty = zeros flowSlots }
+count-column = record { stores = λ p x. refl; empty = zeros flowSlots }
 
-pub length-column : Column (λ p. p .lengths) (λ r. putsLength)
+pub length-column : Column (λ p. p .lengths) putsLength
 unfolding store noPlan
-length-column = record { stores = λ p x r. refl; empty = zeros flowSlots }
+length-column = record { stores = λ p x. refl; empty = zeros flowSlots }
 
-pub jitter-column : Column (λ p. p .jitters) (λ r. putsJitter)
+pub jitter-column : Column (λ p. p .jitters) putsJitter
 unfolding store noPlan
-jitter-column = record { stores = λ p x r. refl; empty = zeros flowSlots }
+jitter-column = record { stores = λ p x. refl; empty = zeros flowSlots }
 
-pub hops-column : Column (λ p. p .hops) (λ r. putsHops)
+pub hops-column : Column (λ p. p .hops) putsHops
 unfolding store noPlan
-hops-column = record { stores = λ p x r. refl; empty = zeros flowSlots }
+hops-column = record { stores = λ p x. refl; empty = zeros flowSlots }
 
-pub route-column : Column (λ p. p .routes) (putsRoute)
+pub route-column : Column (λ p. p .routes) putsRoute
 unfolding store noPlan
-route-column = record { stores = λ p x r. refl; empty = zeros (flowSlots * routeStride) }
+route-column = record { stores = λ p x. refl; empty = zeros (flowSlots * routeStride) }
 
--- a field that puts a number there, by its kind
-pub touched-port : (which : (number rate blocking : ℕ) → ℕ) (x : Field) (j : ℕ) → Touches j (portNumber which x) → (n v b : ℕ) × (x ≡ port n v b) × (n - 1 ≡ j)
+-- a part that puts a number there, by its kind
+pub touched-port : (which : (number rate blocking : ℕ) → ℕ) (x : Part) (j : ℕ) → Touches j (portNumber which x) → (n v b : ℕ) × (x ≡ port n v b) × (n - 1 ≡ j)
 touched-port which (header g t) j h = absurd h
 touched-port which (port n v b) j h = (n, v, b, refl, h)
 touched-port which (flow n t c l k) j h = absurd h
@@ -69,7 +69,7 @@ touched-port which (extra n b) j h = absurd h
 touched-port which (jitter n ns) j h = absurd h
 touched-port which (clock k) j h = absurd h
 
-pub touched-flow : (which : (number period count bytes hops : ℕ) → ℕ) (x : Field) (j : ℕ) → Touches j (flowNumber which x) → (n t c l k : ℕ) × (x ≡ flow n t c l k) × (n - 1 ≡ j)
+pub touched-flow : (which : (number period count bytes : ℕ) (route : List ℕ) → ℕ) (x : Part) (j : ℕ) → Touches j (flowNumber which x) → (n t c l : ℕ) × (r : List ℕ) × (x ≡ flow n t c l r) × (n - 1 ≡ j)
 touched-flow which (header g t) j h = absurd h
 touched-flow which (port n v b) j h = absurd h
 touched-flow which (flow n t c l k) j h = (n, t, c, l, k, refl, h)
@@ -77,15 +77,15 @@ touched-flow which (extra n b) j h = absurd h
 touched-flow which (jitter n ns) j h = absurd h
 touched-flow which (clock k) j h = absurd h
 
-pub touched-route : (r : List ℕ) (x : Field) (j : ℕ) → Touches j (putsRoute r x) → (n t c l k : ℕ) × (x ≡ flow n t c l k) × Touches j (run ((n - 1) * routeStride) r)
-touched-route r (header g t) j h = absurd h
-touched-route r (port n v b) j h = absurd h
-touched-route r (flow n t c l k) j h = (n, t, c, l, k, refl, h)
-touched-route r (extra n b) j h = absurd h
-touched-route r (jitter n ns) j h = absurd h
-touched-route r (clock k) j h = absurd h
+pub touched-route : (x : Part) (j : ℕ) → Touches j (putsRoute x) → (n t c l : ℕ) × (r : List ℕ) × (x ≡ flow n t c l r) × Touches j (run ((n - 1) * routeStride) r)
+touched-route (header g t) j h = absurd h
+touched-route (port n v b) j h = absurd h
+touched-route (flow n t c l k) j h = (n, t, c, l, k, refl, h)
+touched-route (extra n b) j h = absurd h
+touched-route (jitter n ns) j h = absurd h
+touched-route (clock k) j h = absurd h
 
-pub touched-extra : (x : Field) (j : ℕ) → Touches j (putsExtra x) → (n b : ℕ) × (x ≡ extra n b) × (n - 1 ≡ j)
+pub touched-extra : (x : Part) (j : ℕ) → Touches j (putsExtra x) → (n b : ℕ) × (x ≡ extra n b) × (n - 1 ≡ j)
 touched-extra (header g t) j h = absurd h
 touched-extra (port n v b) j h = absurd h
 touched-extra (flow n t c l k) j h = absurd h
@@ -93,7 +93,7 @@ touched-extra (extra n b) j h = (n, b, refl, h)
 touched-extra (jitter n ns) j h = absurd h
 touched-extra (clock k) j h = absurd h
 
-pub touched-jitter : (x : Field) (j : ℕ) → Touches j (putsJitter x) → (n ns : ℕ) × (x ≡ jitter n ns) × (n - 1 ≡ j)
+pub touched-jitter : (x : Part) (j : ℕ) → Touches j (putsJitter x) → (n ns : ℕ) × (x ≡ jitter n ns) × (n - 1 ≡ j)
 touched-jitter (header g t) j h = absurd h
 touched-jitter (port n v b) j h = absurd h
 touched-jitter (flow n t c l k) j h = absurd h
@@ -102,7 +102,7 @@ touched-jitter (jitter n ns) j h = (n, ns, refl, h)
 touched-jitter (clock k) j h = absurd h
 
 -- and one that gives a number of the header, or the clocks'
-pub given-header : (which : (guard top : ℕ) → ℕ) (x : Field) (a : ℕ) → headerNumber which x ≡ some a → (g t : ℕ) × (x ≡ header g t)
+pub given-header : (which : (guard top : ℕ) → ℕ) (x : Part) (a : ℕ) → headerNumber which x ≡ some a → (g t : ℕ) × (x ≡ header g t)
 given-header which (header g t) a h = (g, t, refl)
 given-header which (port n v b) a h = let z : _≡_ {A = ℕ} 0 1 = cc in absurd (omega arith)
 given-header which (flow n t c l k) a h = let z : _≡_ {A = ℕ} 0 1 = cc in absurd (omega arith)
@@ -110,7 +110,7 @@ given-header which (extra n b) a h = let z : _≡_ {A = ℕ} 0 1 = cc in absurd 
 given-header which (jitter n ns) a h = let z : _≡_ {A = ℕ} 0 1 = cc in absurd (omega arith)
 given-header which (clock k) a h = let z : _≡_ {A = ℕ} 0 1 = cc in absurd (omega arith)
 
-pub given-clock : (x : Field) (a : Clock) → putsClock x ≡ some a → (k : Clock) × (x ≡ clock k)
+pub given-clock : (x : Part) (a : Clock) → putsClock x ≡ some a → (k : Clock) × (x ≡ clock k)
 given-clock (header g t) a h = let z : _≡_ {A = ℕ} 0 1 = cc in absurd (omega arith)
 given-clock (port n v b) a h = let z : _≡_ {A = ℕ} 0 1 = cc in absurd (omega arith)
 given-clock (flow n t c l k) a h = let z : _≡_ {A = ℕ} 0 1 = cc in absurd (omega arith)

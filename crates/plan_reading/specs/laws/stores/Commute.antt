@@ -1,7 +1,8 @@
--- Two fields of different keys are stored in either order: column by column, what each puts there stands where its key says.
-use mathlib.Core.Path.{_≡_, refl, sym}
+-- Two parts of different keys are stored in either order: column by column, what each puts there stands where its key says. So are
+-- two fields.
+use mathlib.Core.Path.{_≡_, refl, sym, ap, _∙_}
 use mathlib.Core.Logic.{_≢_}
-use mathlib.Core.List.{List}
+use mathlib.Core.List.{List, [], _∷_}
 use mathlib.Core.Bool.{true, false, true≢false}
 use mathlib.Core.Option.{none}
 use Prim.Native.Nat.{ℕ, _+_, _-_, _*_, _≤_}
@@ -11,13 +12,15 @@ use lib.Seq.{set-comm, getD-set-same, getD-set-other}
 use Rattle.cqf.specs.Limits.{portSlots, flowSlots, routeStride, portOk, flowOk}
 use Rattle.cqf.specs.Plan.{Clock, Plan}
 use Rattle.plan.specs.Field.{Field}
+use Rattle.plan_reading.specs.Part.{Part, partsOf}
 use Rattle.plan_reading.specs.Key.{headerKey, portKeys, flowKeys, extraKeys, jitterKeys, clockKey, keySlots, keyOf}
 use Rattle.plan_reading.specs.Put.{keep, put, given}
-use Rattle.plan_reading.specs.Store.{headerNumber, portNumber, flowNumber, putsClock, putsExtra, putsJitter, putsRoute, store}
-use Rattle.plan_reading.specs.Draft.{Draft, taken, added, portsIn, flowsIn}
-use Rattle.plan_reading.specs.Ranges.{NumbersOk, RouteFits}
+use Rattle.plan_reading.specs.Store.{headerNumber, portNumber, flowNumber, putsClock, putsExtra, putsJitter, putsRoute, store, storeAll}
+use Rattle.plan_reading.specs.Draft.{Draft, taken, added, portsIn, flowsIn, sumOf}
+use Rattle.plan_reading.specs.Ranges.{NumbersOk, RouteFits, PartOk}
 use Rattle.plan_reading.specs.laws.fields.Within.{within-low, within-high}
-use Rattle.plan_reading.specs.laws.fields.Kinds.{of-header, of-port, of-flow, of-extra, of-jitter, of-clock, key-below}
+use Rattle.plan_reading.specs.laws.fields.Kinds.{of-header, of-port, of-flow, of-extra, of-jitter, of-clock, partKey, key-below, parts-keyed}
+use Rattle.plan_reading.specs.laws.fields.Ranged.{All, all-map, parts-ok}
 use Rattle.plan_reading.specs.laws.stores.Puts.{Block, Placed, put-comm, Owned, given-comm}
 
 -- test 6 of one does not see another of a different key
@@ -60,89 +63,86 @@ jitter-block n ok =
     let low = within-low 1 flowSlots n ok in
     record { owned = omega arith; here = omega arith; fits = omega arith }
 
--- where what a field puts stands: a number of the header, the clock, a number of a port, of a flow, the route, extra bytes, and
+-- where what a part puts stands: a number of the header, the clock, a number of a port, of a flow, the route, extra bytes, and
 -- a jitter
-header-owned : (which : (guard top : ℕ) → ℕ) (x : Field) → NumbersOk x → Owned headerKey (keyOf x) (headerNumber which x)
+header-owned : (which : (guard top : ℕ) → ℕ) (x : Part) → PartOk x → Owned headerKey (partKey x) (headerNumber which x)
 header-owned which = of-header (Owned headerKey) none (λ key. tt) _ (λ g t ok. refl)
 
-clock-owned : (x : Field) → NumbersOk x → Owned clockKey (keyOf x) (putsClock x)
+clock-owned : (x : Part) → PartOk x → Owned clockKey (partKey x) (putsClock x)
 clock-owned = of-clock (Owned clockKey) none (λ key. tt) _ (λ c ok. refl)
 
-port-placed : (which : (number rate blocking : ℕ) → ℕ) (x : Field) → NumbersOk x → Placed portKeys 1 (keyOf x) (portNumber which x)
+port-placed : (which : (number rate blocking : ℕ) → ℕ) (x : Part) → PartOk x → Placed portKeys 1 (partKey x) (portNumber which x)
 port-placed which = of-port (Placed portKeys 1) keep (λ key. tt) _ (λ n r b ok. port-block n (ok .number))
 
 flow-placed
-    : (which : (number period count bytes hops : ℕ) → ℕ) (x : Field) (route : List ℕ)
-    → NumbersOk x
-    → RouteFits x route
-    → Placed flowKeys 1 (keyOf x) (flowNumber which x)
-flow-placed which x route =
-    of-flow (Placed flowKeys 1) keep (λ key. tt) route _
-    (λ n p c l h ok fits. flow-block n (n - 1) 1 1 (ok .number) (omega arith) (omega arith))
-    x
+    : (which : (number period count bytes : ℕ) (route : List ℕ) → ℕ) (x : Part)
+    → PartOk x
+    → Placed flowKeys 1 (partKey x) (flowNumber which x)
+flow-placed which =
+    of-flow (Placed flowKeys 1) keep (λ key. tt) _
+    (λ n p c l r ok. flow-block n (n - 1) 1 1 (ok .number) (omega arith) (omega arith))
 
-route-placed : (x : Field) (route : List ℕ) → NumbersOk x → RouteFits x route → Placed flowKeys routeStride (keyOf x) (putsRoute route x)
-route-placed x route =
-    of-flow (Placed flowKeys routeStride) keep (λ key. tt) route _
-    (λ n p c l h ok fits.
-    flow-block n ((n - 1) * routeStride) routeStride (length route) (ok .number) refl
-    (omega (arith, fits .hops, within-high _ _ h (ok .hops))))
-    x
+route-placed : (x : Part) → PartOk x → Placed flowKeys routeStride (partKey x) (putsRoute x)
+route-placed =
+    of-flow (Placed flowKeys routeStride) keep (λ key. tt) _
+    (λ n p c l r ok.
+    flow-block n ((n - 1) * routeStride) routeStride (length r) (ok .number) refl
+    (omega (arith, within-high _ _ (length r) (ok .hops))))
 
-extra-placed : (x : Field) → NumbersOk x → Placed extraKeys 1 (keyOf x) (putsExtra x)
+extra-placed : (x : Part) → PartOk x → Placed extraKeys 1 (partKey x) (putsExtra x)
 extra-placed = of-extra (Placed extraKeys 1) keep (λ key. tt) _ (λ n b ok. extra-block n (ok .number))
 
-jitter-placed : (x : Field) → NumbersOk x → Placed jitterKeys 1 (keyOf x) (putsJitter x)
+jitter-placed : (x : Part) → PartOk x → Placed jitterKeys 1 (partKey x) (putsJitter x)
 jitter-placed = of-jitter (Placed jitterKeys 1) keep (λ key. tt) _ (λ n j ok. jitter-block n (ok .number))
 
--- the order of two fields of different keys is free, in each column and so in the tables
-module _ (x y : Field) (v w : List ℕ) (k : NumbersOk x) (m : NumbersOk y) (a : RouteFits x v) (b : RouteFits y w) (differ : keyOf x ≢ keyOf y) where
+-- the order of two parts of different keys is free, in each column and so in the tables
+module _ (x y : Part) (k : PartOk x) (m : PartOk y) (differ : partKey x ≢ partKey y) where
   header-comm : (which : (guard top : ℕ) → ℕ) (n : ℕ) → let u = headerNumber which in given (given n (u x)) (u y) ≡ given (given n (u y)) (u x)
   header-comm which n =
-      given-comm headerKey (keyOf x) (keyOf y) differ n (headerNumber which x) (headerNumber which y)
+      given-comm headerKey (partKey x) (partKey y) differ n (headerNumber which x) (headerNumber which y)
       (header-owned which x k)
       (header-owned which y m)
 
   clock-comm : (c : Clock) → given (given c (putsClock x)) (putsClock y) ≡ given (given c (putsClock y)) (putsClock x)
   clock-comm c =
-      given-comm clockKey (keyOf x) (keyOf y) differ c (putsClock x) (putsClock y)
+      given-comm clockKey (partKey x) (partKey y) differ c (putsClock x) (putsClock y)
       (clock-owned x k)
       (clock-owned y m)
 
   port-comm : (which : (number rate blocking : ℕ) → ℕ) (l : List ℕ) → let u = portNumber which in put (put l (u x)) (u y) ≡ put (put l (u y)) (u x)
   port-comm which l =
-      put-comm portKeys 1 (keyOf x) (keyOf y) differ l (portNumber which x) (portNumber which y)
+      put-comm portKeys 1 (partKey x) (partKey y) differ l (portNumber which x) (portNumber which y)
       (port-placed which x k)
       (port-placed which y m)
 
   flow-comm
-      : (which : (number period count bytes hops : ℕ) → ℕ) (l : List ℕ)
+      : (which : (number period count bytes : ℕ) (route : List ℕ) → ℕ) (l : List ℕ)
       → let u = flowNumber which in
       put (put l (u x)) (u y) ≡ put (put l (u y)) (u x)
   flow-comm which l =
-      put-comm flowKeys 1 (keyOf x) (keyOf y) differ l (flowNumber which x) (flowNumber which y)
-      (flow-placed which x v k a)
-      (flow-placed which y w m b)
+      put-comm flowKeys 1 (partKey x) (partKey y) differ l (flowNumber which x) (flowNumber which y)
+      (flow-placed which x k)
+      (flow-placed which y m)
 
-  route-comm : (l : List ℕ) → put (put l (putsRoute v x)) (putsRoute w y) ≡ put (put l (putsRoute w y)) (putsRoute v x)
+  route-comm : (l : List ℕ) → put (put l (putsRoute x)) (putsRoute y) ≡ put (put l (putsRoute y)) (putsRoute x)
   route-comm l =
-      put-comm flowKeys routeStride (keyOf x) (keyOf y) differ l (putsRoute v x) (putsRoute w y)
-      (route-placed x v k a)
-      (route-placed y w m b)
+      put-comm flowKeys routeStride (partKey x) (partKey y) differ l (putsRoute x) (putsRoute y)
+      (route-placed x k)
+      (route-placed y m)
 
   extra-comm : (l : List ℕ) → put (put l (putsExtra x)) (putsExtra y) ≡ put (put l (putsExtra y)) (putsExtra x)
   extra-comm l =
-      put-comm extraKeys 1 (keyOf x) (keyOf y) differ l (putsExtra x) (putsExtra y)
+      put-comm extraKeys 1 (partKey x) (partKey y) differ l (putsExtra x) (putsExtra y)
       (extra-placed x k)
       (extra-placed y m)
 
   jitter-comm : (l : List ℕ) → put (put l (putsJitter x)) (putsJitter y) ≡ put (put l (putsJitter y)) (putsJitter x)
   jitter-comm l =
-      put-comm jitterKeys 1 (keyOf x) (keyOf y) differ l (putsJitter x) (putsJitter y)
+      put-comm jitterKeys 1 (partKey x) (partKey y) differ l (putsJitter x) (putsJitter y)
       (jitter-placed x k)
       (jitter-placed y m)
 
-  store-comm : (p : Plan) → store (store p x v) y w ≡ store (store p y w) x v
+  pub store-comm : (p : Plan) → store (store p x) y ≡ store (store p y) x
   unfolding store
   store-comm p = λ i. record {
     guard = header-comm (λ guard top. guard) (p .guard) i;
@@ -151,19 +151,66 @@ module _ (x y : Field) (v w : List ℕ) (k : NumbersOk x) (m : NumbersOk y) (a :
     rates = port-comm (λ number rate blocking. rate) (p .rates) i;
     blockings = port-comm (λ number rate blocking. blocking) (p .blockings) i;
     extras = extra-comm (p .extras) i;
-    periods = flow-comm (λ number period count bytes hops. period) (p .periods) i;
-    counts = flow-comm (λ number period count bytes hops. count) (p .counts) i;
-    lengths = flow-comm (λ number period count bytes hops. bytes) (p .lengths) i;
+    periods = flow-comm (λ number period count bytes r. period) (p .periods) i;
+    counts = flow-comm (λ number period count bytes r. count) (p .counts) i;
+    lengths = flow-comm (λ number period count bytes r. bytes) (p .lengths) i;
     jitters = jitter-comm (p .jitters) i;
-    hops = flow-comm (λ number period count bytes hops. hops) (p .hops) i;
+    hops = flow-comm (λ number period count bytes r. length r) (p .hops) i;
     routes = route-comm (p .routes) i;
   }
 
-  pub added-comm : (d : Draft) → added (added d x v) y w ≡ added (added d y w) x v
-  unfolding added
-  added-comm d =
-      let tables = store-comm (d .tables) in
-      let seen = set-comm (d .seen) (keyOf x) (keyOf y) 1 1 differ in
-      let ports : d .ports + portsIn x + portsIn y ≡ d .ports + portsIn y + portsIn x = omega arith in
-      let flows : d .flows + flowsIn x + flowsIn y ≡ d .flows + flowsIn y + flowsIn x = omega arith in
-      λ i. record { tables = tables i; seen = seen i; ports = ports i; flows = flows i }
+-- parts of which each differs from this one
+abbrev pub Apart : Part → List Part → Type 0
+Apart x = All (λ y. partKey x ≢ partKey y)
+
+-- one part and several, and several and several
+pub one-all
+    : (x : Part) (ys : List Part) (p : Plan)
+    → PartOk x
+    → All PartOk ys
+    → Apart x ys
+    → storeAll (store p x) ys ≡ store (storeAll p ys) x
+unfolding storeAll
+one-all x [] p k m differ = refl
+one-all x (y ∷ ys) p k m differ =
+    ap (λ (q : Plan). storeAll q ys) (store-comm x y k (m .0) (differ .0) p) ∙ one-all x ys (store p y) k (m .1) (differ .1)
+
+pub stores-comm
+    : (xs ys : List Part) (p : Plan)
+    → All PartOk xs
+    → All PartOk ys
+    → All (λ x. Apart x ys) xs
+    → storeAll (storeAll p xs) ys ≡ storeAll (storeAll p ys) xs
+unfolding storeAll
+stores-comm [] ys p k m differ = refl
+stores-comm (x ∷ xs) ys p k m differ =
+    stores-comm xs ys (store p x) (k .1) m (differ .1) ∙ ap (λ (q : Plan). storeAll q xs) (one-all x ys p (k .0) m (differ .0))
+
+-- a part of one key and parts of another, and so the parts of two fields of different keys
+pub apart-parts : (x : Part) (k m : ℕ) → k ≢ m → partKey x ≡ k → (ys : List Part) → All (λ y. partKey y ≡ m) ys → Apart x ys
+apart-parts x k m differ is ys h =
+    all-map (λ y. partKey y ≡ m) (λ y. partKey x ≢ partKey y) ys (λ y e same. differ (sym is ∙ same ∙ e)) h
+
+parts-apart : (x y : Field) (v w : List ℕ) → keyOf x ≢ keyOf y → All (λ u. Apart u (partsOf y w)) (partsOf x v)
+parts-apart x y v w differ =
+    all-map (λ u. partKey u ≡ keyOf x) (λ u. Apart u (partsOf y w)) (partsOf x v)
+    (λ u is. apart-parts u (keyOf x) (keyOf y) differ is (partsOf y w) (parts-keyed y w))
+    (parts-keyed x v)
+
+-- so the order of two fields of different keys is free
+pub added-comm
+    : (x y : Field) (v w : List ℕ)
+    → NumbersOk x
+    → NumbersOk y
+    → RouteFits x v
+    → RouteFits y w
+    → keyOf x ≢ keyOf y
+    → (d : Draft)
+    → added (added d x v) y w ≡ added (added d y w) x v
+unfolding added
+added-comm x y v w k m a b differ d =
+    let tables = stores-comm (partsOf x v) (partsOf y w) (d .tables) (parts-ok x v k a) (parts-ok y w m b) (parts-apart x y v w differ) in
+    let seen = set-comm (d .seen) (keyOf x) (keyOf y) 1 1 differ in
+    let ports : d .ports + sumOf portsIn (partsOf x v) + sumOf portsIn (partsOf y w) ≡ d .ports + sumOf portsIn (partsOf y w) + sumOf portsIn (partsOf x v) = omega arith in
+    let flows : d .flows + sumOf flowsIn (partsOf x v) + sumOf flowsIn (partsOf y w) ≡ d .flows + sumOf flowsIn (partsOf y w) + sumOf flowsIn (partsOf x v) = omega arith in
+    λ i. record { tables = tables i; seen = seen i; ports = ports i; flows = flows i }

@@ -1,4 +1,4 @@
--- Where a number of the tables comes from: a row of fields into empty tables leaves only what one of its fields put there.
+-- Where a number of the tables comes from: a row of parts into empty tables leaves only what one of them put there.
 use Prim.Native.Nat.{ℕ, _+_, _≤_, _<_}
 use mathlib.Core.Path.{_≡_, refl, sym, _∙_}
 use mathlib.Core.Logic.{_⊎_, inl, inr}
@@ -9,12 +9,9 @@ use native.Mathlib.Omega.{arith}
 use lib.ListN.{length, getD}
 use lib.Seq.{getD-set-other}
 use Rattle.cqf.specs.Plan.{Plan, noPlan}
-use Rattle.plan.specs.Field.{Field}
 use Rattle.plan_reading.specs.Put.{Put, keep, number, run, put, given}
-use Rattle.plan_reading.specs.Store.{store}
-use Rattle.plan_reading.specs.Draft.{Draft, blank, added}
-use Rattle.plan_reading.specs.Strict.{Entry}
-use Rattle.plan_reading.specs.laws.rows.SavedRow.{addedAll}
+use Rattle.plan_reading.specs.Store.{store, storeAll}
+use Rattle.plan_reading.specs.Part.{Part}
 use Rattle.plan_reading.specs.laws.stores.Stores.{sets-outside}
 
 -- what is put stands at position j
@@ -38,71 +35,69 @@ put-source l (run i vs) j h = go (decLt j i) (decLt j (i + length vs))
     go (no more) (yes less) = inr (omega arith, less)
     go (no more) (no past) = inl (omega (arith, sets-outside l i vs j (inr (omega arith))))
 
--- a field of the row of which this holds
-abbrev pub Some : (Entry → Type 0) → List Entry → Type 0
-Some P es = (e : Entry) × List·Memᴰ e es × P e
+-- a part of the row of which this holds
+abbrev pub Some : (Part → Type 0) → List Part → Type 0
+Some P xs = (x : Part) × List·Memᴰ x xs × P x
 
--- a column of the tables, empty at first, and what a field puts into it
-pub record Column (column : Plan → List ℕ) (puts : List ℕ → Field → Put) : Type 0 where
-  pub stores : (p : Plan) (x : Field) (r : List ℕ) → column (store p x r) ≡ put (column p) (puts r x)
+some-more : {P : Part → Type 0} {y : Part} {xs : List Part} → Some P xs → Some P (y ∷ xs)
+some-more t = (t .0, List·Memᴰ·tail (t .1), t .2)
+
+-- a column of the tables, empty at first, and what a part puts into it
+pub record Column (column : Plan → List ℕ) (puts : Part → Put) : Type 0 where
+  pub stores : (p : Plan) (x : Part) → column (store p x) ≡ put (column p) (puts x)
   pub empty : (j : ℕ) → getD (column noPlan) j 0 ≡ 0
 
--- the tables that a row of fields leaves
-abbrev pub tablesOf : List Entry → Plan
-tablesOf es = addedAll blank es .tables
+-- the tables that a row of parts leaves
+abbrev pub tablesOf : List Part → Plan
+tablesOf xs = storeAll noPlan xs
 
-module _ {column : Plan → List ℕ} {puts : List ℕ → Field → Put} (c : Column column puts) where
+module _ {column : Plan → List ℕ} {puts : Part → Put} (c : Column column puts) where
   -- the same of a whole row, in one column
   row-source
-      : (d : Draft) (es : List Entry) (j : ℕ)
-      → 0 < getD (column (addedAll d es .tables)) j 0
-      → (0 < getD (column (d .tables)) j 0) ⊎ Some (λ e. Touches j (puts (e .route) (e .part))) es
-  unfolding addedAll
-  row-source d [] j h = inl h
-  row-source d (e ∷ es) j h = after (row-source (added d (e .part) (e .route)) es j h)
+      : (p : Plan) (xs : List Part) (j : ℕ)
+      → 0 < getD (column (storeAll p xs)) j 0
+      → (0 < getD (column p) j 0) ⊎ Some (λ x. Touches j (puts x)) xs
+  unfolding storeAll
+  row-source p [] j h = inl h
+  row-source p (x ∷ xs) j h = after (row-source (store p x) xs j h)
     where
-      Before : Type 0
-      Before = 0 < getD (column (d .tables)) j 0
-
-      own : Before ⊎ Touches j (puts (e .route) (e .part)) → Before ⊎ Some (λ e. Touches j (puts (e .route) (e .part))) (e ∷ es)
+      own : (0 < getD (column p) j 0) ⊎ Touches j (puts x) → (0 < getD (column p) j 0) ⊎ Some (λ x. Touches j (puts x)) (x ∷ xs)
       own (inl k) = inl k
-      own (inr t) = inr (e, List·Memᴰ·head refl, t)
+      own (inr t) = inr (x, List·Memᴰ·head refl, t)
 
       after
-          : (0 < getD (column (added d (e .part) (e .route) .tables)) j 0) ⊎ Some (λ e. Touches j (puts (e .route) (e .part))) es
-          → Before ⊎ Some (λ e. Touches j (puts (e .route) (e .part))) (e ∷ es)
-      after (inl k) =
-          own (put-source (column (d .tables)) (puts (e .route) (e .part)) j (rw (c .stores (d .tables) (e .part) (e .route)) at k))
-      after (inr t) = inr (t .0, List·Memᴰ·tail (t .1), t .2)
+          : (0 < getD (column (store p x)) j 0) ⊎ Some (λ x. Touches j (puts x)) xs
+          → (0 < getD (column p) j 0) ⊎ Some (λ x. Touches j (puts x)) (x ∷ xs)
+      after (inl k) = own (put-source (column p) (puts x) j (rw (c .stores p x) at k))
+      after (inr t) = inr (some-more t)
 
-  pub source : (es : List Entry) (j : ℕ) → 0 < getD (column (tablesOf es)) j 0 → Some (λ e. Touches j (puts (e .route) (e .part))) es
-  unfolding blank
-  source es j h = go (row-source blank es j h)
+  pub source : (xs : List Part) (j : ℕ) → 0 < getD (column (tablesOf xs)) j 0 → Some (λ x. Touches j (puts x)) xs
+  source xs j h = go (row-source noPlan xs j h)
     where
-      go : (0 < getD (column noPlan) j 0) ⊎ Some (λ e. Touches j (puts (e .route) (e .part))) es → Some (λ e. Touches j (puts (e .route) (e .part))) es
+      go : (0 < getD (column noPlan) j 0) ⊎ Some (λ x. Touches j (puts x)) xs → Some (λ x. Touches j (puts x)) xs
       go (inl k) = absurd (omega (arith, c .empty j))
       go (inr t) = t
 
 -- and of what stands alone
 pub alone-source
-    : {A : Type 0} (alone : Plan → A) (gives : Field → Option A)
-    → ((p : Plan) (x : Field) (r : List ℕ) → alone (store p x r) ≡ given (alone p) (gives x))
-    → (d : Draft) (es : List Entry)
-    → (alone (addedAll d es .tables) ≡ alone (d .tables)) ⊎ Some (λ e. (a : A) × (gives (e .part) ≡ some a)) es
-unfolding addedAll
-alone-source alone gives law d [] = inl refl
-alone-source {A} alone gives law d (e ∷ es) = after (alone-source alone gives law (added d (e .part) (e .route)) es)
+    : {A : Type 0} (alone : Plan → A) (gives : Part → Option A)
+    → ((p : Plan) (x : Part) → alone (store p x) ≡ given (alone p) (gives x))
+    → (p : Plan) (xs : List Part)
+    → (alone (storeAll p xs) ≡ alone p) ⊎ Some (λ x. (a : A) × (gives x ≡ some a)) xs
+unfolding storeAll
+alone-source alone gives law p [] = inl refl
+alone-source {A} alone gives law p (x ∷ xs) = after (alone-source alone gives law (store p x) xs)
   where
-    own : (u : Option A) → gives (e .part) ≡ u → alone (addedAll (added d (e .part) (e .route)) es .tables) ≡ given (alone (d .tables)) u
-        → (alone (addedAll (added d (e .part) (e .route)) es .tables) ≡ alone (d .tables))
-        ⊎ Some (λ e. (a : A) × (gives (e .part) ≡ some a)) (e ∷ es)
+    own
+        : (u : Option A)
+        → gives x ≡ u
+        → alone (storeAll (store p x) xs) ≡ given (alone p) u
+        → (alone (storeAll (store p x) xs) ≡ alone p) ⊎ Some (λ x. (a : A) × (gives x ≡ some a)) (x ∷ xs)
     own none g k = inl k
-    own (some a) g k = inr (e, List·Memᴰ·head refl, (a, g))
+    own (some a) g k = inr (x, List·Memᴰ·head refl, (a, g))
 
     after
-        : (alone (addedAll (added d (e .part) (e .route)) es .tables) ≡ alone (added d (e .part) (e .route) .tables))
-        ⊎ Some (λ e. (a : A) × (gives (e .part) ≡ some a)) es
-        → (alone (addedAll (added d (e .part) (e .route)) es .tables) ≡ alone (d .tables))
-        ⊎ Some (λ e. (a : A) × (gives (e .part) ≡ some a)) (e ∷ es)
-    after (inl k) = own (gives (e .part)) refl (k ∙ law (d .tables) (e .part) (e .route))
-    after (inr t) = inr (t .0, List·Memᴰ·tail (t .1), t .2)
+        : (alone (storeAll (store p x) xs) ≡ alone (store p x)) ⊎ Some (λ x. (a : A) × (gives x ≡ some a)) xs
+        → (alone (storeAll (store p x) xs) ≡ alone p) ⊎ Some (λ x. (a : A) × (gives x ≡ some a)) (x ∷ xs)
+    after (inl k) = own (gives x) refl (k ∙ law p x)
+    after (inr t) = inr (some-more t)

@@ -1,19 +1,23 @@
 -- A field that says what its absence says leaves nothing behind.
 use Prim.Native.Nat.{ℕ, _+_, _-_}
 use mathlib.Core.Path.{_≡_, refl, sym, ap, _∙_, subst}
-use mathlib.Core.List.{List, _∷_}
+use mathlib.Core.List.{List, [], _∷_}
+use native.Mathlib.Omega.{arith}
 use lib.ListN.{getD, set, getD-replicate}
 use lib.Seq.{set-getD}
 use Rattle.cqf.specs.Limits.{portSlots, flowSlots}
 use Rattle.cqf.specs.Plan.{Clock, Plan, noPlan, equalClocks}
 use Rattle.plan.specs.Bytes.{tagAt, valueAt}
-use Rattle.plan.specs.Field.{Field, header, port, flow, extra, jitter, clock, routeIn}
-use Rattle.plan_reading.specs.Store.{store}
-use Rattle.plan_reading.specs.Draft.{Draft, blank, added, portsIn, flowsIn}
-use Rattle.plan_reading.specs.Ranges.{ExtraOk, JitterOk, NumbersOk}
+use Rattle.plan.specs.Layout.{Kind}
+use Rattle.plan.specs.Field.{Field, routeIn}
+use Rattle.plan_reading.specs.Part.{Part, header, port, flow, extra, jitter, clock, partsBy, partsOf}
+use Rattle.plan_reading.specs.Store.{store, storeAll}
+use Rattle.plan_reading.specs.Draft.{Draft, blank, added, portsIn, flowsIn, sumOf}
+use Rattle.plan_reading.specs.Ranges.{ExtraOk, JitterOk, NumbersOk, RouteFits, PartOk}
 use Rattle.plan_reading.specs.Reading.{accepted, readPlan}
-use Rattle.plan_reading.specs.FieldOrder.{AllFields, more, SaysNothing, ZeroMore}
+use Rattle.plan_reading.specs.FieldOrder.{AllFields, more, Nothing, AllNothing, SaysNothing, ZeroMore}
 use Rattle.plan_reading.specs.laws.fields.Within.{slot-below}
+use Rattle.plan_reading.specs.laws.fields.Ranged.{All, parts-ok}
 use Rattle.plan_reading.specs.laws.fields.Passes.{Passes, field-passes, passes-once}
 use Rattle.plan_reading.specs.laws.reading.Walk.{accepted-reads, closing-accepted}
 use Rattle.plan_reading.specs.laws.stores.Stored.{Stored, nothing, next, stored-permuted}
@@ -42,21 +46,21 @@ tablesWith p k extras jitters =
     }
 
 -- empty tables stay so with extra bytes of 0, with a jitter of 0, and with clocks that are taken as equal
-extra-nothing : (n b : ℕ) (r : List ℕ) → ExtraOk n b → b ≡ 0 → store noPlan (extra n b) r ≡ noPlan
+extra-nothing : (n b : ℕ) → ExtraOk n b → b ≡ 0 → store noPlan (extra n b) ≡ noPlan
 unfolding store noPlan
-extra-nothing n b r ok zero =
+extra-nothing n b ok zero =
     let none = getD-replicate {A = ℕ} portSlots (n - 1) 0 0 (slot-below portSlots n (ok .number)) in
     ap (λ (l : List ℕ). tablesWith noPlan equalClocks l (noPlan .jitters)) (kept (noPlan .extras) (n - 1) b none zero)
 
-jitter-nothing : (n j : ℕ) (r : List ℕ) → JitterOk n j → j ≡ 0 → store noPlan (jitter n j) r ≡ noPlan
+jitter-nothing : (n j : ℕ) → JitterOk n j → j ≡ 0 → store noPlan (jitter n j) ≡ noPlan
 unfolding store noPlan
-jitter-nothing n j r ok zero =
+jitter-nothing n j ok zero =
     let none = getD-replicate {A = ℕ} flowSlots (n - 1) 0 0 (slot-below flowSlots n (ok .number)) in
     ap (tablesWith noPlan equalClocks (noPlan .extras)) (kept (noPlan .jitters) (n - 1) j none zero)
 
-clock-nothing : (k : Clock) (r : List ℕ) → k ≡ equalClocks → store noPlan (clock k) r ≡ noPlan
+clock-nothing : (k : Clock) → k ≡ equalClocks → store noPlan (clock k) ≡ noPlan
 unfolding store noPlan
-clock-nothing k r same = ap (λ (c : Clock). tablesWith noPlan c (noPlan .extras) (noPlan .jitters)) same
+clock-nothing k same = ap (λ (c : Clock). tablesWith noPlan c (noPlan .extras) (noPlan .jitters)) same
 
 -- two drafts with the same tables and counts, whatever was seen
 record Alike (d e : Draft) : Type 0 where
@@ -68,9 +72,9 @@ alike-added : (d e : Draft) (x : Field) (r : List ℕ) → Alike d e → Alike (
 unfolding added
 alike-added d e x r h =
     record {
-      tables = ap (λ (p : Plan). store p x r) (h .tables);
-      ports = ap (λ (n : ℕ). n + portsIn x) (h .ports);
-      flows = ap (λ (n : ℕ). n + flowsIn x) (h .flows);
+      tables = ap (λ (p : Plan). storeAll p (partsOf x r)) (h .tables);
+      ports = ap (λ (n : ℕ). n + sumOf portsIn (partsOf x r)) (h .ports);
+      flows = ap (λ (n : ℕ). n + sumOf flowsIn (partsOf x r)) (h .flows);
     }
 
 -- the same fields leave of them two that are alike
@@ -78,20 +82,52 @@ stored-alike : {bs : List (List ℕ)} {d e f g : Draft} → Alike d f → Stored
 stored-alike {d = d} {e = e} {f = f} {g = g} h (nothing p) (nothing q) =
     subst (λ (z : Draft). Alike z g) p (subst (λ (z : Draft). Alike d z) q h)
 stored-alike {e = e} {f = f} {g = g} h (next {b = b} {bs = bs} {d = d} x k fresh rest) (next y m _ other) =
-    let r = routeIn (valueAt b 0) in
+    let r = routeIn (x .kind) (valueAt b 0) in
     let same : y ≡ x = passes-once (tagAt b 0) (valueAt b 0) y x m k in
     stored-alike {d = added d x r} {e = e} {f = added f x r} {g = g} (alike-added d f x r h) rest
-    (subst (λ (z : Field). Stored bs (added f z r) g) same other)
+    (subst (λ (z : Field). Stored bs (added f z (routeIn (z .kind) (valueAt b 0))) g) same other)
 
--- such a field in a draft that nothing was read into
-blank-alike : (x : Field) (r : List ℕ) → NumbersOk x → SaysNothing x → Alike (added blank x r) blank
+-- parts that say nothing leave empty tables, and none is counted
+part-nothing : (x : Part) → PartOk x → Nothing x → (store noPlan x ≡ noPlan) × (portsIn x ≡ 0) × (flowsIn x ≡ 0)
+part-nothing (header g t) ok void = absurd void
+part-nothing (port n rate b) ok void = absurd void
+part-nothing (flow n t c l r) ok void = absurd void
+part-nothing (extra n b) ok zero = (extra-nothing n b ok zero, refl, refl)
+part-nothing (jitter n j) ok zero = (jitter-nothing n j ok zero, refl, refl)
+part-nothing (clock k) ok same = (clock-nothing k same, refl, refl)
+
+parts-nothing
+    : (xs : List Part)
+    → All PartOk xs
+    → AllNothing xs
+    → (storeAll noPlan xs ≡ noPlan) × (sumOf portsIn xs ≡ 0) × (sumOf flowsIn xs ≡ 0)
+unfolding storeAll
+parts-nothing [] ok void = (refl, refl, refl)
+parts-nothing (x ∷ xs) ok void =
+    let t = part-nothing x (ok .0) (void .0) in
+    let u = parts-nothing xs (ok .1) (void .1) in
+    (ap (λ (p : Plan). storeAll p xs) (t .0) ∙ u .0, omega (arith, t .1, u .1), omega (arith, t .2, u .2))
+
+-- such a field has no route
+routeless : (x : Field) (r : List ℕ) → SaysNothing x → AllNothing (partsOf x r)
+routeless x r = go (x .kind)
+  where
+    go : (k : Kind) → AllNothing (partsBy k (x .numbers) []) → AllNothing (partsBy k (x .numbers) r)
+    go Kind.header h = h
+    go Kind.port h = h
+    go Kind.flow h = h
+    go Kind.extra h = h
+    go Kind.jitter h = h
+    go Kind.clock h = h
+
+-- it in a draft that nothing was read into
+blank-alike : (x : Field) (r : List ℕ) → NumbersOk x → RouteFits x r → SaysNothing x → Alike (added blank x r) blank
 unfolding added blank
-blank-alike (header g t) r ok void = absurd void
-blank-alike (port n rate b) r ok void = absurd void
-blank-alike (flow n t c l h) r ok void = absurd void
-blank-alike (extra n b) r ok zero = record { tables = extra-nothing n b r ok zero; ports = refl; flows = refl }
-blank-alike (jitter n j) r ok zero = record { tables = jitter-nothing n j r ok zero; ports = refl; flows = refl }
-blank-alike (clock k) r ok same = record { tables = clock-nothing k r same; ports = refl; flows = refl }
+blank-alike x r ok fits void =
+    let t = parts-nothing (partsOf x r) (parts-ok x r ok fits) (routeless x r void) in
+    let ports : 0 + sumOf portsIn (partsOf x r) ≡ 0 = omega (arith, t .1) in
+    let flows : 0 + sumOf flowsIn (partsOf x r) ≡ 0 = omega (arith, t .2) in
+    record { tables = t .0; ports = ports; flows = flows }
 
 -- the fields but the first, where that says nothing
 without-zero
@@ -102,10 +138,10 @@ without-zero
     → Stored others blank f
     → Alike e f
 without-zero x zero others e f says nought (next y k fresh rest) other =
-    let r = routeIn (valueAt zero 0) in
+    let r = routeIn (x .kind) (valueAt zero 0) in
     let same : y ≡ x = passes-once (tagAt zero 0) (valueAt zero 0) y x k says in
-    stored-alike {d = added blank x r} {e = e} {f = blank} {g = f} (blank-alike x r (says .ok) nought)
-    (subst (λ (z : Field). Stored others (added blank z r) e) same rest)
+    stored-alike {d = added blank x r} {e = e} {f = blank} {g = f} (blank-alike x r (says .ok) (says .route) nought)
+    (subst (λ (z : Field). Stored others (added blank z (routeIn (z .kind) (valueAt zero 0))) e) same rest)
     other
 
 but-first : {b : List ℕ} {bs : List (List ℕ)} → AllFields (b ∷ bs) → AllFields bs

@@ -1,46 +1,142 @@
 -- Every accepted plan is valid: the tables are valid after each field of the walk.
-use mathlib.Core.Path.{_≡_, sym, _∙_}
+use mathlib.Core.Path.{_≡_, refl, sym, _∙_}
 use mathlib.Core.Logic.{_⊎_, inl, inr}
-use mathlib.Core.List.{List}
-use mathlib.Core.Bool.{true, false, true≢false}
-use Prim.Native.Nat.{ℕ, _<_}
+use mathlib.Core.List.{List, [], _∷_}
+use mathlib.Core.Bool.{Bool, true, false, true≢false}
+use Prim.Native.Nat.{ℕ, _+_, _-_, _<_}
+use native.Mathlib.Nat.{add-zero}
+use native.Mathlib.Omega.{arith}
+use native.Mathlib.Decide.{ℕ-discrete}
 use lib.Dec.{eqb}
-use borrow.Author.Tests.{eq-eqb, not-false}
+use lib.ListN.{getD}
+use lib.Seq.{getD-set-other}
+use borrow.Author.Tests.{eq-eqb, lt-ltb, not-false}
 use Rattle.cqf.specs.Bounded.{anyTo}
-use Rattle.cqf.specs.Limits.{portSlots, flowSlots}
+use Rattle.cqf.specs.Limits.{portSlots, flowSlots, topOk}
 use Rattle.cqf.specs.Plan.{Plan, present, validPort, validFlow, validPlan}
 use Rattle.cqf.specs.laws.Bounded.{allTo-every, anyTo-some}
 use Rattle.plan.specs.Bytes.{tagAt, valueAt}
-use Rattle.plan.specs.Field.{Field, header, port, flow, extra, jitter, clock}
-use Rattle.plan_reading.specs.Key.{headerKey}
-use Rattle.plan_reading.specs.Draft.{Draft, hasKey, fieldRepeats, added}
+use Rattle.plan.specs.Layout.{Kind, layout}
+use Rattle.plan.specs.Field.{Field}
+use Rattle.plan_reading.specs.Part.{Part, header, port, flow, extra, jitter, clock, partsBy, partsOf}
+use Rattle.plan_reading.specs.Key.{headerKey, keyOf}
+use Rattle.plan_reading.specs.Store.{store, storeAll}
+use Rattle.plan_reading.specs.Draft.{Draft, blank, hasKey, fieldRepeats, flowsIn, sumOf, added}
+use Rattle.plan_reading.specs.Ranges.{NumbersOk, PartOk}
 use Rattle.plan_reading.specs.Reading.{accepted, routeAt, readPlan}
-use Rattle.plan_reading.specs.laws.fields.Passes.{Passes, field-is-whole, field-passes, extra-number, jitter-number}
+use Rattle.plan_reading.specs.laws.fields.Within.{within-low, slot-below}
+use Rattle.plan_reading.specs.laws.fields.Passes.{Passes, field-is-whole, field-passes}
+use Rattle.plan_reading.specs.laws.fields.Ranged.{All, InRange, in-range, parts-ok}
+use Rattle.plan_reading.specs.laws.stores.Tables.{sized-all, stored-period}
+use Rattle.plan_reading.specs.Sized.{Sized}
 use Rattle.plan_reading.specs.laws.validity.Slots.{port-whole, flow-whole}
+use Rattle.plan_reading.specs.laws.validity.Parts.{ValidTables, none-valid, Once, parts-valid}
 use Rattle.plan_reading.specs.laws.reading.Walk.{Reads, done, one, accepted-reads, closing-accepted}
-use Rattle.plan_reading.specs.laws.reading.Absent.{NamedThere, AllThere, all-there, there-front, there-route, there-jitter, there-extra}
-use Rattle.plan_reading.specs.laws.validity.Drafts.{ValidDraft, blank-valid, header-valid, port-valid, flow-valid}
-use Rattle.plan_reading.specs.laws.validity.Optional.{extra-valid, jitter-valid, clock-valid}
+use Rattle.plan_reading.specs.laws.reading.Absent.{NamedThere, AllThere, all-there, there-front, parts-present}
+
+-- a flow that has been counted is in the tables
+abbrev Flowing : ℕ → Plan → Type 0
+Flowing counted p = (counted ≡ 0) ⊎ ((f : ℕ) × (f < flowSlots) × (present p f ≡ true))
+
+part-flowing : (counted : ℕ) (p : Plan) (x : Part) → Sized p → PartOk x → Flowing counted p → Flowing (counted + flowsIn x) (store p x)
+unfolding store
+part-flowing n p (header g t) sized ok h = rw add-zero h
+part-flowing n p (port m r b) sized ok h = rw add-zero h
+part-flowing n p (flow m t c l r) sized ok h =
+    let fits = slot-below flowSlots m (ok .number) in
+    let long : 0 < t = omega (arith, within-low _ _ t (ok .period)) in
+    inr (m - 1, fits, rw (lt-ltb (m - 1) flowSlots fits, stored-period p sized m t c l r fits, lt-ltb 0 t long))
+part-flowing n p (extra m b) sized ok h = rw add-zero h
+part-flowing n p (jitter m j) sized ok h = rw add-zero h
+part-flowing n p (clock k) sized ok h = rw add-zero h
+
+parts-flowing : (counted : ℕ) (p : Plan) (xs : List Part) → Sized p → All PartOk xs → Flowing counted p → Flowing (counted + sumOf flowsIn xs) (storeAll p xs)
+unfolding storeAll
+parts-flowing n p [] sized ok h = rw add-zero h
+parts-flowing n p (x ∷ xs) sized ok h =
+    let sum : n + (flowsIn x + sumOf flowsIn xs) ≡ n + flowsIn x + sumOf flowsIn xs = omega arith in
+    rw sum (parts-flowing (n + flowsIn x) (store p x) xs (sized-all p (x ∷ []) sized) (ok .1) (part-flowing n p x sized (ok .0) h))
+
+-- a top in range stays so, and a header brings one
+part-top : (p : Plan) (x : Part) → PartOk x → topOk (p .top) ≡ true → topOk (store p x .top) ≡ true
+unfolding store
+part-top p (header g t) ok h = ok .top
+part-top p (port n r b) ok h = h
+part-top p (flow n t c l r) ok h = h
+part-top p (extra n b) ok h = h
+part-top p (jitter n j) ok h = h
+part-top p (clock k) ok h = h
+
+parts-top : (p : Plan) (xs : List Part) → All PartOk xs → topOk (p .top) ≡ true → topOk (storeAll p xs .top) ≡ true
+unfolding storeAll
+parts-top p [] ok h = h
+parts-top p (x ∷ xs) ok h = parts-top (store p x) xs (ok .1) (part-top p x (ok .0) h)
+
+header-top : (p : Plan) (x : Field) (r : List ℕ) → NumbersOk x → All PartOk (partsOf x r) → keyOf x ≡ headerKey → topOk (storeAll p (partsOf x r) .top) ≡ true
+unfolding storeAll store
+header-top p x r k ok e = go (x .kind) refl (in-range (layout (x .kind) .numbers) (x .numbers) (k .ranges))
+  where
+    n : ℕ
+    n = getD (x .numbers) 0 0
+
+    go : (kind : Kind) → x .kind ≡ kind → InRange (layout kind .numbers) 0 (x .numbers) → topOk (storeAll p (partsOf x r) .top) ≡ true
+    go Kind.header same t = rw same (t .1 .0)
+    go Kind.port same t = absurd (omega (arith, rw same at e, within-low _ _ n (t .0)))
+    go Kind.flow same t = absurd (omega (arith, rw same at e))
+    go Kind.extra same t = absurd (omega (arith, rw same at e))
+    go Kind.jitter same t = absurd (omega (arith, rw same at e))
+    go Kind.clock same t = absurd (omega (arith, rw same at e))
+
+-- the draft's tables are valid, with a top where it has a header, and a flow where it counted one
+record ValidDraft (rates periods : List ℕ) (d : Draft) : Type 0 where
+  tables : ValidTables rates periods (d .tables)
+  top : hasKey d headerKey ≡ true → topOk (d .tables .top) ≡ true
+  some : Flowing (d .flows) (d .tables)
+
+blank-valid : (rates periods : List ℕ) → ValidDraft rates periods blank
+unfolding blank
+blank-valid rates periods = record { tables = none-valid rates periods; top = λ e. absurd (true≢false (sym e)); some = inl refl }
+
+-- only routes hold ports
+parts-once : (x : Field) (r : List ℕ) → fieldRepeats r ≡ false → All Once (partsOf x r)
+parts-once x r once = go (x .kind)
+  where
+    go : (k : Kind) → All Once (partsBy k (x .numbers) r)
+    go Kind.header = (tt, tt)
+    go Kind.port = (tt, tt)
+    go Kind.flow = (not-false _ once, tt)
+    go Kind.extra = (tt, tt)
+    go Kind.jitter = (tt, tt)
+    go Kind.clock = (tt, tt)
 
 -- a field of the walk keeps the draft valid
 field-valid
     : (rates periods s : List ℕ) (at : ℕ) (d : Draft) (x : Field)
     → Passes (tagAt s at) (valueAt s at) x
-    → fieldRepeats x (routeAt s at) ≡ false
+    → fieldRepeats (routeAt (x .kind) s at) ≡ false
     → NamedThere rates periods s at
     → ValidDraft rates periods d
-    → ValidDraft rates periods (added d x (routeAt s at))
-field-valid rates periods s at d (header g t) k once named h = header-valid rates periods d g t (routeAt s at) (k .ok) h
-field-valid rates periods s at d (port n r b) k once named h = port-valid rates periods d n r b (routeAt s at) (k .ok) h
-field-valid rates periods s at d (flow n t c l m) k once named h =
-    flow-valid rates periods d n t c l m (routeAt s at) (k .ok) (k .route) (not-false _ once) (there-route rates periods s at (k .kind) named) h
-field-valid rates periods s at d (extra n b) k once named h =
-    let own = extra-number (tagAt s at) (valueAt s at) n b k in
-    extra-valid rates periods d n b (routeAt s at) (k .ok) (rw own at (there-extra rates periods s at (k .kind) named)) h
-field-valid rates periods s at d (jitter n j) k once named h =
-    let own = jitter-number (tagAt s at) (valueAt s at) n j k in
-    jitter-valid rates periods d n j (routeAt s at) (k .ok) (rw own at (there-jitter rates periods s at (k .kind) named)) h
-field-valid rates periods s at d (clock c) k once named h = clock-valid rates periods d c (routeAt s at) (k .ok) h
+    → ValidDraft rates periods (added d x (routeAt (x .kind) s at))
+unfolding added
+field-valid rates periods s at d x k once named h =
+    record {
+      tables =
+          parts-valid rates periods (d .tables) (partsOf x r) ok (parts-once x r once) (parts-present rates periods s at x k named) (h .tables);
+      top = λ e. by-key e (ℕ-discrete (keyOf x) headerKey);
+      some = parts-flowing (d .flows) (d .tables) (partsOf x r) (h .tables .sized) ok (h .some);
+    }
+  where
+    r : List ℕ
+    r = routeAt (x .kind) s at
+
+    ok : All PartOk (partsOf x r)
+    ok = parts-ok x r (k .ok) (k .route)
+
+    by-key : hasKey (added d x r) headerKey ≡ true → Dec (keyOf x ≡ headerKey) → topOk (storeAll (d .tables) (partsOf x r) .top) ≡ true
+    by-key e (yes same) = header-top (d .tables) x r (k .ok) ok same
+    by-key e (no apart) =
+        parts-top (d .tables) (partsOf x r) ok
+        (h .top (rw (getD-set-other (d .seen) (keyOf x) headerKey 1 0 (λ same. apart (sym same))) at e))
 
 -- so does the whole walk
 walk-valid
@@ -66,10 +162,10 @@ unfolding validPlan
 draft-valid d h headed flowing =
     rw (
       h .top headed,
-      h .guard,
-      h .clock,
-      allTo-every portSlots (validPort p) (λ q l. port-whole p q (h .ports q l) (h .extras q l)),
-      allTo-every flowSlots (validFlow p) (λ f l. flow-whole p f (h .flows f l) (h .jitters f l)),
+      h .tables .guard,
+      h .tables .clock,
+      allTo-every portSlots (validPort p) (λ q l. port-whole p q (h .tables .ports q l) (h .tables .extras q l)),
+      allTo-every flowSlots (validFlow p) (λ f l. flow-whole p f (h .tables .flows f l) (h .tables .jitters f l)),
       some (h .some),
     )
   where

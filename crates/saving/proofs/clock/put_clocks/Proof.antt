@@ -6,8 +6,7 @@ use borrow.Author.Needs.{needs}
 use denote.Ref.{now}
 use Rattle.cqf.specs.Plan.{Plan, clocksEqual}
 use Rattle.numbers.specs.Clock.{clockOf}
-use Rattle.plan.specs.Field.{clock}
-use Rattle.plan_reading.specs.Strict.{Entry}
+use Rattle.plan_reading.specs.Part.{Part, clock}
 use Rattle.tables.specs.Columns.{columns}
 use Rattle.saving.specs.laws.Slots.{test-none, test-one}
 use Rattle.saving.proofs.clock.put_clocks.Statement.{statement}
@@ -17,8 +16,8 @@ use Rattle.saving.proofs.clock.put_clocks.Tie as tie
 abbrev plan : tie.Start → Plan
 plan s = columns (clockOf (s .args .clock)) [] [] [] [] [] [] [] [] []
 
-abbrev field : tie.Start → Entry
-field s = record { part = clock (clockOf (s .args .clock)); route = [] }
+abbrev part : tie.Start → Part
+part s = clock (clockOf (s .args .clock))
 
 clocks-equal-requires : tie.Need-clocks-equal-requires
 clocks-equal-requires c κs = search needs
@@ -26,7 +25,7 @@ clocks-equal-requires c κs = search needs
 returns : tie.Need-returns
 returns c =
     let s = c .before .before .before in
-    test-none (field s) (now (s .args .out)) (not (clocksEqual (plan s))) (ap not (sym (c .before .clocks-equal .ensures) ∙ c .if1 .taken))
+    test-none (part s) (now (s .args .out)) (not (clocksEqual (plan s))) (ap not (sym (c .before .clocks-equal .ensures) ∙ c .if1 .taken))
 
 put-clock-requires : tie.Need-put-clock-requires
 put-clock-requires c κs = search needs
@@ -39,7 +38,7 @@ returns-2 c =
     let written = c .before .before in
     let left = written .before .before in
     let s = left .before .before .before in
-    test-one (field s) (now (s .args .out)) (not (clocksEqual (plan s))) (ap not (sym (left .before .clocks-equal .ensures) ∙ left .if1 .left)) (written .put-clock .ensures)
+    test-one (part s) (now (s .args .out)) (not (clocksEqual (plan s))) (ap not (sym (left .before .clocks-equal .ensures) ∙ left .if1 .left)) (written .put-clock .ensures)
 
 pub put-clocks-spec : {M : Type 1} → statement M
 put-clocks-spec =

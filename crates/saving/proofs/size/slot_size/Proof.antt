@@ -3,7 +3,8 @@ use Prim.Native.Nat.{_≤_, _<_}
 use native.Mathlib.Omega.{arith}
 use borrow.Author.Needs.{needs}
 use lib.ListN.{getD}
-use Rattle.cqf.specs.Limits.{portSlots, flowSlots, maxExtra, maxHops}
+use Rattle.plan.specs.Layout as wire
+use Rattle.cqf.specs.Limits.{portSlots, flowSlots, maxExtra}
 use Rattle.saving.specs.laws.Sizes.{slots-same}
 use Rattle.saving.proofs.size.slot_size.Statement.{statement}
 use Rattle.saving.proofs.size.slot_size.Tie as tie
@@ -22,7 +23,7 @@ jitter-below : (c : tie.After-enum-told4) → c .before .before .args .slot < fl
 jitter-below c = slots-same (c .before .before .args .slot) (c .enum-told4 .given .1) (c .before .before .pre .0)
 
 -- and its route and its extra bytes are in range
-few-hops : (c : tie.After-enum-told2) → getD (c .before .before .args .hops .now) (c .before .before .args .slot) 0 ≤ maxHops
+few-hops : (c : tie.After-enum-told2) → getD (c .before .before .args .hops .now) (c .before .before .args .slot) 0 ≤ wire.layout wire.Kind.flow .mostHops
 few-hops c = c .before .before .pre .1 .hops-most (c .before .before .args .slot) (flow-below c)
 
 few-bytes : (c : tie.After-enum-told3) → getD (c .before .before .args .extras .now) (c .before .before .args .slot) 0 ≤ maxExtra

@@ -7,9 +7,8 @@ use native.Mathlib.Omega.{arith}
 use borrow.Author.Needs.{needs}
 use denote.Ref.{now}
 use Rattle.cqf.specs.Plan.{Plan, equalClocks, extraOf}
-use Rattle.plan.specs.Field.{extra}
-use Rattle.plan_reading.specs.Strict.{Entry}
-use Rattle.plan_reading.specs.Saved.{extraField}
+use Rattle.plan_reading.specs.Part.{Part, extra}
+use Rattle.plan_reading.specs.Saved.{extraPart}
 use Rattle.tables.specs.Columns.{columns}
 use Rattle.writing.specs.Laid.{laid}
 use Rattle.writing.specs.Fields.{fieldBytes}
@@ -21,11 +20,11 @@ use Rattle.saving.proofs.slot.put_extra_slot.Tie as tie
 abbrev plan : tie.Start → Plan
 plan s = columns equalClocks [] [] (s .args .extras .now) [] [] [] [] [] []
 
-abbrev field : tie.Start → Entry
-field s =
+abbrev part : tie.Start → Part
+part s =
     let p = plan s in
     let q = s .args .slot in
-    extraField p q
+    extraPart p q
 
 element-copy-out-bytes : tie.Need-element-copy-out-bytes
 element-copy-out-bytes c = search needs
@@ -33,7 +32,7 @@ element-copy-out-bytes c = search needs
 returns : tie.Need-returns
 returns c =
     let s = c .before .before .before in
-    slot-none (field s) (now (s .args .out)) (extraOf (plan s) (s .args .slot)) (omega arith)
+    slot-none (part s) (now (s .args .out)) (extraOf (plan s) (s .args .slot)) (omega arith)
 
 add-put-extra : tie.Need-add-put-extra
 add-put-extra c = search needs
@@ -57,7 +56,7 @@ returns-2 c =
     let p = plan s in
     let q = s .args .slot in
     let e = now (s .args .out) in
-    slot-one (field s) e (extraOf p q) (written .before .before .if1 .left)
+    slot-one (part s) e (extraOf p q) (written .before .before .if1 .left)
     (written .put-extra .ensures ∙ ap (λ (n : ℕ). laid (fieldBytes (extra n (extraOf p q))) e) (add-one q))
 
 pub put-extra-slot-spec : {M : Type 1} → statement M

@@ -7,8 +7,8 @@ use borrow.Author.Needs.{needs}
 use denote.Ref.{now}
 use Rattle.cqf.specs.Limits.{routeStride}
 use Rattle.cqf.specs.Plan.{Plan, equalClocks, periodOf, countOf, lengthOf, hopsOf}
-use Rattle.plan_reading.specs.Strict.{Entry}
-use Rattle.plan_reading.specs.Saved.{flowField}
+use Rattle.plan_reading.specs.Part.{Part}
+use Rattle.plan_reading.specs.Saved.{flowPart}
 use Rattle.tables.specs.Columns.{columns}
 use Rattle.writing.specs.Laid.{laid}
 use Rattle.saving.specs.laws.Slots.{slot-none, slot-one, flow-part}
@@ -20,11 +20,11 @@ abbrev plan : tie.Start → Plan
 plan s =
     columns equalClocks [] [] [] (s .args .periods .now) (s .args .counts .now) (s .args .lengths .now) [] (s .args .hops .now) (s .args .routes .now)
 
-abbrev field : tie.Start → Entry
-field s =
+abbrev part : tie.Start → Part
+part s =
     let p = plan s in
     let f = s .args .slot in
-    flowField p f
+    flowPart p f
 
 mul-period : tie.Need-mul-period
 mul-period c = search needs
@@ -35,7 +35,7 @@ element-copy-out-period c = search needs
 returns : tie.Need-returns
 returns c =
     let s = c .before .before .before in
-    slot-none (field s) (now (s .args .out)) (periodOf (plan s) (s .args .slot)) (omega arith)
+    slot-none (part s) (now (s .args .out)) (periodOf (plan s) (s .args .slot)) (omega arith)
 
 mul-base : tie.Need-mul-base
 mul-base c = search needs
@@ -89,7 +89,7 @@ returns-2 c =
     let f = s .args .slot in
     let e = now (s .args .out) in
     let end = ended .route-end in
-    slot-one (field s) e (periodOf p f) (left .if1 .left)
+    slot-one (part s) e (periodOf p f) (left .if1 .left)
     (written .put-flow .ensures
     ∙ ap (λ (bs : List ℕ). laid bs e)
     (flow-part f (periodOf p f) (countOf p f) (lengthOf p f) (p .routes) (f * routeStride) (hopsOf p f) (end .result) (end .ensures) (omega (arith, end .ensures)) (s .pre .1)))

@@ -7,9 +7,8 @@ use native.Mathlib.Omega.{arith}
 use borrow.Author.Needs.{needs}
 use denote.Ref.{now}
 use Rattle.cqf.specs.Plan.{Plan, equalClocks, jitterOf}
-use Rattle.plan.specs.Field.{jitter}
-use Rattle.plan_reading.specs.Strict.{Entry}
-use Rattle.plan_reading.specs.Saved.{jitterField}
+use Rattle.plan_reading.specs.Part.{Part, jitter}
+use Rattle.plan_reading.specs.Saved.{jitterPart}
 use Rattle.tables.specs.Columns.{columns}
 use Rattle.writing.specs.Laid.{laid}
 use Rattle.writing.specs.Fields.{fieldBytes}
@@ -21,11 +20,11 @@ use Rattle.saving.proofs.slot.put_jitter_slot.Tie as tie
 abbrev plan : tie.Start → Plan
 plan s = columns equalClocks [] [] [] [] [] [] (s .args .jitters .now) [] []
 
-abbrev field : tie.Start → Entry
-field s =
+abbrev part : tie.Start → Part
+part s =
     let p = plan s in
     let q = s .args .slot in
-    jitterField p q
+    jitterPart p q
 
 mul-ns : tie.Need-mul-ns
 mul-ns c = search needs
@@ -36,7 +35,7 @@ element-copy-out-ns c = search needs
 returns : tie.Need-returns
 returns c =
     let s = c .before .before .before in
-    slot-none (field s) (now (s .args .out)) (jitterOf (plan s) (s .args .slot)) (omega arith)
+    slot-none (part s) (now (s .args .out)) (jitterOf (plan s) (s .args .slot)) (omega arith)
 
 add-put-jitter : tie.Need-add-put-jitter
 add-put-jitter c = search needs
@@ -57,7 +56,7 @@ returns-2 c =
     let p = plan s in
     let q = s .args .slot in
     let e = now (s .args .out) in
-    slot-one (field s) e (jitterOf p q) (written .before .before .if1 .left)
+    slot-one (part s) e (jitterOf p q) (written .before .before .if1 .left)
     (written .put-jitter .ensures ∙ ap (λ (n : ℕ). laid (fieldBytes (jitter n (jitterOf p q))) e) (add-one q))
 
 pub put-jitter-slot-spec : {M : Type 1} → statement M

@@ -7,9 +7,8 @@ use native.Mathlib.Omega.{arith}
 use borrow.Author.Needs.{needs}
 use denote.Ref.{now}
 use Rattle.cqf.specs.Plan.{Plan, equalClocks, rateOf, blockingOf}
-use Rattle.plan.specs.Field.{port}
-use Rattle.plan_reading.specs.Strict.{Entry}
-use Rattle.plan_reading.specs.Saved.{portField}
+use Rattle.plan_reading.specs.Part.{Part, port}
+use Rattle.plan_reading.specs.Saved.{portPart}
 use Rattle.tables.specs.Columns.{columns}
 use Rattle.writing.specs.Laid.{laid}
 use Rattle.writing.specs.Fields.{fieldBytes}
@@ -21,11 +20,11 @@ use Rattle.saving.proofs.slot.put_port_slot.Tie as tie
 abbrev plan : tie.Start → Plan
 plan s = columns equalClocks (s .args .rates .now) (s .args .blockings .now) [] [] [] [] [] [] []
 
-abbrev field : tie.Start → Entry
-field s =
+abbrev part : tie.Start → Part
+part s =
     let p = plan s in
     let q = s .args .slot in
-    portField p q
+    portPart p q
 
 mul-rate : tie.Need-mul-rate
 mul-rate c = search needs
@@ -36,7 +35,7 @@ element-copy-out-rate c = search needs
 returns : tie.Need-returns
 returns c =
     let s = c .before .before .before in
-    slot-none (field s) (now (s .args .out)) (rateOf (plan s) (s .args .slot)) (omega arith)
+    slot-none (part s) (now (s .args .out)) (rateOf (plan s) (s .args .slot)) (omega arith)
 
 add-put-port : tie.Need-add-put-port
 add-put-port c = search needs
@@ -63,7 +62,7 @@ returns-2 c =
     let p = plan s in
     let q = s .args .slot in
     let e = now (s .args .out) in
-    slot-one (field s) e (rateOf p q) (written .before .before .before .if1 .left)
+    slot-one (part s) e (rateOf p q) (written .before .before .before .if1 .left)
     (written .put-port .ensures ∙ ap (λ (n : ℕ). laid (fieldBytes (port n (rateOf p q) (blockingOf p q))) e) (add-one q))
 
 pub put-port-slot-spec : {M : Type 1} → statement M

@@ -8,11 +8,11 @@ use denote.Ref.{now}
 use lib.ListN.{length, length-append}
 use Rattle.cqf.specs.Plan.{Plan, equalClocks}
 use Rattle.plan_reading.specs.FieldBytes.{rowBytes}
-use Rattle.plan_reading.specs.Saved.{collect}
+use Rattle.plan_reading.specs.Saved.{partBytes, collect}
 use Rattle.tables.specs.Columns.{columns}
 use Rattle.saving.specs.declared.kind.Kind.{Kind}
 use Rattle.writing.specs.Laid.{Puts}
-use Rattle.saving.specs.Slots.{slotsOf, fieldsOf, slotBytes}
+use Rattle.saving.specs.Slots.{slotsOf, partsOf, slotBytes}
 use Rattle.writing.specs.laws.Laid.{over-length, puts-next}
 use Rattle.saving.specs.laws.Sizes.{slot-length, slot-columns, collect-next, collect-room}
 use Rattle.saving.proofs.slots.put_slots.Statement.{statement}
@@ -22,7 +22,7 @@ abbrev Inv-loop : tie.InvT-loop
 Inv-loop kind rates blockings extras periods counts lengths jitters hops routes out₀ count at₀ slot₀ out at slot =
     (slot ≤ count)
     × (length out ≡ length out₀)
-    × Puts (rowBytes (collect slot (fieldsOf kind (columns equalClocks rates blockings extras periods counts lengths jitters hops routes)))) out₀ at out
+    × Puts (partBytes (collect slot (partsOf kind (columns equalClocks rates blockings extras periods counts lengths jitters hops routes)))) out₀ at out
 
 abbrev μ-loop : tie.MeasureT-loop
 μ-loop kind rates blockings extras periods counts lengths jitters hops routes out₀ count at₀ slot₀ out at slot = count - slot
@@ -45,7 +45,7 @@ module _ (c : tie.In-loop Inv-loop μ-loop) where
   slot = c .before .loop .slot
 
   abbrev done : List ℕ
-  done = rowBytes (collect slot (fieldsOf kind (plan begin)))
+  done = partBytes (collect slot (partsOf kind (plan begin)))
 
   below : slot < slotsOf kind
   below = omega (arith, c .before .before .slots .ensures)
@@ -105,7 +105,7 @@ loop-again c =
     let e = now (begin at .args .out) in
     let bs = slotBytes (kind at) p (slot at) in
     let next = puts-next (done at) bs e (at .before .loop .at) (c .slot-size .result) (at .before .loop .inv .2) (room at) (size c) (c .before .before .before .put-slot .ensures) in
-    let all = collect-next (slot at) (fieldsOf (kind at) p) in
+    let all = collect-next (slot at) (partsOf (kind at) p) in
     (omega arith, ap length (next .bytes) ∙ over-length (done at ++ bs) e (omega (arith, length-append (done at) bs, at .before .loop .inv .2 .size, room at)), rw all next)
 
 same-length : tie.Need-same-length Inv-loop μ-loop

@@ -10,7 +10,7 @@ use lib.ListN.{length, length-append}
 use Rattle.cqf.specs.Plan.{Plan, equalClocks}
 use Rattle.numbers.specs.Clock.{clockOf}
 use Rattle.plan_reading.specs.FieldBytes.{valueOf, bytesOf, rowBytes}
-use Rattle.plan_reading.specs.Saved.{headerField, clockFields}
+use Rattle.plan_reading.specs.Saved.{spell, partBytes, headerPart, clockParts}
 use Rattle.tables.specs.Columns.{planBy, columns}
 use Rattle.saving.specs.declared.kind.Kind.{Kind}
 use Rattle.writing.specs.Laid.{over, Puts}
@@ -23,7 +23,7 @@ use Rattle.saving.proofs.whole.put_fields.Tie as tie
 abbrev Inv-loop : tie.InvT-loop
 Inv-loop guard top clock rates blockings extras periods counts lengths jitters hops routes out₀ at₀ k₀ out at k =
     let p = planBy guard top (clockOf clock) rates blockings extras periods counts lengths jitters hops routes in
-    (k ≤ kinds) × (length out ≡ length out₀) × Puts (bytesOf (headerField p) ++ kindsBytes k p) out₀ at out
+    (k ≤ kinds) × (length out ≡ length out₀) × Puts (bytesOf (spell (headerPart p)) ++ kindsBytes k p) out₀ at out
 
 abbrev μ-loop : tie.MeasureT-loop
 μ-loop guard top clock rates blockings extras periods counts lengths jitters hops routes out₀ at₀ k₀ out at k = kinds - k
@@ -36,7 +36,7 @@ module _ (s : tie.Start Inv-loop μ-loop) where
       planBy (a .guard) (a .top) (clockOf (a .clock)) (a .rates .now) (a .blockings .now) (a .extras .now) (a .periods .now) (a .counts .now) (a .lengths .now) (a .jitters .now) (a .hops .now) (a .routes .now)
 
   abbrev head : List ℕ
-  head = bytesOf (headerField plan)
+  head = bytesOf (spell (headerPart plan))
 
   abbrev entry : List ℕ
   entry = now (s .args .out)
@@ -99,7 +99,7 @@ module _ (c : tie.After-loop Inv-loop μ-loop) where
   written : Puts (head (begin after) ++ kindsBytes kinds whole) (first after) (c .before .loop .at) (c .before .loop .out)
   written = rw all at (c .before .loop .inv .2)
 
-  left : c .before .loop .at + length (rowBytes (clockFields whole)) ≤ length (first after)
+  left : c .before .loop .at + length (partBytes (clockParts whole)) ≤ length (first after)
   left =
       omega (arith, written .size, length-append (head (begin after)) (kindsBytes kinds whole), parts-length whole, begin after .pre .1, same after)
 
@@ -186,7 +186,7 @@ returns c =
     let s = begin (after at) in
     let p = whole at in
     let ks = kindsBytes kinds p in
-    let cs = rowBytes (clockFields p) in
+    let cs = partBytes (clockParts p) in
     lay-next (head s ++ ks) cs (first (after at)) (at .before .loop .at) (sym (written at .size)) (written at .bytes) (left at) (put .put-clocks .ensures)
     ∙ over-parts (head s) ks cs (entry s) (headed (after at))
     ∙ ap (λ (l : List ℕ). over l (entry s)) (sym (saved-parts p))

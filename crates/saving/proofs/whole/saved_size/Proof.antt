@@ -10,7 +10,7 @@ use Rattle.cqf.specs.Plan.{Plan}
 use Rattle.cqf.specs.laws.Bounds.{sumTo-most}
 use Rattle.numbers.specs.Clock.{clockOf}
 use Rattle.plan.specs.Bytes.{headSize}
-use Rattle.plan.specs.Field.{headerSize}
+use Rattle.plan.specs.Layout as wire
 use Rattle.tables.specs.Columns.{columns}
 use Rattle.saving.specs.declared.kind.Kind.{Kind}
 use Rattle.saving.specs.Slots.{kindSize, kinds, kindAt}
@@ -22,7 +22,7 @@ use Rattle.saving.proofs.whole.saved_size.Tie as tie
 abbrev Inv-loop : tie.InvT-loop
 Inv-loop clock rates extras periods jitters hops size₀ k₀ size k =
     (k ≤ kinds)
-    × (size ≡ headSize + headerSize + sumTo k (λ i. kindSize (kindAt i) (columns (clockOf clock) rates [] extras periods [] [] jitters hops [])))
+    × (size ≡ headSize + wire.numbersSize wire.Kind.header + sumTo k (λ i. kindSize (kindAt i) (columns (clockOf clock) rates [] extras periods [] [] jitters hops [])))
 
 abbrev μ-loop : tie.MeasureT-loop
 μ-loop clock rates extras periods jitters hops size₀ k₀ size k = kinds - k
@@ -33,7 +33,7 @@ plan s =
     columns (clockOf (s .args .clock)) (s .args .rates .now) [] (s .args .extras .now) (s .args .periods .now) [] [] (s .args .jitters .now) (s .args .hops .now) []
 
 -- the sum so far is small
-small : (c : tie.At-loop Inv-loop μ-loop) → c .loop .size ≤ headSize + headerSize + kinds * (flowSlots * mostSize)
+small : (c : tie.At-loop Inv-loop μ-loop) → c .loop .size ≤ headSize + wire.numbersSize wire.Kind.header + kinds * (flowSlots * mostSize)
 small c =
     let s = c .before in
     let k = c .loop .k in

@@ -4,7 +4,8 @@ use mathlib.Core.List.{_++_}
 use native.Mathlib.Omega.{arith}
 use borrow.Author.Needs.{needs}
 use denote.Ref.{now}
-use Rattle.plan.specs.Field.{clock, clockTag, clockSize}
+use Rattle.plan.specs.Layout.{Kind, layout, numbersSize}
+use Rattle.plan_reading.specs.Part.{clock}
 use Rattle.plan_reading.specs.FieldBytes.{bytes4, valueOf, bytesOf}
 use Rattle.numbers.specs.Clock.{clockOf}
 use Rattle.writing.specs.Fields.{headBytes, fieldBytes}
@@ -75,7 +76,7 @@ returns-2 c =
     let head = first .before .before .before .before in
     let a = head .before .before .before .before .args in
     let entry = now (a .out) in
-    let h = headBytes clockTag clockSize in
+    let h = headBytes (layout Kind.clock .tag) (numbersSize Kind.clock) in
     let there = head .put-head .ensures ∙ laid-over h entry (omega arith) in
     let after-first = lay-next h (bytes4 (a .numbers .drift)) entry 3 refl there (omega arith) (first .put4 .ensures) in
     let after-second = lay-next (h ++ bytes4 (a .numbers .drift)) (bytes4 (a .numbers .«timing_jitter»)) entry 7 refl after-first (omega arith) (second .put42 .ensures) in

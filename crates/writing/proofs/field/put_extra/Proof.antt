@@ -4,7 +4,8 @@ use mathlib.Core.List.{_++_}
 use native.Mathlib.Omega.{arith}
 use borrow.Author.Needs.{needs}
 use denote.Ref.{now}
-use Rattle.plan.specs.Field.{extra, extraTag, extraSize}
+use Rattle.plan.specs.Layout.{Kind, layout, numbersSize}
+use Rattle.plan_reading.specs.Part.{extra}
 use Rattle.plan_reading.specs.FieldBytes.{bytes2, valueOf, bytesOf}
 use Rattle.writing.specs.Fields.{headBytes, fieldBytes}
 use Rattle.writing.specs.laws.Laid.{laid-over, laid-short, lay-next}
@@ -61,7 +62,7 @@ returns-2 c =
     let head = first .before .before .before .before in
     let a = head .before .before .before .before .args in
     let entry = now (a .out) in
-    let h = headBytes extraTag extraSize in
+    let h = headBytes (layout Kind.extra .tag) (numbersSize Kind.extra) in
     let there = head .put-head .ensures ∙ laid-over h entry (omega arith) in
     let after-first = lay-next h (bytes2 (a .number)) entry 3 refl there (omega arith) (first .put2 .ensures) in
     lay-next (h ++ bytes2 (a .number)) (bytes2 (a .bytes)) entry 5 refl after-first (omega arith) (second .put22 .ensures)

@@ -4,7 +4,8 @@ use mathlib.Core.List.{_++_}
 use native.Mathlib.Omega.{arith}
 use borrow.Author.Needs.{needs}
 use denote.Ref.{now}
-use Rattle.plan.specs.Field.{header, headerTag, headerSize}
+use Rattle.plan.specs.Layout.{Kind, layout, numbersSize}
+use Rattle.plan_reading.specs.Part.{header}
 use Rattle.plan_reading.specs.FieldBytes.{bytes4, valueOf, bytesOf}
 use Rattle.writing.specs.Fields.{headBytes, fieldBytes}
 use Rattle.writing.specs.laws.Laid.{laid-over, laid-short, lay-next}
@@ -61,7 +62,7 @@ returns-2 c =
     let head = first .before .before .before .before in
     let a = head .before .before .before .before .args in
     let entry = now (a .out) in
-    let h = headBytes headerTag headerSize in
+    let h = headBytes (layout Kind.header .tag) (numbersSize Kind.header) in
     let there = head .put-head .ensures ∙ laid-over h entry (omega arith) in
     let after-first = lay-next h (bytes4 (a .guard)) entry 3 refl there (omega arith) (first .put4 .ensures) in
     lay-next (h ++ bytes4 (a .guard)) (bytes4 (a .top)) entry 7 refl after-first (omega arith) (second .put42 .ensures)

@@ -4,7 +4,8 @@ use mathlib.Core.List.{_++_}
 use native.Mathlib.Omega.{arith}
 use borrow.Author.Needs.{needs}
 use denote.Ref.{now}
-use Rattle.plan.specs.Field.{port, portTag, portSize}
+use Rattle.plan.specs.Layout.{Kind, layout, numbersSize}
+use Rattle.plan_reading.specs.Part.{port}
 use Rattle.plan_reading.specs.FieldBytes.{bytes2, bytes4, valueOf, bytesOf}
 use Rattle.writing.specs.Fields.{headBytes, fieldBytes}
 use Rattle.writing.specs.laws.Laid.{laid-over, laid-short, lay-next}
@@ -74,7 +75,7 @@ returns-2 c =
     let head = first .before .before .before .before in
     let a = head .before .before .before .before .args in
     let entry = now (a .out) in
-    let h = headBytes portTag portSize in
+    let h = headBytes (layout Kind.port .tag) (numbersSize Kind.port) in
     let there = head .put-head .ensures ∙ laid-over h entry (omega arith) in
     let after-first = lay-next h (bytes2 (a .number)) entry 3 refl there (omega arith) (first .put2 .ensures) in
     let after-second = lay-next (h ++ bytes2 (a .number)) (bytes4 (a .rate)) entry 5 refl after-first (omega arith) (second .put4 .ensures) in

@@ -6,7 +6,7 @@ use native.Mathlib.Omega.{arith}
 use borrow.Author.Needs.{needs}
 use denote.Ref.{now}
 use lib.ListN.{length}
-use Rattle.plan.specs.Field.{flowTag, flowSize}
+use Rattle.plan.specs.Layout.{Kind, layout, numbersSize}
 use Rattle.plan_reading.specs.FieldBytes.{bytes2, bytes4, bytes2s, valueOf, bytesOf}
 use Rattle.plan_reading.specs.laws.fields.Decoded.{ports-length}
 use Rattle.writing.specs.Laid.{over, laid}
@@ -118,7 +118,7 @@ returns-3 c =
     let a = head .before .before .before .before .before .before .args in
     let r = now (a .route) in
     let e = now (a .out) in
-    let h = headBytes flowTag (flowSize + 2 * length r) in
+    let h = headBytes (layout Kind.flow .tag) (numbersSize Kind.flow + 2 * length r) in
     let before-count = (h ++ bytes2 (a .number)) ++ bytes4 (a .period) in
     let before-route = (before-count ++ bytes2 (a .count)) ++ bytes2 (a .bytes) in
     let there = head .put-head .ensures ∙ laid-over h e (omega arith) in

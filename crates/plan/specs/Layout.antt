@@ -1,0 +1,72 @@
+-- The wire format: a row for each kind of field (document 01, "The plan's bytes", and document 02). What is read, tested and
+-- written of a field follows from its row.
+use Prim.Native.Nat.{ℕ, zero, suc, _+_}
+use mathlib.Core.List.{List, [], _∷_}
+use mathlib.Core.Bool.{Bool, true, false}
+use lib.Dec.{eqb}
+use Rattle.cqf.specs.Bounded.{within}
+use Rattle.cqf.specs.Limits.{guardOk, topOk, driftOk, timingJitterOk, syncErrorOk, portOk, rateOk, lengthOk, blockingOk, extraOk, flowOk, periodOk, countOk, jitterOk}
+
+-- a number stands in 2 bytes or in 4
+pub data Width : Type 0 where
+  two : Width
+  four : Width
+
+abbrev pub bytesIn : Width → ℕ
+bytesIn two = 2
+bytesIn four = 4
+
+-- a number of a field: its width and its range
+pub record Number : Type 0 where
+  pub width : Width
+  pub ok : ℕ → Bool
+
+abbrev in2 : (ℕ → Bool) → Number
+in2 range = record { width = two; ok = range }
+
+abbrev in4 : (ℕ → Bool) → Number
+in4 range = record { width = four; ok = range }
+
+-- a kind of field: its tag, its numbers in their order, whether the first of them is the field's own number (a plan has one field
+-- of a kind without), and the most ports of the route that follows them, 0 where none does
+pub record Layout : Type 0 where
+  pub tag : ℕ
+  pub numbers : List Number
+  pub numbered : Bool
+  pub mostHops : ℕ
+
+pub data Kind : Type 0 where
+  header : Kind
+  port : Kind
+  flow : Kind
+  extra : Kind
+  jitter : Kind
+  clock : Kind
+
+abbrev pub layout : Kind → Layout
+layout Kind.header = record { tag = 1; numbers = in4 guardOk ∷ in4 topOk ∷ []; numbered = false; mostHops = 0 }
+layout Kind.port = record { tag = 2; numbers = in2 portOk ∷ in4 rateOk ∷ in2 blockingOk ∷ []; numbered = true; mostHops = 0 }
+layout Kind.flow =
+    record { tag = 3; numbers = in2 flowOk ∷ in4 periodOk ∷ in2 countOk ∷ in2 lengthOk ∷ []; numbered = true; mostHops = 16 }
+layout Kind.extra = record { tag = 4; numbers = in2 portOk ∷ in2 extraOk ∷ []; numbered = true; mostHops = 0 }
+layout Kind.jitter = record { tag = 5; numbers = in2 flowOk ∷ in4 jitterOk ∷ []; numbered = true; mostHops = 0 }
+layout Kind.clock =
+    record { tag = 6; numbers = in4 driftOk ∷ in4 timingJitterOk ∷ in4 syncErrorOk ∷ []; numbered = false; mostHops = 0 }
+
+-- the kinds that a plan may have
+abbrev pub kinds : List Kind
+kinds = Kind.header ∷ Kind.port ∷ Kind.flow ∷ Kind.extra ∷ Kind.jitter ∷ Kind.clock ∷ []
+
+-- the bytes of these numbers
+abbrev pub widths : List Number → ℕ
+widths [] = 0
+widths (c ∷ cs) = bytesIn (c .width) + widths cs
+
+-- those of a kind: its value before the route
+abbrev pub numbersSize : Kind → ℕ
+numbersSize k = widths (layout k .numbers)
+
+-- how many ports a route may have: none where the most is 0, else 1 at least
+abbrev pub hopsAllowed : (most hops : ℕ) → Bool
+hopsAllowed zero h = eqb h 0
+hopsAllowed (suc m) h = within 1 (suc m) h

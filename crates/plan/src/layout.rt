@@ -1,0 +1,69 @@
+// The wire format: tags, where each number stands in the value of its field, and sizes.
+
+// Tag (1 byte) and length (2 bytes).
+pub const SIZE_AT: usize = 1;
+
+pub const HEAD_SIZE: usize = SIZE_AT + 2;
+
+// A port of a route.
+pub const HOP_SIZE: usize = 2;
+
+pub const HEADER_TAG: u8 = 1;
+
+pub const GUARD_AT: usize = 0;
+
+pub const TOP_AT: usize = GUARD_AT + 4;
+
+pub const HEADER_SIZE: usize = TOP_AT + 4;
+
+pub const PORT_TAG: u8 = 2;
+
+pub const PORT_AT: usize = 0;
+
+pub const RATE_AT: usize = PORT_AT + 2;
+
+pub const BLOCKING_AT: usize = RATE_AT + 4;
+
+pub const PORT_SIZE: usize = BLOCKING_AT + 2;
+
+pub const FLOW_TAG: u8 = 3;
+
+// The most ports that a flow's field names.
+pub const MAX_HOPS: usize = 16;
+
+pub const FLOW_AT: usize = 0;
+
+pub const PERIOD_AT: usize = FLOW_AT + 2;
+
+pub const COUNT_AT: usize = PERIOD_AT + 4;
+
+pub const LENGTH_AT: usize = COUNT_AT + 2;
+
+// A flow's value before its route.
+pub const FLOW_SIZE: usize = LENGTH_AT + 2;
+
+pub const EXTRA_TAG: u8 = 4;
+
+pub const EXTRA_PORT_AT: usize = 0;
+
+pub const EXTRA_AT: usize = EXTRA_PORT_AT + 2;
+
+pub const EXTRA_SIZE: usize = EXTRA_AT + 2;
+
+pub const JITTER_TAG: u8 = 5;
+
+pub const JITTER_FLOW_AT: usize = 0;
+
+pub const JITTER_AT: usize = JITTER_FLOW_AT + 2;
+
+pub const JITTER_SIZE: usize = JITTER_AT + 4;
+
+pub const CLOCK_TAG: u8 = 6;
+
+pub const DRIFT_AT: usize = 0;
+
+pub const TIMING_JITTER_AT: usize = DRIFT_AT + 4;
+
+pub const SYNC_ERROR_AT: usize = TIMING_JITTER_AT + 4;
+
+pub const CLOCK_SIZE: usize = SYNC_ERROR_AT + 4;
