@@ -13,35 +13,20 @@ returns c =
     let v = now (c .before .before .args .value) in
     omega (arith, List·getD-eq-default v 0 {n = 0} (omega arith), List·getD-eq-default v 0 {n = 1} (omega arith))
 
-shared-slice-read-wide : tie.Need-shared-slice-read-wide
-shared-slice-read-wide c = search needs
-
-wide-requires : tie.Need-wide-requires
-wide-requires c κs = search needs
-
-mul-result : tie.Need-mul-result
-mul-result c = search needs
-
 returns-2 : tie.Need-returns-2
 unfolding number2
 returns-2 c =
     let v = now (c .before .before .before .before .before .args .value) in
     omega (arith, List·getD-eq-default v 0 {n = 1} (omega arith))
 
-be16-requires : tie.Need-be16-requires
-be16-requires c κs = search needs
-
-returns-3 : tie.Need-returns-3
-returns-3 c = search needs
-
 pub first-number-spec : {M : Type 1} → statement M
 first-number-spec =
     tie.close
     (tie.spec
     returns
-    shared-slice-read-wide
-    wide-requires
-    mul-result
+    (λ c. search needs)
+    (λ c κs. search needs)
+    (λ c. search needs)
     returns-2
-    be16-requires
-    returns-3)
+    (λ c κs. search needs)
+    (λ c. search needs))

@@ -20,15 +20,6 @@ tested c =
 returns : tie.Need-returns
 returns c = sym (plain-length _ _ _ Kind.jitter refl (c .if1 .taken))
 
-be16-requires : tie.Need-be16-requires
-be16-requires c κs = search needs
-
-be32-requires : tie.Need-be32-requires
-be32-requires c κs = search needs
-
-jitter-in-range-requires : tie.Need-jitter-in-range-requires
-jitter-in-range-requires c κs = search needs
-
 returns-2 : tie.Need-returns-2
 returns-2 c =
     sym (plain-range _ _ _ Kind.jitter refl (c .before .before .before .before .if1 .left) (sym (tested (c .before)) ∙ not-true _ (c .if2 .taken)))
@@ -42,4 +33,4 @@ returns-3 c =
 pub jitter-of-spec : {M : Type 1} → statement M
 jitter-of-spec =
     tie.close
-    (tie.spec returns be16-requires be32-requires jitter-in-range-requires returns-2 returns-3)
+    (tie.spec returns (λ c κs. search needs) (λ c κs. search needs) (λ c κs. search needs) returns-2 returns-3)

@@ -5,11 +5,8 @@ use borrow.Author.Needs.{needs}
 use Rattle.plan.proofs.ranges.clock_in_range.Statement.{statement}
 use Rattle.plan.proofs.ranges.clock_in_range.Tie as tie
 
-clock-ok-requires : tie.Need-clock-ok-requires
-clock-ok-requires c κs = search needs
-
 returns : tie.Need-returns
 returns c = c .clock-ok .ensures ∙ sym (simp (and-true, and-assoc))
 
 pub clock-in-range-spec : {M : Type 1} → statement M
-clock-in-range-spec = tie.close (tie.spec clock-ok-requires returns)
+clock-in-range-spec = tie.close (tie.spec (λ c κs. search needs) returns)

@@ -6,17 +6,11 @@ use borrow.Author.Tests.{not-true, not-false}
 use Rattle.plan.proofs.ranges.extra_in_range.Statement.{statement}
 use Rattle.plan.proofs.ranges.extra_in_range.Tie as tie
 
-port-ok-requires : tie.Need-port-ok-requires
-port-ok-requires c κs = search needs
-
 returns : tie.Need-returns
 returns c = sym (rw (sym (c .before .port-ok .ensures) ∙ not-true _ (c .if1 .taken)))
-
-extra-ok-requires : tie.Need-extra-ok-requires
-extra-ok-requires c κs = search needs
 
 returns-2 : tie.Need-returns-2
 returns-2 c = c .extra-ok .ensures ∙ sym (rw (sym (c .before .before .port-ok .ensures) ∙ not-false _ (c .before .if1 .left)) (and-true _))
 
 pub extra-in-range-spec : {M : Type 1} → statement M
-extra-in-range-spec = tie.close (tie.spec port-ok-requires returns extra-ok-requires returns-2)
+extra-in-range-spec = tie.close (tie.spec (λ c κs. search needs) returns (λ c κs. search needs) returns-2)

@@ -17,28 +17,16 @@ period c = sym (c .before .period-ok .ensures) ∙ not-false _ (c .if2 .left)
 count : (c : tie.Else3) → countOk (c .before .before .before .before .before .before .args .x .count) ≡ true
 count c = sym (c .before .count-ok .ensures) ∙ not-false _ (c .if3 .left)
 
-flow-ok-requires : tie.Need-flow-ok-requires
-flow-ok-requires c κs = search needs
-
 returns : tie.Need-returns
 returns c = sym (rw (sym (c .before .flow-ok .ensures) ∙ not-true _ (c .if1 .taken)))
 
-period-ok-requires : tie.Need-period-ok-requires
-period-ok-requires c κs = search needs
-
 returns-2 : tie.Need-returns-2
 returns-2 c = sym (rw (number (c .before .before), sym (c .before .period-ok .ensures) ∙ not-true _ (c .if2 .taken)))
-
-count-ok-requires : tie.Need-count-ok-requires
-count-ok-requires c κs = search needs
 
 returns-3 : tie.Need-returns-3
 returns-3 c =
     sym
     (rw (number (c .before .before .before .before), period (c .before .before), sym (c .before .count-ok .ensures) ∙ not-true _ (c .if3 .taken)))
-
-length-ok-requires : tie.Need-length-ok-requires
-length-ok-requires c κs = search needs
 
 returns-4 : tie.Need-returns-4
 returns-4 c =
@@ -49,11 +37,11 @@ pub flow-in-range-spec : {M : Type 1} → statement M
 flow-in-range-spec =
     tie.close
     (tie.spec
-    flow-ok-requires
+    (λ c κs. search needs)
     returns
-    period-ok-requires
+    (λ c κs. search needs)
     returns-2
-    count-ok-requires
+    (λ c κs. search needs)
     returns-3
-    length-ok-requires
+    (λ c κs. search needs)
     returns-4)

@@ -6,17 +6,11 @@ use borrow.Author.Tests.{not-true, not-false}
 use Rattle.plan.proofs.ranges.header_in_range.Statement.{statement}
 use Rattle.plan.proofs.ranges.header_in_range.Tie as tie
 
-guard-ok-requires : tie.Need-guard-ok-requires
-guard-ok-requires c κs = search needs
-
 returns : tie.Need-returns
 returns c = sym (rw (sym (c .before .guard-ok .ensures) ∙ not-true _ (c .if1 .taken)))
-
-top-ok-requires : tie.Need-top-ok-requires
-top-ok-requires c κs = search needs
 
 returns-2 : tie.Need-returns-2
 returns-2 c = c .top-ok .ensures ∙ sym (rw (sym (c .before .before .guard-ok .ensures) ∙ not-false _ (c .before .if1 .left)) (and-true _))
 
 pub header-in-range-spec : {M : Type 1} → statement M
-header-in-range-spec = tie.close (tie.spec guard-ok-requires returns top-ok-requires returns-2)
+header-in-range-spec = tie.close (tie.spec (λ c κs. search needs) returns (λ c κs. search needs) returns-2)

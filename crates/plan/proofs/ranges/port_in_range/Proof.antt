@@ -14,20 +14,11 @@ number c = sym (c .before .port-ok .ensures) ∙ not-false _ (c .if1 .left)
 rate : (c : tie.Else2) → rateOk (c .before .before .before .before .args .x .rate) ≡ true
 rate c = sym (c .before .rate-ok .ensures) ∙ not-false _ (c .if2 .left)
 
-port-ok-requires : tie.Need-port-ok-requires
-port-ok-requires c κs = search needs
-
 returns : tie.Need-returns
 returns c = sym (rw (sym (c .before .port-ok .ensures) ∙ not-true _ (c .if1 .taken)))
 
-rate-ok-requires : tie.Need-rate-ok-requires
-rate-ok-requires c κs = search needs
-
 returns-2 : tie.Need-returns-2
 returns-2 c = sym (rw (number (c .before .before), sym (c .before .rate-ok .ensures) ∙ not-true _ (c .if2 .taken)))
-
-blocking-ok-requires : tie.Need-blocking-ok-requires
-blocking-ok-requires c κs = search needs
 
 returns-3 : tie.Need-returns-3
 returns-3 c = c .blocking-ok .ensures ∙ sym (rw (number (c .before .before .before), rate (c .before)) (and-true _))
@@ -35,4 +26,4 @@ returns-3 c = c .blocking-ok .ensures ∙ sym (rw (number (c .before .before .be
 pub port-in-range-spec : {M : Type 1} → statement M
 port-in-range-spec =
     tie.close
-    (tie.spec port-ok-requires returns rate-ok-requires returns-2 blocking-ok-requires returns-3)
+    (tie.spec (λ c κs. search needs) returns (λ c κs. search needs) returns-2 (λ c κs. search needs) returns-3)

@@ -6,38 +6,20 @@ use Rattle.plan.specs.laws.Tested.{tag-known, tag-unknown}
 use Rattle.plan.proofs.read.field_of.Statement.{statement}
 use Rattle.plan.proofs.read.field_of.Tie as tie
 
-header-of-requires : tie.Need-header-of-requires
-header-of-requires c κs = search needs
-
 returns : tie.Need-returns
 returns c = c .header-of .ensures ∙ sym (tag-known _ _ _ Kind.header _ (c .before .if1 .taken))
-
-port-of-requires : tie.Need-port-of-requires
-port-of-requires c κs = search needs
 
 returns-2 : tie.Need-returns-2
 returns-2 c = c .port-of .ensures ∙ sym (tag-known _ _ _ Kind.port _ (c .before .if2 .taken))
 
-flow-of-requires : tie.Need-flow-of-requires
-flow-of-requires c κs = search needs
-
 returns-3 : tie.Need-returns-3
 returns-3 c = c .flow-of .ensures ∙ sym (tag-known _ _ _ Kind.flow _ (c .before .if3 .taken))
-
-extra-of-requires : tie.Need-extra-of-requires
-extra-of-requires c κs = search needs
 
 returns-4 : tie.Need-returns-4
 returns-4 c = c .extra-of .ensures ∙ sym (tag-known _ _ _ Kind.extra _ (c .before .if4 .taken))
 
-jitter-of-requires : tie.Need-jitter-of-requires
-jitter-of-requires c κs = search needs
-
 returns-5 : tie.Need-returns-5
 returns-5 c = c .jitter-of .ensures ∙ sym (tag-known _ _ _ Kind.jitter _ (c .before .if5 .taken))
-
-clock-of-requires : tie.Need-clock-of-requires
-clock-of-requires c κs = search needs
 
 returns-6 : tie.Need-returns-6
 returns-6 c = c .clock-of .ensures ∙ sym (tag-known _ _ _ Kind.clock _ (c .before .if6 .taken))
@@ -58,16 +40,16 @@ pub field-of-spec : {M : Type 1} → statement M
 field-of-spec =
     tie.close
     (tie.spec
-    header-of-requires
+    (λ c κs. search needs)
     returns
-    port-of-requires
+    (λ c κs. search needs)
     returns-2
-    flow-of-requires
+    (λ c κs. search needs)
     returns-3
-    extra-of-requires
+    (λ c κs. search needs)
     returns-4
-    jitter-of-requires
+    (λ c κs. search needs)
     returns-5
-    clock-of-requires
+    (λ c κs. search needs)
     returns-6
     returns-7)

@@ -38,9 +38,6 @@ tested c =
     rw (b .before .before .before .be16 .ensures, b .before .before .be32 .ensures, b .before .be162 .ensures, b .be163 .ensures)
     at (c .flow-in-range .ensures)
 
-hops-by-length-requires : tie.Need-hops-by-length-requires
-hops-by-length-requires c κs = search needs
-
 returns : tie.Need-returns
 returns c =
     let n = length (now (c .before .before .before .args .value)) in
@@ -58,19 +55,10 @@ be16-requires-2 c κs = omega (arith, long (c .before .before))
 be16-requires-3 : tie.Need-be16-requires-3
 be16-requires-3 c κs = omega (arith, long (c .before .before .before))
 
-flow-in-range-requires : tie.Need-flow-in-range-requires
-flow-in-range-requires c κs = search needs
-
 returns-2 : tie.Need-returns-2
 returns-2 c =
     let f = sym (tested (c .before)) ∙ not-true _ (c .if2 .taken) in
     sym (value-range _ _ _ Kind.flow (sized (c .before .before .before .before .before .before)) (rw f))
-
-route-bytes-requires : tie.Need-route-bytes-requires
-route-bytes-requires c κs = search needs
-
-route-in-range-requires : tie.Need-route-in-range-requires
-route-in-range-requires c κs = search needs
 
 -- the route that was tested is the one in the value
 route-tested : (c : tie.After-route-in-range) →
@@ -105,15 +93,15 @@ pub flow-of-spec : {M : Type 1} → statement M
 flow-of-spec =
     tie.close
     (tie.spec
-    hops-by-length-requires
+    (λ c κs. search needs)
     returns
     be16-requires
     be32-requires
     be16-requires-2
     be16-requires-3
-    flow-in-range-requires
+    (λ c κs. search needs)
     returns-2
-    route-bytes-requires
-    route-in-range-requires
+    (λ c κs. search needs)
+    (λ c κs. search needs)
     returns-3
     returns-4)

@@ -20,18 +20,6 @@ tested c =
 returns : tie.Need-returns
 returns c = sym (plain-length _ _ _ Kind.port refl (c .if1 .taken))
 
-be16-requires : tie.Need-be16-requires
-be16-requires c κs = search needs
-
-be32-requires : tie.Need-be32-requires
-be32-requires c κs = search needs
-
-be16-requires-2 : tie.Need-be16-requires-2
-be16-requires-2 c κs = search needs
-
-port-in-range-requires : tie.Need-port-in-range-requires
-port-in-range-requires c κs = search needs
-
 returns-2 : tie.Need-returns-2
 returns-2 c =
     sym (plain-range _ _ _ Kind.port refl (c .before .before .before .before .before .if1 .left) (sym (tested (c .before)) ∙ not-true _ (c .if2 .taken)))
@@ -47,9 +35,9 @@ port-of-spec =
     tie.close
     (tie.spec
     returns
-    be16-requires
-    be32-requires
-    be16-requires-2
-    port-in-range-requires
+    (λ c κs. search needs)
+    (λ c κs. search needs)
+    (λ c κs. search needs)
+    (λ c κs. search needs)
     returns-2
     returns-3)

@@ -24,26 +24,11 @@ ends : (c : tie.After-known-told) →
     ≤ length (now (c .before .before .before .before .before .args .plan))
 ends c = read-fits _ _ (c .before .tag .given .0 .0) (c .before .tag .given .0 .1 .0) (read-head c)
 
-split-head-requires : tie.Need-split-head-requires
-split-head-requires c κs = search needs
-
-enum-known-tag : tie.Need-enum-known-tag
-enum-known-tag c = search needs
-
 add-next : tie.Need-add-next
 add-next c = omega (arith, ends c)
 
 add-next-2 : tie.Need-add-next-2
 add-next-2 c = omega (arith, ends c)
-
-field-value-requires : tie.Need-field-value-requires
-field-value-requires c κs = search needs
-
-field-of-requires : tie.Need-field-of-requires
-field-of-requires c κs = search needs
-
-enum-told : tie.Need-enum-told
-enum-told c = search needs
 
 returns : tie.Need-returns
 returns c =
@@ -65,12 +50,12 @@ pub read-field-spec : {M : Type 1} → statement M
 read-field-spec =
     tie.close
     (tie.spec
-    split-head-requires
-    enum-known-tag
+    (λ c κs. search needs)
+    (λ c. search needs)
     add-next
     add-next-2
-    field-value-requires
-    field-of-requires
-    enum-told
+    (λ c κs. search needs)
+    (λ c κs. search needs)
+    (λ c. search needs)
     returns
     returns-2)

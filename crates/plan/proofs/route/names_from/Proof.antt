@@ -30,23 +30,8 @@ step c =
     let at = c .before .before .loop in
     rw (c .route-port .ensures) (at .inv ∙ names-step (now (a .route)) (a .port) (at .k) (omega arith))
 
-route-len-requires : tie.Need-route-len-requires Inv-loop μ-loop
-route-len-requires c κs = tt
-
-loop-holds : tie.Need-loop-holds Inv-loop μ-loop
-loop-holds c = refl
-
-route-port-requires : tie.Need-route-port-requires Inv-loop μ-loop
-route-port-requires c κs = tt
-
 returns : tie.Need-returns Inv-loop μ-loop
 returns c = sym (step (c .before) ∙ rw (eq-eqb _ _ (c .if1 .taken)))
-
-add-k : tie.Need-add-k Inv-loop μ-loop
-add-k c = omega arith
-
-loop-less : tie.Need-loop-less Inv-loop μ-loop
-loop-less c = omega arith
 
 loop-again : tie.Need-loop-again Inv-loop μ-loop
 loop-again c = step (c .before) ∙ rw (ne-eqb _ _ (c .if1 .left))
@@ -62,11 +47,11 @@ names-from-spec =
     (tie.spec
     Inv-loop
     μ-loop
-    route-len-requires
-    loop-holds
-    route-port-requires
+    (λ c κs. tt)
+    (λ c. refl)
+    (λ c κs. tt)
     returns
-    add-k
-    loop-less
+    (λ c. omega arith)
+    (λ c. omega arith)
     loop-again
     returns-2)

@@ -5,15 +5,9 @@ use Rattle.plan.specs.Field.{repeats}
 use Rattle.plan.proofs.route.repeats_port.Statement.{statement}
 use Rattle.plan.proofs.route.repeats_port.Tie as tie
 
-route-bytes-requires : tie.Need-route-bytes-requires
-route-bytes-requires c κs = search needs
-
-route-repeats-requires : tie.Need-route-repeats-requires
-route-repeats-requires c κs = search needs
-
 returns : tie.Need-returns
 unfolding repeats
 returns c = c .route-repeats .ensures ∙ rw (c .before .route-bytes .ensures)
 
 pub repeats-port-spec : {M : Type 1} → statement M
-repeats-port-spec = tie.close (tie.spec route-bytes-requires route-repeats-requires returns)
+repeats-port-spec = tie.close (tie.spec (λ c κs. search needs) (λ c κs. search needs) returns)

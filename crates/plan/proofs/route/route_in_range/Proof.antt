@@ -28,26 +28,8 @@ step c =
     let at = c .before .before .before .loop in
     rw (c .port-ok .ensures, c .before .route-port .ensures) (at .inv ∙ every-step v portOk (at .i) (omega arith))
 
-route-len-requires : tie.Need-route-len-requires Inv-loop μ-loop
-route-len-requires c κs = tt
-
-loop-holds : tie.Need-loop-holds Inv-loop μ-loop
-loop-holds c = refl
-
-route-port-requires : tie.Need-route-port-requires Inv-loop μ-loop
-route-port-requires c κs = tt
-
-port-ok-requires : tie.Need-port-ok-requires Inv-loop μ-loop
-port-ok-requires c κs = tt
-
 returns : tie.Need-returns Inv-loop μ-loop
 returns c = sym (step (c .before) ∙ rw (not-true (c .before .port-ok .result) (c .if1 .taken)))
-
-add-i : tie.Need-add-i Inv-loop μ-loop
-add-i c = omega arith
-
-loop-less : tie.Need-loop-less Inv-loop μ-loop
-loop-less c = omega arith
 
 loop-again : tie.Need-loop-again Inv-loop μ-loop
 loop-again c = step (c .before) ∙ rw (not-false (c .before .port-ok .result) (c .if1 .left))
@@ -63,12 +45,12 @@ route-in-range-spec =
     (tie.spec
     Inv-loop
     μ-loop
-    route-len-requires
-    loop-holds
-    route-port-requires
-    port-ok-requires
+    (λ c κs. tt)
+    (λ c. refl)
+    (λ c κs. tt)
+    (λ c κs. tt)
     returns
-    add-i
-    loop-less
+    (λ c. omega arith)
+    (λ c. omega arith)
     loop-again
     returns-2)

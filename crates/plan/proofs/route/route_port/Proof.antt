@@ -6,21 +6,12 @@ use Rattle.plan.specs.laws.Route.{route-at, route-past}
 use Rattle.plan.proofs.route.route_port.Statement.{statement}
 use Rattle.plan.proofs.route.route_port.Tie as tie
 
-route-len-requires : tie.Need-route-len-requires
-route-len-requires c κs = search needs
-
 returns : tie.Need-returns
 returns c = sym (route-past _ _ (omega arith))
-
-mul-be16 : tie.Need-mul-be16
-mul-be16 c = search needs
-
-be16-requires : tie.Need-be16-requires
-be16-requires c κs = search needs
 
 returns-2 : tie.Need-returns-2
 returns-2 c = c .be16 .ensures ∙ sym (route-at _ _ (omega arith))
 
 pub route-port-spec : {M : Type 1} → statement M
 route-port-spec =
-    tie.close (tie.spec route-len-requires returns mul-be16 be16-requires returns-2)
+    tie.close (tie.spec (λ c κs. search needs) returns (λ c. search needs) (λ c κs. search needs) returns-2)

@@ -26,29 +26,8 @@ step c =
     let at = c .before .before .before .loop in
     rw (c .names-from .ensures, c .before .route-port .ensures) (at .inv ∙ distinct-step v (at .i) (omega arith))
 
-route-len-requires : tie.Need-route-len-requires Inv-loop μ-loop
-route-len-requires c κs = tt
-
-loop-holds : tie.Need-loop-holds Inv-loop μ-loop
-loop-holds c = refl
-
-route-port-requires : tie.Need-route-port-requires Inv-loop μ-loop
-route-port-requires c κs = tt
-
-add-names-from : tie.Need-add-names-from Inv-loop μ-loop
-add-names-from c = omega arith
-
-names-from-requires : tie.Need-names-from-requires Inv-loop μ-loop
-names-from-requires c κs = tt
-
 returns : tie.Need-returns Inv-loop μ-loop
 returns c = sym (ap not (rw (c .if1 .taken) at (step (c .before))))
-
-add-i : tie.Need-add-i Inv-loop μ-loop
-add-i c = omega arith
-
-loop-less : tie.Need-loop-less Inv-loop μ-loop
-loop-less c = omega arith
 
 loop-again : tie.Need-loop-again Inv-loop μ-loop
 loop-again c = step (c .before) ∙ rw (c .if1 .left)
@@ -64,13 +43,13 @@ route-repeats-spec =
     (tie.spec
     Inv-loop
     μ-loop
-    route-len-requires
-    loop-holds
-    route-port-requires
-    add-names-from
-    names-from-requires
+    (λ c κs. tt)
+    (λ c. refl)
+    (λ c κs. tt)
+    (λ c. omega arith)
+    (λ c κs. tt)
     returns
-    add-i
-    loop-less
+    (λ c. omega arith)
+    (λ c. omega arith)
     loop-again
     returns-2)

@@ -25,32 +25,14 @@ ends : (c : tie.After-known-told) →
     ≤ length (now (c .before .before .before .before .before .args .plan))
 ends c = read-fits _ _ (c .before .size .given .0 .0) (c .before .size .given .0 .1 .0) (read-head c)
 
-split-head-requires : tie.Need-split-head-requires
-split-head-requires c κs = search needs
-
-enum-known-size : tie.Need-enum-known-size
-enum-known-size c = search needs
-
 add-start : tie.Need-add-start
 add-start c = omega (arith, ends c)
 
 add-end : tie.Need-add-end
 add-end c = omega (arith, ends c)
 
-sub-result : tie.Need-sub-result
-sub-result c = search needs
-
-part-result-start : tie.Need-part-result-start
-part-result-start c = search needs
-
 part-result-end : tie.Need-part-result-end
 part-result-end c = omega (arith, ends c)
-
-enum-told : tie.Need-enum-told
-enum-told c = search needs
-
-slice-aggregate-result : tie.Need-slice-aggregate-result
-slice-aggregate-result c = search needs
 
 returns : tie.Need-returns
 unfolding valueAt
@@ -71,14 +53,14 @@ pub field-value-spec : {M : Type 1} → statement M
 field-value-spec =
     tie.close
     (tie.spec
-    split-head-requires
-    enum-known-size
+    (λ c κs. search needs)
+    (λ c. search needs)
     add-start
     add-end
-    sub-result
-    part-result-start
+    (λ c. search needs)
+    (λ c. search needs)
     part-result-end
-    enum-told
-    slice-aggregate-result
+    (λ c. search needs)
+    (λ c. search needs)
     returns
     returns-2)

@@ -12,27 +12,12 @@ use Rattle.plan.proofs.split.split_head.Tie as tie
 returns : tie.Need-returns
 returns c = sym (head-cut _ _ (not-whole _ _ (omega arith)))
 
-sub-left : tie.Need-sub-left
-sub-left c = search needs
-
 returns-2 : tie.Need-returns-2
 returns-2 c = sym (head-cut _ _ (not-whole _ _ (omega arith)))
-
-add-be16 : tie.Need-add-be16
-add-be16 c = search needs
-
-be16-requires : tie.Need-be16-requires
-be16-requires c κs = search needs
-
-cast-size : tie.Need-cast-size
-cast-size c = search needs
 
 returns-3 : tie.Need-returns-3
 unfolding sizeAt
 returns-3 c = sym (head-cut _ _ (not-whole _ _ (omega arith)))
-
-shared-slice-read-t9 : tie.Need-shared-slice-read-t9
-shared-slice-read-t9 c = search needs
 
 returns-4 : tie.Need-returns-4
 unfolding sizeAt
@@ -46,11 +31,11 @@ split-head-spec =
     tie.close
     (tie.spec
     returns
-    sub-left
+    (λ c. search needs)
     returns-2
-    add-be16
-    be16-requires
-    cast-size
+    (λ c. search needs)
+    (λ c κs. search needs)
+    (λ c. search needs)
     returns-3
-    shared-slice-read-t9
+    (λ c. search needs)
     returns-4)

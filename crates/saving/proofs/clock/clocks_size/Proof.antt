@@ -4,17 +4,11 @@ use borrow.Author.Needs.{needs}
 use Rattle.saving.proofs.clock.clocks_size.Statement.{statement}
 use Rattle.saving.proofs.clock.clocks_size.Tie as tie
 
-clocks-equal-requires : tie.Need-clocks-equal-requires
-clocks-equal-requires c κs = search needs
-
 returns : tie.Need-returns
 returns c = rw (sym (c .before .clocks-equal .ensures) ∙ c .if1 .taken)
-
-add-result : tie.Need-add-result
-add-result c = search needs
 
 returns-2 : tie.Need-returns-2
 returns-2 c = rw (sym (c .before .clocks-equal .ensures) ∙ c .if1 .left)
 
 pub clocks-size-spec : {M : Type 1} → statement M
-clocks-size-spec = tie.close (tie.spec clocks-equal-requires returns add-result returns-2)
+clocks-size-spec = tie.close (tie.spec (λ c κs. search needs) returns (λ c. search needs) returns-2)

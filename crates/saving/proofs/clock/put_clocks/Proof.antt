@@ -19,19 +19,10 @@ plan s = columns (clockOf (s .args .clock)) [] [] [] [] [] [] [] [] []
 abbrev part : tie.Start → Part
 part s = clock (clockOf (s .args .clock))
 
-clocks-equal-requires : tie.Need-clocks-equal-requires
-clocks-equal-requires c κs = search needs
-
 returns : tie.Need-returns
 returns c =
     let s = c .before .before .before in
     test-none (part s) (now (s .args .out)) (not (clocksEqual (plan s))) (ap not (sym (c .before .clocks-equal .ensures) ∙ c .if1 .taken))
-
-put-clock-requires : tie.Need-put-clock-requires
-put-clock-requires c κs = search needs
-
-same-length : tie.Need-same-length
-same-length c = search needs
 
 returns-2 : tie.Need-returns-2
 returns-2 c =
@@ -42,4 +33,4 @@ returns-2 c =
 
 pub put-clocks-spec : {M : Type 1} → statement M
 put-clocks-spec =
-    tie.close (tie.spec clocks-equal-requires returns put-clock-requires same-length returns-2)
+    tie.close (tie.spec (λ c κs. search needs) returns (λ c κs. search needs) (λ c. search needs) returns-2)

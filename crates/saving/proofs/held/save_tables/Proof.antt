@@ -43,9 +43,6 @@ needed c = c .saved-size .ensures ∙ size-needed (plan (begin c))
 room : (c : tie.Else2) → c .before .before .saved-size .result ≤ length (given (begin (c .before .before)))
 room c = leb-true _ _ (sym (c .before .has-room .ensures) ∙ not-false _ (c .if2 .left))
 
-valid-tables-requires : tie.Need-valid-tables-requires
-valid-tables-requires c κs = search needs
-
 returns : tie.Need-returns
 returns c =
     let s = start (c .before) in
@@ -53,9 +50,6 @@ returns c =
 
 saved-size-requires : tie.Need-saved-size-requires
 saved-size-requires c κs = valid-range (plan (start (c .before))) (valid c)
-
-has-room-requires : tie.Need-has-room-requires
-has-room-requires c κs = tt
 
 returns-2 : tie.Need-returns-2
 returns-2 c =
@@ -70,9 +64,6 @@ put-fields-requires c κs =
     let s = begin at in
     (valid-range (plan s) (valid (at .before)), omega (arith, needed at, room (c .before)))
 
-same-length : tie.Need-same-length
-same-length c = search needs
-
 returns-3 : tie.Need-returns-3
 returns-3 c =
     let put = c .before .before in
@@ -85,11 +76,11 @@ pub save-tables-spec : {M : Type 1} → statement M
 save-tables-spec =
     tie.close
     (tie.spec
-    valid-tables-requires
+    (λ c κs. search needs)
     returns
     saved-size-requires
-    has-room-requires
+    (λ c κs. tt)
     returns-2
     put-fields-requires
-    same-length
+    (λ c. search needs)
     returns-3)

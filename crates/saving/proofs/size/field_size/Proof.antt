@@ -8,11 +8,8 @@ use Rattle.saving.proofs.size.field_size.Tie as tie
 returns : tie.Need-returns
 returns c = rw (le-ltb 0 (c .before .args .n) (omega arith))
 
-add-result : tie.Need-add-result
-add-result c = search needs
-
 returns-2 : tie.Need-returns-2
 returns-2 c = rw (lt-ltb 0 (c .before .args .n) (omega arith))
 
 pub field-size-spec : {M : Type 1} → statement M
-field-size-spec = tie.close (tie.spec returns add-result returns-2)
+field-size-spec = tie.close (tie.spec returns (λ c. search needs) returns-2)

@@ -29,20 +29,11 @@ few-hops c = c .before .before .pre .1 .hops-most (c .before .before .args .slot
 few-bytes : (c : tie.After-enum-told3) → getD (c .before .before .args .extras .now) (c .before .before .args .slot) 0 ≤ maxExtra
 few-bytes c = c .before .before .pre .1 .extra-most (c .before .before .args .slot) (extra-below c)
 
-enum-told : tie.Need-enum-told
-enum-told c = search needs
-
 mul-field-size : tie.Need-mul-field-size
 mul-field-size c = omega (arith, port-below c)
 
 element-copy-out-field-size : tie.Need-element-copy-out-field-size
 element-copy-out-field-size c = omega (arith, port-below c)
-
-field-size-requires : tie.Need-field-size-requires
-field-size-requires c κs = search needs
-
-enum-told-2 : tie.Need-enum-told-2
-enum-told-2 c = search needs
 
 mul-field-size-2 : tie.Need-mul-field-size-2
 mul-field-size-2 c = omega (arith, flow-below c)
@@ -65,29 +56,17 @@ add-field-size c = omega (arith, few-hops (c .before .before))
 field-size-requires-2 : tie.Need-field-size-requires-2
 field-size-requires-2 c κs = omega (arith, few-hops (c .before .before))
 
-enum-told-3 : tie.Need-enum-told-3
-enum-told-3 c = search needs
-
 element-copy-out-field-size-4 : tie.Need-element-copy-out-field-size-4
 element-copy-out-field-size-4 c = omega (arith, extra-below c)
 
 cast-field-size-2 : tie.Need-cast-field-size-2
 cast-field-size-2 c = omega (arith, few-bytes (c .before))
 
-field-size-requires-3 : tie.Need-field-size-requires-3
-field-size-requires-3 c κs = search needs
-
-enum-told-4 : tie.Need-enum-told-4
-enum-told-4 c = search needs
-
 mul-field-size-4 : tie.Need-mul-field-size-4
 mul-field-size-4 c = omega (arith, jitter-below c)
 
 element-copy-out-field-size-5 : tie.Need-element-copy-out-field-size-5
 element-copy-out-field-size-5 c = omega (arith, jitter-below c)
-
-field-size-requires-4 : tie.Need-field-size-requires-4
-field-size-requires-4 c κs = search needs
 
 returns : tie.Need-returns
 returns c = rw (c .before .before .enum-told .given .1) (c .field-size .ensures)
@@ -105,11 +84,11 @@ pub slot-size-spec : {M : Type 1} → statement M
 slot-size-spec =
     tie.close
     (tie.spec
-    enum-told
+    (λ c. search needs)
     mul-field-size
     element-copy-out-field-size
-    field-size-requires
-    enum-told-2
+    (λ c κs. search needs)
+    (λ c. search needs)
     mul-field-size-2
     element-copy-out-field-size-2
     element-copy-out-field-size-3
@@ -117,14 +96,14 @@ slot-size-spec =
     mul-field-size-3
     add-field-size
     field-size-requires-2
-    enum-told-3
+    (λ c. search needs)
     element-copy-out-field-size-4
     cast-field-size-2
-    field-size-requires-3
-    enum-told-4
+    (λ c κs. search needs)
+    (λ c. search needs)
     mul-field-size-4
     element-copy-out-field-size-5
-    field-size-requires-4
+    (λ c κs. search needs)
     returns
     returns-2
     returns-3

@@ -38,9 +38,6 @@ small c =
     let i = c .before .loop .slot in
     omega (arith, c .before .loop .inv .1, below c, slots-few k, sumTo-most i (slotSize k (plan s)) mostSize (λ j l. slot-most k (plan s) j (s .pre) (omega (arith, below c))))
 
-slots-requires : tie.Need-slots-requires Inv-loop μ-loop
-slots-requires c κs = tt
-
 loop-holds : tie.Need-loop-holds Inv-loop μ-loop
 unfolding sumTo
 loop-holds c = (omega arith, refl)
@@ -53,12 +50,6 @@ add-size c =
     let at = c .before in
     let s = at .before .before .before in
     omega (arith, small at, c .slot-size .ensures, slot-most (s .args .kind) (plan s) (at .before .loop .slot) (s .pre) (below at))
-
-add-slot : tie.Need-add-slot Inv-loop μ-loop
-add-slot c = search needs
-
-loop-less : tie.Need-loop-less Inv-loop μ-loop
-loop-less c = search needs
 
 loop-again : tie.Need-loop-again Inv-loop μ-loop
 loop-again c =
@@ -79,11 +70,11 @@ slots-size-spec =
     (tie.spec
     Inv-loop
     μ-loop
-    slots-requires
+    (λ c κs. tt)
     loop-holds
     slot-size-requires
     add-size
-    add-slot
-    loop-less
+    (λ c. search needs)
+    (λ c. search needs)
     loop-again
     returns)

@@ -26,28 +26,10 @@ part s =
     let q = s .args .slot in
     extraPart p q
 
-element-copy-out-bytes : tie.Need-element-copy-out-bytes
-element-copy-out-bytes c = search needs
-
 returns : tie.Need-returns
 returns c =
     let s = c .before .before .before in
     slot-none (part s) (now (s .args .out)) (extraOf (plan s) (s .args .slot)) (omega arith)
-
-add-put-extra : tie.Need-add-put-extra
-add-put-extra c = search needs
-
-cast-put-extra : tie.Need-cast-put-extra
-cast-put-extra c = search needs
-
-cast-put-extra-2 : tie.Need-cast-put-extra-2
-cast-put-extra-2 c = search needs
-
-put-extra-requires : tie.Need-put-extra-requires
-put-extra-requires c κs = search needs
-
-same-length : tie.Need-same-length
-same-length c = search needs
 
 returns-2 : tie.Need-returns-2
 returns-2 c =
@@ -63,11 +45,11 @@ pub put-extra-slot-spec : {M : Type 1} → statement M
 put-extra-slot-spec =
     tie.close
     (tie.spec
-    element-copy-out-bytes
+    (λ c. search needs)
     returns
-    add-put-extra
-    cast-put-extra
-    cast-put-extra-2
-    put-extra-requires
-    same-length
+    (λ c. search needs)
+    (λ c. search needs)
+    (λ c. search needs)
+    (λ c κs. search needs)
+    (λ c. search needs)
     returns-2)

@@ -26,58 +26,10 @@ part s =
     let f = s .args .slot in
     flowPart p f
 
-mul-period : tie.Need-mul-period
-mul-period c = search needs
-
-element-copy-out-period : tie.Need-element-copy-out-period
-element-copy-out-period c = search needs
-
 returns : tie.Need-returns
 returns c =
     let s = c .before .before .before in
     slot-none (part s) (now (s .args .out)) (periodOf (plan s) (s .args .slot)) (omega arith)
-
-mul-base : tie.Need-mul-base
-mul-base c = search needs
-
-element-copy-out-route-end : tie.Need-element-copy-out-route-end
-element-copy-out-route-end c = search needs
-
-route-end-requires : tie.Need-route-end-requires
-route-end-requires c κs = search needs
-
-add-put-flow : tie.Need-add-put-flow
-add-put-flow c = search needs
-
-cast-put-flow : tie.Need-cast-put-flow
-cast-put-flow c = search needs
-
-mul-put-flow : tie.Need-mul-put-flow
-mul-put-flow c = search needs
-
-element-copy-out-put-flow : tie.Need-element-copy-out-put-flow
-element-copy-out-put-flow c = search needs
-
-mul-put-flow-2 : tie.Need-mul-put-flow-2
-mul-put-flow-2 c = search needs
-
-element-copy-out-put-flow-2 : tie.Need-element-copy-out-put-flow-2
-element-copy-out-put-flow-2 c = search needs
-
-sub-put-flow : tie.Need-sub-put-flow
-sub-put-flow c = search needs
-
-part-put-flow-start : tie.Need-part-put-flow-start
-part-put-flow-start c = search needs
-
-part-put-flow-end : tie.Need-part-put-flow-end
-part-put-flow-end c = search needs
-
-put-flow-requires : tie.Need-put-flow-requires
-put-flow-requires c κs = search needs
-
-same-length : tie.Need-same-length
-same-length c = search needs
 
 returns-2 : tie.Need-returns-2
 returns-2 c =
@@ -98,21 +50,21 @@ pub put-flow-slot-spec : {M : Type 1} → statement M
 put-flow-slot-spec =
     tie.close
     (tie.spec
-    mul-period
-    element-copy-out-period
+    (λ c. search needs)
+    (λ c. search needs)
     returns
-    mul-base
-    element-copy-out-route-end
-    route-end-requires
-    add-put-flow
-    cast-put-flow
-    mul-put-flow
-    element-copy-out-put-flow
-    mul-put-flow-2
-    element-copy-out-put-flow-2
-    sub-put-flow
-    part-put-flow-start
-    part-put-flow-end
-    put-flow-requires
-    same-length
+    (λ c. search needs)
+    (λ c. search needs)
+    (λ c κs. search needs)
+    (λ c. search needs)
+    (λ c. search needs)
+    (λ c. search needs)
+    (λ c. search needs)
+    (λ c. search needs)
+    (λ c. search needs)
+    (λ c. search needs)
+    (λ c. search needs)
+    (λ c. search needs)
+    (λ c κs. search needs)
+    (λ c. search needs)
     returns-2)

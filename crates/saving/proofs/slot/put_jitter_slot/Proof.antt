@@ -26,28 +26,10 @@ part s =
     let q = s .args .slot in
     jitterPart p q
 
-mul-ns : tie.Need-mul-ns
-mul-ns c = search needs
-
-element-copy-out-ns : tie.Need-element-copy-out-ns
-element-copy-out-ns c = search needs
-
 returns : tie.Need-returns
 returns c =
     let s = c .before .before .before in
     slot-none (part s) (now (s .args .out)) (jitterOf (plan s) (s .args .slot)) (omega arith)
-
-add-put-jitter : tie.Need-add-put-jitter
-add-put-jitter c = search needs
-
-cast-put-jitter : tie.Need-cast-put-jitter
-cast-put-jitter c = search needs
-
-put-jitter-requires : tie.Need-put-jitter-requires
-put-jitter-requires c κs = search needs
-
-same-length : tie.Need-same-length
-same-length c = search needs
 
 returns-2 : tie.Need-returns-2
 returns-2 c =
@@ -63,11 +45,11 @@ pub put-jitter-slot-spec : {M : Type 1} → statement M
 put-jitter-slot-spec =
     tie.close
     (tie.spec
-    mul-ns
-    element-copy-out-ns
+    (λ c. search needs)
+    (λ c. search needs)
     returns
-    add-put-jitter
-    cast-put-jitter
-    put-jitter-requires
-    same-length
+    (λ c. search needs)
+    (λ c. search needs)
+    (λ c κs. search needs)
+    (λ c. search needs)
     returns-2)

@@ -26,34 +26,10 @@ part s =
     let q = s .args .slot in
     portPart p q
 
-mul-rate : tie.Need-mul-rate
-mul-rate c = search needs
-
-element-copy-out-rate : tie.Need-element-copy-out-rate
-element-copy-out-rate c = search needs
-
 returns : tie.Need-returns
 returns c =
     let s = c .before .before .before in
     slot-none (part s) (now (s .args .out)) (rateOf (plan s) (s .args .slot)) (omega arith)
-
-add-put-port : tie.Need-add-put-port
-add-put-port c = search needs
-
-cast-put-port : tie.Need-cast-put-port
-cast-put-port c = search needs
-
-mul-put-port : tie.Need-mul-put-port
-mul-put-port c = search needs
-
-element-copy-out-put-port : tie.Need-element-copy-out-put-port
-element-copy-out-put-port c = search needs
-
-put-port-requires : tie.Need-put-port-requires
-put-port-requires c κs = search needs
-
-same-length : tie.Need-same-length
-same-length c = search needs
 
 returns-2 : tie.Need-returns-2
 returns-2 c =
@@ -69,13 +45,13 @@ pub put-port-slot-spec : {M : Type 1} → statement M
 put-port-slot-spec =
     tie.close
     (tie.spec
-    mul-rate
-    element-copy-out-rate
+    (λ c. search needs)
+    (λ c. search needs)
     returns
-    add-put-port
-    cast-put-port
-    mul-put-port
-    element-copy-out-put-port
-    put-port-requires
-    same-length
+    (λ c. search needs)
+    (λ c. search needs)
+    (λ c. search needs)
+    (λ c. search needs)
+    (λ c κs. search needs)
+    (λ c. search needs)
     returns-2)

@@ -10,16 +10,10 @@ use Rattle.saving.proofs.slots.put_slot.Tie as tie
 abbrev start : tie.After-slice-known → tie.Start
 start c = c .before
 
-enum-told : tie.Need-enum-told
-enum-told c = search needs
-
 put-port-slot-requires : tie.Need-put-port-slot-requires
 put-port-slot-requires c κs =
     let s = start (c .before .before .before) in
     slots-same (s .args .slot) (c .before .enum-told .given .1) (s .pre .0)
-
-enum-told-2 : tie.Need-enum-told-2
-enum-told-2 c = search needs
 
 put-flow-slot-requires : tie.Need-put-flow-slot-requires
 put-flow-slot-requires c κs =
@@ -27,43 +21,25 @@ put-flow-slot-requires c κs =
     let below : s .args .slot < flowSlots = slots-same (s .args .slot) (c .before .enum-told2 .given .1) (s .pre .0) in
     (below, s .pre .1 .hops-most (s .args .slot) below)
 
-enum-told-3 : tie.Need-enum-told-3
-enum-told-3 c = search needs
-
 put-extra-slot-requires : tie.Need-put-extra-slot-requires
 put-extra-slot-requires c κs =
     let s = start (c .before .before .before) in
     let below : s .args .slot < portSlots = slots-same (s .args .slot) (c .before .enum-told3 .given .1) (s .pre .0) in
     (below, s .pre .1 .extra-most (s .args .slot) below)
 
-enum-told-4 : tie.Need-enum-told-4
-enum-told-4 c = search needs
-
 put-jitter-slot-requires : tie.Need-put-jitter-slot-requires
 put-jitter-slot-requires c κs =
     let s = start (c .before .before .before) in
     slots-same (s .args .slot) (c .before .enum-told4 .given .1) (s .pre .0)
 
-same-length : tie.Need-same-length
-same-length c = search needs
-
 returns : tie.Need-returns
 returns c = rw (c .before .before .before .before .enum-told .given .1) (c .before .before .put-port-slot .ensures)
-
-same-length-2 : tie.Need-same-length-2
-same-length-2 c = search needs
 
 returns-2 : tie.Need-returns-2
 returns-2 c = rw (c .before .before .before .before .enum-told2 .given .1) (c .before .before .put-flow-slot .ensures)
 
-same-length-3 : tie.Need-same-length-3
-same-length-3 c = search needs
-
 returns-3 : tie.Need-returns-3
 returns-3 c = rw (c .before .before .before .before .enum-told3 .given .1) (c .before .before .put-extra-slot .ensures)
-
-same-length-4 : tie.Need-same-length-4
-same-length-4 c = search needs
 
 returns-4 : tie.Need-returns-4
 returns-4 c = rw (c .before .before .before .before .enum-told4 .given .1) (c .before .before .put-jitter-slot .ensures)
@@ -72,19 +48,19 @@ pub put-slot-spec : {M : Type 1} → statement M
 put-slot-spec =
     tie.close
     (tie.spec
-    enum-told
+    (λ c. search needs)
     put-port-slot-requires
-    enum-told-2
+    (λ c. search needs)
     put-flow-slot-requires
-    enum-told-3
+    (λ c. search needs)
     put-extra-slot-requires
-    enum-told-4
+    (λ c. search needs)
     put-jitter-slot-requires
-    same-length
+    (λ c. search needs)
     returns
-    same-length-2
+    (λ c. search needs)
     returns-2
-    same-length-3
+    (λ c. search needs)
     returns-3
-    same-length-4
+    (λ c. search needs)
     returns-4)

@@ -65,9 +65,6 @@ module _ (c : tie.After-slot-size Inv-loop μ-loop) where
       ∙ slot-columns (kind turn) (plan (begin turn)) (slot turn)
       ∙ sym (slot-length (kind turn) (plan (begin turn)) (slot turn))
 
-slots-requires : tie.Need-slots-requires Inv-loop μ-loop
-slots-requires c κs = tt
-
 loop-holds : tie.Need-loop-holds Inv-loop μ-loop
 unfolding collect rowBytes
 loop-holds c = (omega arith, refl, record { size = refl; bytes = refl })
@@ -77,9 +74,6 @@ sub-put-slot c = omega (arith, room c)
 
 part-put-slot-start : tie.Need-part-put-slot-start Inv-loop μ-loop
 part-put-slot-start c = omega (arith, room c)
-
-part-put-slot-end : tie.Need-part-put-slot-end Inv-loop μ-loop
-part-put-slot-end c = search needs
 
 put-slot-requires : tie.Need-put-slot-requires Inv-loop μ-loop
 put-slot-requires c κs = (below (c .before), begin (c .before) .pre .0)
@@ -92,12 +86,6 @@ slot-size-requires c κs =
 add-at : tie.Need-add-at Inv-loop μ-loop
 add-at c = omega (arith, room (turn c), size c, begin (turn c) .good)
 
-add-slot : tie.Need-add-slot Inv-loop μ-loop
-add-slot c = search needs
-
-loop-less : tie.Need-loop-less Inv-loop μ-loop
-loop-less c = search needs
-
 loop-again : tie.Need-loop-again Inv-loop μ-loop
 loop-again c =
     let at = turn c in
@@ -107,9 +95,6 @@ loop-again c =
     let next = puts-next (done at) bs e (at .before .loop .at) (c .slot-size .result) (at .before .loop .inv .2) (room at) (size c) (c .before .before .before .put-slot .ensures) in
     let all = collect-next (slot at) (partsOf (kind at) p) in
     (omega arith, ap length (next .bytes) ∙ over-length (done at ++ bs) e (omega (arith, length-append (done at) bs, at .before .loop .inv .2 .size, room at)), rw all next)
-
-same-length : tie.Need-same-length Inv-loop μ-loop
-same-length c = search needs
 
 returns : tie.Need-returns Inv-loop μ-loop
 returns c =
@@ -123,16 +108,16 @@ put-slots-spec =
     (tie.spec
     Inv-loop
     μ-loop
-    slots-requires
+    (λ c κs. tt)
     loop-holds
     sub-put-slot
     part-put-slot-start
-    part-put-slot-end
+    (λ c. search needs)
     put-slot-requires
     slot-size-requires
     add-at
-    add-slot
-    loop-less
+    (λ c. search needs)
+    (λ c. search needs)
     loop-again
-    same-length
+    (λ c. search needs)
     returns)

@@ -103,12 +103,6 @@ module _ (c : tie.After-loop Inv-loop μ-loop) where
   left =
       omega (arith, written .size, length-append (head (begin after)) (kindsBytes kinds whole), parts-length whole, begin after .pre .1, same after)
 
-put-header-requires : tie.Need-put-header-requires Inv-loop μ-loop
-put-header-requires c κs = tt
-
-add-at : tie.Need-add-at Inv-loop μ-loop
-add-at c = search needs
-
 loop-holds : tie.Need-loop-holds Inv-loop μ-loop
 unfolding bytesOf valueOf kindsBytes
 loop-holds c =
@@ -119,17 +113,11 @@ loop-holds c =
       record { size = refl; bytes = headed c ∙ sym (over-again h [] e) ∙ ap (over (h ++ [])) (sym (headed c)) },
     )
 
-kind-at-requires : tie.Need-kind-at-requires Inv-loop μ-loop
-kind-at-requires c κs = tt
-
 sub-put-slots : tie.Need-sub-put-slots Inv-loop μ-loop
 sub-put-slots c = omega (arith, room (c .before), c .before .before .loop .inv .1)
 
 part-put-slots-start : tie.Need-part-put-slots-start Inv-loop μ-loop
 part-put-slots-start c = omega (arith, room (c .before), c .before .before .loop .inv .1)
-
-part-put-slots-end : tie.Need-part-put-slots-end Inv-loop μ-loop
-part-put-slots-end c = search needs
 
 put-slots-requires : tie.Need-put-slots-requires Inv-loop μ-loop
 put-slots-requires c κs =
@@ -144,12 +132,6 @@ add-at-2 c =
     let put = c .before .before in
     let at = put .before .before .before in
     omega (arith, room at, put .put-slots .ensures .size, ap length (bytes-here (put .before .before)), same (past at), begin (past at) .good)
-
-add-k : tie.Need-add-k Inv-loop μ-loop
-add-k c = search needs
-
-loop-less : tie.Need-loop-less Inv-loop μ-loop
-loop-less c = search needs
 
 loop-again : tie.Need-loop-again Inv-loop μ-loop
 loop-again c =
@@ -170,15 +152,6 @@ sub-put-clocks c = omega (arith, left c, c .before .loop .inv .1)
 part-put-clocks-start : tie.Need-part-put-clocks-start Inv-loop μ-loop
 part-put-clocks-start c = omega (arith, left c, c .before .loop .inv .1)
 
-part-put-clocks-end : tie.Need-part-put-clocks-end Inv-loop μ-loop
-part-put-clocks-end c = search needs
-
-put-clocks-requires : tie.Need-put-clocks-requires Inv-loop μ-loop
-put-clocks-requires c κs = tt
-
-same-length : tie.Need-same-length Inv-loop μ-loop
-same-length c = search needs
-
 returns : tie.Need-returns Inv-loop μ-loop
 returns c =
     let put = c .before .before in
@@ -197,21 +170,21 @@ put-fields-spec =
     (tie.spec
     Inv-loop
     μ-loop
-    put-header-requires
-    add-at
+    (λ c κs. tt)
+    (λ c. search needs)
     loop-holds
-    kind-at-requires
+    (λ c κs. tt)
     sub-put-slots
     part-put-slots-start
-    part-put-slots-end
+    (λ c. search needs)
     put-slots-requires
     add-at-2
-    add-k
-    loop-less
+    (λ c. search needs)
+    (λ c. search needs)
     loop-again
     sub-put-clocks
     part-put-clocks-start
-    part-put-clocks-end
-    put-clocks-requires
-    same-length
+    (λ c. search needs)
+    (λ c κs. tt)
+    (λ c. search needs)
     returns)

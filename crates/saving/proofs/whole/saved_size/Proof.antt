@@ -47,15 +47,9 @@ kind-size c =
     ∙ size-columns (c .before .kind-at .result) (plan (at .before))
     ∙ ap (λ (kind : Kind). kindSize kind (plan (at .before))) (c .before .kind-at .ensures)
 
-add-size : tie.Need-add-size Inv-loop μ-loop
-add-size c = search needs
-
 loop-holds : tie.Need-loop-holds Inv-loop μ-loop
 unfolding sumTo
 loop-holds c = (omega arith, refl)
-
-kind-at-requires : tie.Need-kind-at-requires Inv-loop μ-loop
-kind-at-requires c κs = tt
 
 slots-size-requires : tie.Need-slots-size-requires Inv-loop μ-loop
 slots-size-requires c κs = c .before .before .before .pre
@@ -65,19 +59,10 @@ add-size-2 c =
     let at = c .before .before .before in
     omega (arith, small at, kind-size c, kind-most (kindAt (at .loop .k)) (plan (at .before)) (at .before .pre))
 
-add-k : tie.Need-add-k Inv-loop μ-loop
-add-k c = search needs
-
-loop-less : tie.Need-loop-less Inv-loop μ-loop
-loop-less c = search needs
-
 loop-again : tie.Need-loop-again Inv-loop μ-loop
 loop-again c =
     let at = c .before .before .before in
     (omega arith, omega (arith, at .loop .inv .1, kind-size c, sum-next (at .loop .k) (λ i. kindSize (kindAt i) (plan (at .before)))))
-
-clocks-size-requires : tie.Need-clocks-size-requires Inv-loop μ-loop
-clocks-size-requires c κs = tt
 
 add-result : tie.Need-add-result Inv-loop μ-loop
 add-result c = omega (arith, small (c .before .before), c .clocks-size .ensures, clocks-most (plan (c .before .before .before)))
@@ -95,14 +80,14 @@ saved-size-spec =
     (tie.spec
     Inv-loop
     μ-loop
-    add-size
+    (λ c. search needs)
     loop-holds
-    kind-at-requires
+    (λ c κs. tt)
     slots-size-requires
     add-size-2
-    add-k
-    loop-less
+    (λ c. search needs)
+    (λ c. search needs)
     loop-again
-    clocks-size-requires
+    (λ c κs. tt)
     add-result
     returns)

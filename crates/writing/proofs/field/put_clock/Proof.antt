@@ -13,59 +13,11 @@ use Rattle.writing.specs.laws.Laid.{laid-over, laid-short, lay-next}
 use Rattle.writing.proofs.field.put_clock.Statement.{statement}
 use Rattle.writing.proofs.field.put_clock.Tie as tie
 
-add-if1 : tie.Need-add-if1
-add-if1 c = search needs
-
 returns : tie.Need-returns
 unfolding bytesOf valueOf
 returns c =
     let a = c .before .before .args in
     sym (laid-short (fieldBytes (clock (clockOf (a .numbers)))) (now (a .out)) (omega arith))
-
-cast-put-head : tie.Need-cast-put-head
-cast-put-head c = search needs
-
-put-head-requires : tie.Need-put-head-requires
-put-head-requires c κs = search needs
-
-sub-put4 : tie.Need-sub-put4
-sub-put4 c = search needs
-
-part-put4-start : tie.Need-part-put4-start
-part-put4-start c = search needs
-
-part-put4-end : tie.Need-part-put4-end
-part-put4-end c = search needs
-
-put4-requires : tie.Need-put4-requires
-put4-requires c κs = search needs
-
-sub-put4-2 : tie.Need-sub-put4-2
-sub-put4-2 c = search needs
-
-part-put4-start-2 : tie.Need-part-put4-start-2
-part-put4-start-2 c = search needs
-
-part-put4-end-2 : tie.Need-part-put4-end-2
-part-put4-end-2 c = search needs
-
-put4-requires-2 : tie.Need-put4-requires-2
-put4-requires-2 c κs = search needs
-
-sub-put4-3 : tie.Need-sub-put4-3
-sub-put4-3 c = search needs
-
-part-put4-start-3 : tie.Need-part-put4-start-3
-part-put4-start-3 c = search needs
-
-part-put4-end-3 : tie.Need-part-put4-end-3
-part-put4-end-3 c = search needs
-
-put4-requires-3 : tie.Need-put4-requires-3
-put4-requires-3 c κs = search needs
-
-same-length : tie.Need-same-length
-same-length c = search needs
 
 returns-2 : tie.Need-returns-2
 unfolding bytesOf valueOf
@@ -87,21 +39,21 @@ pub put-clock-spec : {M : Type 1} → statement M
 put-clock-spec =
     tie.close
     (tie.spec
-    add-if1
+    (λ c. search needs)
     returns
-    cast-put-head
-    put-head-requires
-    sub-put4
-    part-put4-start
-    part-put4-end
-    put4-requires
-    sub-put4-2
-    part-put4-start-2
-    part-put4-end-2
-    put4-requires-2
-    sub-put4-3
-    part-put4-start-3
-    part-put4-end-3
-    put4-requires-3
-    same-length
+    (λ c. search needs)
+    (λ c κs. search needs)
+    (λ c. search needs)
+    (λ c. search needs)
+    (λ c. search needs)
+    (λ c κs. search needs)
+    (λ c. search needs)
+    (λ c. search needs)
+    (λ c. search needs)
+    (λ c κs. search needs)
+    (λ c. search needs)
+    (λ c. search needs)
+    (λ c. search needs)
+    (λ c κs. search needs)
+    (λ c. search needs)
     returns-2)

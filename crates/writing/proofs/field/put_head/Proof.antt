@@ -15,24 +15,6 @@ returns c =
     let a = c .before .before .args in
     sym (laid-short (headBytes (a .tag) (a .size)) (now (a .out)) (omega arith))
 
-put1-requires : tie.Need-put1-requires
-put1-requires c κs = search needs
-
-sub-put2 : tie.Need-sub-put2
-sub-put2 c = search needs
-
-part-put2-start : tie.Need-part-put2-start
-part-put2-start c = search needs
-
-part-put2-end : tie.Need-part-put2-end
-part-put2-end c = search needs
-
-put2-requires : tie.Need-put2-requires
-put2-requires c κs = search needs
-
-same-length : tie.Need-same-length
-same-length c = search needs
-
 returns-2 : tie.Need-returns-2
 returns-2 c =
     let first = c .before .before in
@@ -49,10 +31,10 @@ put-head-spec =
     tie.close
     (tie.spec
     returns
-    put1-requires
-    sub-put2
-    part-put2-start
-    part-put2-end
-    put2-requires
-    same-length
+    (λ c κs. search needs)
+    (λ c. search needs)
+    (λ c. search needs)
+    (λ c. search needs)
+    (λ c κs. search needs)
+    (λ c. search needs)
     returns-2)

@@ -12,59 +12,11 @@ use Rattle.writing.specs.laws.Laid.{laid-over, laid-short, lay-next}
 use Rattle.writing.proofs.field.put_port.Statement.{statement}
 use Rattle.writing.proofs.field.put_port.Tie as tie
 
-add-if1 : tie.Need-add-if1
-add-if1 c = search needs
-
 returns : tie.Need-returns
 unfolding bytesOf valueOf
 returns c =
     let a = c .before .before .args in
     sym (laid-short (fieldBytes (port (a .number) (a .rate) (a .blocking))) (now (a .out)) (omega arith))
-
-cast-put-head : tie.Need-cast-put-head
-cast-put-head c = search needs
-
-put-head-requires : tie.Need-put-head-requires
-put-head-requires c κs = search needs
-
-sub-put2 : tie.Need-sub-put2
-sub-put2 c = search needs
-
-part-put2-start : tie.Need-part-put2-start
-part-put2-start c = search needs
-
-part-put2-end : tie.Need-part-put2-end
-part-put2-end c = search needs
-
-put2-requires : tie.Need-put2-requires
-put2-requires c κs = search needs
-
-sub-put4 : tie.Need-sub-put4
-sub-put4 c = search needs
-
-part-put4-start : tie.Need-part-put4-start
-part-put4-start c = search needs
-
-part-put4-end : tie.Need-part-put4-end
-part-put4-end c = search needs
-
-put4-requires : tie.Need-put4-requires
-put4-requires c κs = search needs
-
-sub-put2-2 : tie.Need-sub-put2-2
-sub-put2-2 c = search needs
-
-part-put2-start-2 : tie.Need-part-put2-start-2
-part-put2-start-2 c = search needs
-
-part-put2-end-2 : tie.Need-part-put2-end-2
-part-put2-end-2 c = search needs
-
-put2-requires-2 : tie.Need-put2-requires-2
-put2-requires-2 c κs = search needs
-
-same-length : tie.Need-same-length
-same-length c = search needs
 
 returns-2 : tie.Need-returns-2
 unfolding bytesOf valueOf
@@ -86,21 +38,21 @@ pub put-port-spec : {M : Type 1} → statement M
 put-port-spec =
     tie.close
     (tie.spec
-    add-if1
+    (λ c. search needs)
     returns
-    cast-put-head
-    put-head-requires
-    sub-put2
-    part-put2-start
-    part-put2-end
-    put2-requires
-    sub-put4
-    part-put4-start
-    part-put4-end
-    put4-requires
-    sub-put2-2
-    part-put2-start-2
-    part-put2-end-2
-    put2-requires-2
-    same-length
+    (λ c. search needs)
+    (λ c κs. search needs)
+    (λ c. search needs)
+    (λ c. search needs)
+    (λ c. search needs)
+    (λ c κs. search needs)
+    (λ c. search needs)
+    (λ c. search needs)
+    (λ c. search needs)
+    (λ c κs. search needs)
+    (λ c. search needs)
+    (λ c. search needs)
+    (λ c. search needs)
+    (λ c κs. search needs)
+    (λ c. search needs)
     returns-2)

@@ -22,89 +22,11 @@ returns c =
     let e = now (a .out) in
     sym (ap (λ (bs : List ℕ). laid bs e) (flow-long (a .number) (a .period) (a .count) (a .bytes) (now (a .route)) (omega arith)) ∙ laid-none e)
 
-mul-size : tie.Need-mul-size
-mul-size c = search needs
-
-add-size : tie.Need-add-size
-add-size c = search needs
-
-add-if2 : tie.Need-add-if2
-add-if2 c = search needs
-
 returns-2 : tie.Need-returns-2
 returns-2 c =
     let a = c .before .before .before .before .args in
     let r = now (a .route) in
     sym (laid-short (flowBytes (a .number) (a .period) (a .count) (a .bytes) r) (now (a .out)) (omega (arith, flow-length (a .number) (a .period) (a .count) (a .bytes) r (omega arith))))
-
-cast-put-head : tie.Need-cast-put-head
-cast-put-head c = search needs
-
-put-head-requires : tie.Need-put-head-requires
-put-head-requires c κs = search needs
-
-sub-put2 : tie.Need-sub-put2
-sub-put2 c = search needs
-
-part-put2-start : tie.Need-part-put2-start
-part-put2-start c = search needs
-
-part-put2-end : tie.Need-part-put2-end
-part-put2-end c = search needs
-
-put2-requires : tie.Need-put2-requires
-put2-requires c κs = search needs
-
-sub-put4 : tie.Need-sub-put4
-sub-put4 c = search needs
-
-part-put4-start : tie.Need-part-put4-start
-part-put4-start c = search needs
-
-part-put4-end : tie.Need-part-put4-end
-part-put4-end c = search needs
-
-put4-requires : tie.Need-put4-requires
-put4-requires c κs = search needs
-
-sub-put2-2 : tie.Need-sub-put2-2
-sub-put2-2 c = search needs
-
-part-put2-start-2 : tie.Need-part-put2-start-2
-part-put2-start-2 c = search needs
-
-part-put2-end-2 : tie.Need-part-put2-end-2
-part-put2-end-2 c = search needs
-
-put2-requires-2 : tie.Need-put2-requires-2
-put2-requires-2 c κs = search needs
-
-sub-put2-3 : tie.Need-sub-put2-3
-sub-put2-3 c = search needs
-
-part-put2-start-3 : tie.Need-part-put2-start-3
-part-put2-start-3 c = search needs
-
-part-put2-end-3 : tie.Need-part-put2-end-3
-part-put2-end-3 c = search needs
-
-put2-requires-3 : tie.Need-put2-requires-3
-put2-requires-3 c κs = search needs
-
-sub-put-route : tie.Need-sub-put-route
-sub-put-route c = search needs
-
-part-put-route-start : tie.Need-part-put-route-start
-part-put-route-start c = search needs
-
-part-put-route-end : tie.Need-part-put-route-end
-part-put-route-end c = search needs
-
-put-route-requires : tie.Need-put-route-requires
-put-route-requires c κs = search needs
-
-same-length : tie.Need-same-length
-same-length c = search needs
 
 returns-3 : tie.Need-returns-3
 unfolding bytesOf valueOf
@@ -137,31 +59,31 @@ put-flow-spec =
     tie.close
     (tie.spec
     returns
-    mul-size
-    add-size
-    add-if2
+    (λ c. search needs)
+    (λ c. search needs)
+    (λ c. search needs)
     returns-2
-    cast-put-head
-    put-head-requires
-    sub-put2
-    part-put2-start
-    part-put2-end
-    put2-requires
-    sub-put4
-    part-put4-start
-    part-put4-end
-    put4-requires
-    sub-put2-2
-    part-put2-start-2
-    part-put2-end-2
-    put2-requires-2
-    sub-put2-3
-    part-put2-start-3
-    part-put2-end-3
-    put2-requires-3
-    sub-put-route
-    part-put-route-start
-    part-put-route-end
-    put-route-requires
-    same-length
+    (λ c. search needs)
+    (λ c κs. search needs)
+    (λ c. search needs)
+    (λ c. search needs)
+    (λ c. search needs)
+    (λ c κs. search needs)
+    (λ c. search needs)
+    (λ c. search needs)
+    (λ c. search needs)
+    (λ c κs. search needs)
+    (λ c. search needs)
+    (λ c. search needs)
+    (λ c. search needs)
+    (λ c κs. search needs)
+    (λ c. search needs)
+    (λ c. search needs)
+    (λ c. search needs)
+    (λ c κs. search needs)
+    (λ c. search needs)
+    (λ c. search needs)
+    (λ c. search needs)
+    (λ c κs. search needs)
+    (λ c. search needs)
     returns-3)

@@ -30,32 +30,8 @@ loop-holds : tie.Need-loop-holds Inv-loop μ-loop
 unfolding bytes2s
 loop-holds c = (omega arith, refl, refl)
 
-mul-at : tie.Need-mul-at Inv-loop μ-loop
-mul-at c = search needs
-
-sub-put2 : tie.Need-sub-put2 Inv-loop μ-loop
-sub-put2 c = search needs
-
-part-put2-start : tie.Need-part-put2-start Inv-loop μ-loop
-part-put2-start c = search needs
-
-part-put2-end : tie.Need-part-put2-end Inv-loop μ-loop
-part-put2-end c = search needs
-
-shared-slice-read-put2 : tie.Need-shared-slice-read-put2 Inv-loop μ-loop
-shared-slice-read-put2 c = search needs
-
 cast-put2 : tie.Need-cast-put2 Inv-loop μ-loop
 cast-put2 c = omega (arith, c .shared-slice-known2 .given (c .before .before .before .loop .i))
-
-put2-requires : tie.Need-put2-requires Inv-loop μ-loop
-put2-requires c κs = tt
-
-add-i : tie.Need-add-i Inv-loop μ-loop
-add-i c = search needs
-
-loop-less : tie.Need-loop-less Inv-loop μ-loop
-loop-less c = search needs
 
 loop-again : tie.Need-loop-again Inv-loop μ-loop
 loop-again c =
@@ -69,9 +45,6 @@ loop-again c =
     lay-next (bytes2s (take i r)) (bytes2 (getD r i 0)) e (2 * i) (front-length r i (omega arith)) (at .loop .inv .2) (omega arith) (written .put2 .ensures)
     ∙ ap (λ (bs : List ℕ). over bs e) (sym (route-next r i (omega arith))) in
     (omega arith, ap length is ∙ over-length (bytes2s (take (i + 1) r)) e (omega (arith, front-length r (i + 1) (omega arith))), is)
-
-same-length : tie.Need-same-length Inv-loop μ-loop
-same-length c = search needs
 
 returns-2 : tie.Need-returns-2 Inv-loop μ-loop
 returns-2 c =
@@ -91,15 +64,15 @@ put-route-spec =
     μ-loop
     returns
     loop-holds
-    mul-at
-    sub-put2
-    part-put2-start
-    part-put2-end
-    shared-slice-read-put2
+    (λ c. search needs)
+    (λ c. search needs)
+    (λ c. search needs)
+    (λ c. search needs)
+    (λ c. search needs)
     cast-put2
-    put2-requires
-    add-i
-    loop-less
+    (λ c κs. tt)
+    (λ c. search needs)
+    (λ c. search needs)
     loop-again
-    same-length
+    (λ c. search needs)
     returns-2)

@@ -12,16 +12,10 @@ use Rattle.writing.proofs.number.put1.Tie as tie
 returns : tie.Need-returns
 returns c = sym (laid-short (bytes1 (c .before .args .n)) (now (c .before .args .out)) (omega arith))
 
-slice-write-out : tie.Need-slice-write-out
-slice-write-out c = search needs
-
-same-length : tie.Need-same-length
-same-length c = search needs
-
 returns-2 : tie.Need-returns-2
 returns-2 c =
     let a = c .before .args in
     set-split (now (a .out)) 0 (a .n) (omega arith) ∙ sym (laid-over (bytes1 (a .n)) (now (a .out)) (omega arith))
 
 pub put1-spec : {M : Type 1} → statement M
-put1-spec = tie.close (tie.spec returns slice-write-out same-length returns-2)
+put1-spec = tie.close (tie.spec returns (λ c. search needs) (λ c. search needs) returns-2)

@@ -19,30 +19,6 @@ returns c =
     let a = c .before .before .args in
     sym (laid-short (bytes2 (a .n)) (now (a .out)) (omega arith))
 
-cast-put1 : tie.Need-cast-put1
-cast-put1 c = search needs
-
-put1-requires : tie.Need-put1-requires
-put1-requires c κs = search needs
-
-sub-put1 : tie.Need-sub-put1
-sub-put1 c = search needs
-
-part-put1-start : tie.Need-part-put1-start
-part-put1-start c = search needs
-
-part-put1-end : tie.Need-part-put1-end
-part-put1-end c = search needs
-
-cast-put1-2 : tie.Need-cast-put1-2
-cast-put1-2 c = search needs
-
-put1-requires-2 : tie.Need-put1-requires-2
-put1-requires-2 c κs = search needs
-
-same-length : tie.Need-same-length
-same-length c = search needs
-
 returns-2 : tie.Need-returns-2
 returns-2 c =
     let second = c .before .before in
@@ -58,12 +34,12 @@ put2-spec =
     tie.close
     (tie.spec
     returns
-    cast-put1
-    put1-requires
-    sub-put1
-    part-put1-start
-    part-put1-end
-    cast-put1-2
-    put1-requires-2
-    same-length
+    (λ c. search needs)
+    (λ c κs. search needs)
+    (λ c. search needs)
+    (λ c. search needs)
+    (λ c. search needs)
+    (λ c. search needs)
+    (λ c κs. search needs)
+    (λ c. search needs)
     returns-2)

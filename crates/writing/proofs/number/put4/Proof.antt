@@ -18,30 +18,6 @@ returns c =
     let a = c .before .before .args in
     sym (laid-short (bytes4 (a .n)) (now (a .out)) (omega arith))
 
-cast-put2 : tie.Need-cast-put2
-cast-put2 c = search needs
-
-put2-requires : tie.Need-put2-requires
-put2-requires c κs = search needs
-
-sub-put2 : tie.Need-sub-put2
-sub-put2 c = search needs
-
-part-put2-start : tie.Need-part-put2-start
-part-put2-start c = search needs
-
-part-put2-end : tie.Need-part-put2-end
-part-put2-end c = search needs
-
-cast-put2-2 : tie.Need-cast-put2-2
-cast-put2-2 c = search needs
-
-put2-requires-2 : tie.Need-put2-requires-2
-put2-requires-2 c κs = search needs
-
-same-length : tie.Need-same-length
-same-length c = search needs
-
 returns-2 : tie.Need-returns-2
 returns-2 c =
     let second = c .before .before in
@@ -57,12 +33,12 @@ put4-spec =
     tie.close
     (tie.spec
     returns
-    cast-put2
-    put2-requires
-    sub-put2
-    part-put2-start
-    part-put2-end
-    cast-put2-2
-    put2-requires-2
-    same-length
+    (λ c. search needs)
+    (λ c κs. search needs)
+    (λ c. search needs)
+    (λ c. search needs)
+    (λ c. search needs)
+    (λ c. search needs)
+    (λ c κs. search needs)
+    (λ c. search needs)
     returns-2)
