@@ -26,9 +26,12 @@ extern "C" {
 /* How far clocks differ: drift in parts per million, timing jitter and synchronization error in ns. */
 typedef struct { uint32_t drift, timing_jitter, sync_error; } cp_clock;
 
-/* Plain data, 7,892 bytes. Keep it as the last call left it; do not look inside. */
+/* Places in the table of routes from one flow's route to the next. */
+#define CP_ROUTE_STRIDE 24
+
+/* Plain data, 9,944 bytes. Keep it as the last call left it; do not look inside. */
 typedef struct {
-  uint32_t guard, top;
+  uint32_t form, guard, top;
   cp_clock clock;
   uint32_t rates[64];
   uint16_t blockings[64];
@@ -36,7 +39,7 @@ typedef struct {
   uint32_t periods[256];
   uint16_t counts[256], lengths[256];
   uint32_t jitters[256];
-  uint8_t hops[256], routes[4096];
+  uint8_t hops[256], routes[256 * CP_ROUTE_STRIDE];
 } cp_planner;
 
 typedef struct { uint32_t refusal; uint64_t first, second; } cp_answer;

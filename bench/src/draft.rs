@@ -2,7 +2,7 @@
 
 use crate::answers::Planner;
 use crate::bytes::{be16, be32, bit, in_range, ports, repeats, slot_of, FlowSet};
-use crate::jump::{FLOWS, MAX_HOPS};
+use crate::jump::{FLOWS, MAX_HOPS, STRIDE};
 
 pub const FLOW_NUMBERS: usize = 10;
 const MAX_JITTER: u32 = 10_000_000;
@@ -124,7 +124,7 @@ impl<'a> Draft<'a> {
         }
         let slot = slot_of(number);
         let (mut seen, mut repeated) = (0, false);
-        let stored = &mut self.tables.routes[slot * MAX_HOPS..][..hops];
+        let stored = &mut self.tables.routes[slot * STRIDE..][..hops];
         for (stored, port) in stored.iter_mut().zip(ports(route)) {
             if !in_range(port) {
                 return Err(5);

@@ -8,6 +8,7 @@ use crate::valid::valid_plan;
 pub const PORTS: usize = 64;
 pub const FLOWS: usize = 256;
 pub const MAX_HOPS: usize = 16;
+pub use crate::answers::STRIDE;
 
 pub fn wire_bits(length: u16, extra: u8) -> u64 {
     8 * (length as u64 + 20 + extra as u64)
@@ -16,7 +17,7 @@ pub fn wire_bits(length: u16, extra: u8) -> u64 {
 /// Adds a flow's frames, each with the extra bytes of the port, to every port of its route.
 fn add_route<const CHECKED: bool>(planner: &Planner, slot: usize, frames: u64, out: &mut [u64; PORTS]) {
     let length = planner.lengths[slot];
-    let base = slot * MAX_HOPS;
+    let base = slot * STRIDE;
     let route = base..base + planner.hops[slot] as usize;
     if CHECKED {
         for &port in &planner.routes[route] {

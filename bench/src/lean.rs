@@ -2,14 +2,14 @@
 //! crates/questions; and one port's climb, which `least` takes too.
 
 use crate::answers::{Answer, Planner};
-use crate::jump::{fails, need, stretch, window, wire_bits, FLOWS, MAX_HOPS, PORTS};
+use crate::jump::{fails, need, stretch, window, wire_bits, FLOWS, PORTS, STRIDE};
 use crate::valid::valid_plan;
 
 /// The flows that cross a port: bit i of number w for the flow in slot 64 w + i.
 type FlowSet = [u64; FLOWS / 64];
 
 fn route(planner: &Planner, flow: usize) -> &[u8] {
-    &planner.routes[flow * MAX_HOPS..flow * MAX_HOPS + planner.hops[flow] as usize]
+    &planner.routes[flow * STRIDE..flow * STRIDE + planner.hops[flow] as usize]
 }
 
 fn holds(planner: &Planner, flow: usize, slot: usize) -> bool {

@@ -167,7 +167,7 @@ fn measured_reprice(part: &str, planner: &Planner, slot: usize, list: &mut [i64;
     match part {
         "reprice" => ffi::reprice(planner, duration, slot as u64 + 1, u64::from(planner.lengths[slot]), list),
         "slacks" => {
-            for port in &planner.routes[slot * 16..][..usize::from(planner.hops[slot])] {
+            for port in &planner.routes[slot * answers::STRIDE..][..usize::from(planner.hops[slot])] {
                 list[usize::from(*port) - 1] = ffi::slack(planner, u64::from(*port), duration).slack;
             }
             Answer::new(0, 0, 0)

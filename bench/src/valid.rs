@@ -1,7 +1,7 @@
 //! Whether these tables hold a plan that the rules accept, step by step as in crates/tables/src/valid.rt.
 
 use crate::answers::Planner;
-use crate::jump::{FLOWS, MAX_HOPS, PORTS};
+use crate::jump::{FLOWS, MAX_HOPS, PORTS, STRIDE};
 
 fn valid_port(rate: u32, blocking: u16, extra: u8) -> bool {
     if rate == 0 {
@@ -13,7 +13,7 @@ fn valid_port(rate: u32, blocking: u16, extra: u8) -> bool {
 /// Whether each port of a route is in the plan and stands in the route once.
 fn valid_route(planner: &Planner, slot: usize, hops: usize) -> bool {
     let mut seen = [false; PORTS];
-    for &port in &planner.routes[slot * MAX_HOPS..slot * MAX_HOPS + hops] {
+    for &port in &planner.routes[slot * STRIDE..slot * STRIDE + hops] {
         let port = port as usize;
         if port < 1 || PORTS < port || planner.rates[port - 1] == 0 || seen[port - 1] {
             return false;

@@ -3,7 +3,7 @@
 use crate::answers::{Answer, Planner};
 use crate::bytes::HEAD;
 use crate::draft::FLOW_NUMBERS;
-use crate::jump::{FLOWS, MAX_HOPS, PORTS};
+use crate::jump::{FLOWS, PORTS, STRIDE};
 use crate::valid::valid_plan;
 
 const HEADER: usize = HEAD + 8;
@@ -54,7 +54,7 @@ fn put_flow<'a>(planner: &Planner, slot: usize, rest: &'a mut [u8]) -> &'a mut [
     let rest = put(rest, planner.counts[slot].to_be_bytes());
     let rest = put(rest, planner.lengths[slot].to_be_bytes());
     let (route, rest) = rest.split_at_mut(2 * hops);
-    for (bytes, port) in route.chunks_exact_mut(2).zip(&planner.routes[slot * MAX_HOPS..]) {
+    for (bytes, port) in route.chunks_exact_mut(2).zip(&planner.routes[slot * STRIDE..]) {
         bytes.copy_from_slice(&[0, *port]);
     }
     rest

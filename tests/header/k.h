@@ -13,7 +13,7 @@ enum { TOP_AT = 7, PORT_AT = 11, BLOCKER_AT = 20, FLOW_1_AT = 22, FLOW_2_AT = 37
 /* Length of a scratch, 3 numbers more than a search writes. */
 enum { SCRATCH = 67 };
 
-/* What a planner holds after K: port 1 in slot 0, flows 1 and 2 in slots 0 and 1, routes 16 apart. */
+/* What a planner holds after K: port 1 in slot 0, flows 1 and 2 in slots 0 and 1, routes CP_ROUTE_STRIDE apart. */
 static cp_planner planner_of_k(void) {
   cp_planner k;
   memset(&k, 0, sizeof k);
@@ -26,7 +26,7 @@ static cp_planner planner_of_k(void) {
   k.lengths[0] = 230;
   k.lengths[1] = 605;
   k.hops[0] = k.hops[1] = 1;
-  k.routes[0] = k.routes[16] = 1;
+  k.routes[0] = k.routes[CP_ROUTE_STRIDE] = 1;
   return k;
 }
 

@@ -10,7 +10,7 @@
 #include "reprice.h"
 #include "batch.h"
 
-_Static_assert(sizeof(cp_planner) == 7892, "a planner has 7,892 bytes");
+_Static_assert(sizeof(cp_planner) == 9944, "a planner has 9,944 bytes");
 _Static_assert(offsetof(cp_planner, clock) == 8, "clocks come after top");
 _Static_assert(offsetof(cp_planner, extras) == 404, "extra bytes come after the blockers");
 _Static_assert(offsetof(cp_planner, jitters) == 2516, "jitters come after the frame lengths");

@@ -40,7 +40,7 @@ static cp_planner planner_of_long_routes(void) {
     p.rates[port - 1] = 1000;
     p.blockings[port - 1] = port == 64 ? 2000 : 0;
     p.extras[port - 1] = (uint8_t)(port - 49);
-    p.routes[255 * 16 + 64 - port] = (uint8_t)port;
+    p.routes[255 * CP_ROUTE_STRIDE + 64 - port] = (uint8_t)port;
     if (port % 2 == 1) p.routes[(port - 49) / 2] = (uint8_t)port;
   }
   p.periods[0] = 50000;

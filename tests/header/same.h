@@ -26,6 +26,7 @@ static void same_slot(const char *call, const char *table, size_t slot, uint64_t
     same_slot(call, #table, slot, (got).table[slot], (want).table[slot])
 
 static void same_planner(const char *call, cp_planner got, cp_planner want) {
+  same(call, "form", got.form, want.form);
   same(call, "guard", got.guard, want.guard);
   same(call, "top", got.top, want.top);
   same(call, "drift", got.clock.drift, want.clock.drift);

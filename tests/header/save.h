@@ -56,7 +56,7 @@ static void saving(cp_planner k) {
   saves("K with fields of 0", plan, sizeof zeros + sizeof K, K, sizeof K);
   for (size_t length = 0; length <= BUFFER; length += 15) saved("no plan", cp_empty(), length, answer(20, 0, 0), K);
   for (size_t at = 0; at < sizeof k.routes; at++)
-    if (at != 0 && at != 16) k.routes[at] = (uint8_t)(at * 7);
+    if (at != 0 && at != CP_ROUTE_STRIDE) k.routes[at] = (uint8_t)(at * 7);
   saved_as("K, other ports behind its routes", k, K, sizeof K, planner_of_k());
   k.clock.drift = 1001;
   saved("K, drift 1,001", k, BUFFER, answer(20, 0, 0), K);

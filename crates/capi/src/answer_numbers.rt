@@ -65,7 +65,9 @@ fn load_in_c(answer: LoadAnswer) -> AnswerNumbers
 // A load's answer as numbers, beside the planner that it leaves.
 pub(crate) fn outcome_numbers(outcome: LoadOutcome) -> LoadOutcomeNumbers
     ensures { λ r. ⌜
-        (planOf (r .planner) ≡ planOf (outcome .planner)) × (r .answer ≡ loadNumbers (loadOf (outcome .answer)))
+        (planOf (r .planner) ≡ planOf (outcome .planner))
+        × (r .planner .form ≡ outcome .planner .form)
+        × (r .answer ≡ loadNumbers (loadOf (outcome .answer)))
         ⌝ }
 {
     let planner = outcome.planner;

@@ -16,10 +16,11 @@ use planner::Batch;
 use planner::Planner;
 ghost use mathlib.Core.Path.{_≡_};
 ghost use Rattle.cqf.specs.Plan.{noPlan};
+ghost use Rattle.plan.specs.Layout.{formBy};
 ghost use Rattle.plan.specs.Field.{fieldAt, repeats};
 ghost use Rattle.plan_reading.specs.Reading.{loose, strict};
 ghost use Rattle.tables.specs.Tables.{planOf};
-ghost use Rattle.loading.specs.Outcome.{loadAnswer, loadLeaves};
+ghost use Rattle.loading.specs.Outcome.{loadAnswer, loadLeaves, loadForm};
 ghost use Rattle.questions.specs.Outcome.{checkAnswer, slackAnswer, leastAnswer, leastLeaves, marginSafeAnswer, marginSafeLeaves};
 ghost use Rattle.questions.specs.Lean.{leanLeastAnswer, leanLeastLeaves, leanMarginSafeAnswer, leanMarginSafeLeaves};
 ghost use Rattle.questions.specs.FixedPoint.{fixedPointAnswer};
@@ -98,9 +99,9 @@ pub extern "C" fn cp_empty() -> Planner
 
 #[no_mangle]
 pub extern "C" fn cp_field(plan: &[u8], offset: usize) -> FieldReadNumbers
-    ensures { λ r. ⌜ r ≡ fieldNumbers (fieldAt (now (plan .entry)) offset) ⌝ }
+    ensures { λ r. ⌜ r ≡ fieldNumbers (fieldAt (formBy (now (plan .entry))) (now (plan .entry)) offset) ⌝ }
 {
-    field_in_c(plan::read_field(plan, offset))
+    field_in_c(plan::read_field(plan::form_by(plan), plan, offset))
 }
 
 #[no_mangle]
@@ -114,6 +115,7 @@ pub extern "C" fn cp_repeats(value: &[u8]) -> bool
 pub extern "C" fn cp_load(planner: Planner, plan: &[u8]) -> LoadOutcomeNumbers
     ensures { λ r. ⌜
         (planOf (r .planner) ≡ loadLeaves loose (planOf planner) (now (plan .entry)))
+        × (r .planner .form ≡ loadForm loose (planner .form) (now (plan .entry)))
         × (r .answer ≡ loadNumbers (loadAnswer loose (now (plan .entry))))
         ⌝ }
 {
@@ -124,6 +126,7 @@ pub extern "C" fn cp_load(planner: Planner, plan: &[u8]) -> LoadOutcomeNumbers
 pub extern "C" fn cp_load_strict(planner: Planner, plan: &[u8]) -> LoadOutcomeNumbers
     ensures { λ r. ⌜
         (planOf (r .planner) ≡ loadLeaves strict (planOf planner) (now (plan .entry)))
+        × (r .planner .form ≡ loadForm strict (planner .form) (now (plan .entry)))
         × (r .answer ≡ loadNumbers (loadAnswer strict (now (plan .entry))))
         ⌝ }
 {

@@ -28,7 +28,7 @@ bytesRead buffer Input.Failed = []
 -- these bytes loaded loosely into the empty planner, and whether they could be read
 pub record LoadedAs (could : Bool) (bytes : List ℕ) (given : Given) : Type 0 where
   pub told : given .readable ≡ could
-  pub loads : Loads loose noPlan bytes (given .outcome)
+  pub loads : Loads loose noPlan 0 bytes (given .outcome)
 
 -- the bytes that were read into a buffer, loaded
 pub record LoadedFrom (buffer : List ℕ) (given : Given) : Type 0 where

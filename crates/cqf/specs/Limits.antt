@@ -14,9 +14,9 @@ flowSlots = 256
 abbrev pub maxHops : ℕ
 maxHops = 16
 
--- positions in the table of routes from one flow's route to the next
+-- places in the table of routes from one flow's route to the next: no kind of field has a longer route
 abbrev pub routeStride : ℕ
-routeStride = 16
+routeStride = 24
 
 -- the longest top and the periods, in ns; frames in a period; bytes in a frame
 abbrev pub maxTop : ℕ

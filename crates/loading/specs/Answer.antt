@@ -8,7 +8,7 @@ use Rattle.plan.specs.Answer.{faultNumber}
 use Rattle.plan_reading.specs.Reading.{Mode, loose, strict}
 use Rattle.tables.specs.Tables.{planOf}
 use Rattle.answers.specs.Answer.{Answer, result, refusal}
-use Rattle.loading.specs.Outcome.{Fields, loadAnswer, loadLeaves}
+use Rattle.loading.specs.Outcome.{Fields, loadAnswer, loadLeaves, loadForm}
 use Rattle.loading.specs.declared.LoadAnswer.{LoadAnswer}
 use Rattle.loading.specs.declared.LoadOutcome.{LoadOutcome}
 
@@ -21,7 +21,9 @@ abbrev pub modeOf : Bool → Mode
 modeOf true = strict
 modeOf false = loose
 
--- a load of these bytes in this reading by a planner that holds this plan: the plan that it leaves, and its answer
-pub record Loads (mode : Mode) (held : Plan) (bytes : List ℕ) (outcome : LoadOutcome) : Type 0 where
+-- a load of these bytes in this reading by a planner that holds this plan with this form's number: the plan and the form's number
+-- that it leaves, and its answer
+pub record Loads (mode : Mode) (held : Plan) (form : ℕ) (bytes : List ℕ) (outcome : LoadOutcome) : Type 0 where
   pub leaves : planOf (outcome .planner) ≡ loadLeaves mode held bytes
+  pub formed : outcome .planner .form ≡ loadForm mode form bytes
   pub answers : loadOf (outcome .answer) ≡ loadAnswer mode bytes

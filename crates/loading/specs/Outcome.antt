@@ -3,6 +3,7 @@ use Prim.Native.Nat.{ℕ}
 use mathlib.Core.List.{List, [], _∷_}
 use Rattle.answers.specs.Answer.{Answer, result, refusal}
 use Rattle.cqf.specs.Plan.{Plan}
+use Rattle.plan.specs.Layout.{formBy, formNumber}
 use Rattle.plan_reading.specs.Reading.{PlanRead, accepted, rejected, Mode, readAs}
 
 -- the load: the numbers of port and flow fields, or 1 to 9, or 12, with the offset
@@ -27,3 +28,12 @@ loadAnswer mode s = readingAnswer (readAs mode s)
 unfoldable pub loadLeaves : Mode → Plan → List ℕ → Plan
 unfolding readAs
 loadLeaves mode held s = readingLeaves held (readAs mode s)
+
+-- the form's number beside it: that of the bytes read, or the one before
+abbrev pub readingForm : (held read : ℕ) → PlanRead → ℕ
+readingForm held read (accepted p ports flows) = read
+readingForm held read (rejected number offset) = held
+
+unfoldable pub loadForm : Mode → ℕ → List ℕ → ℕ
+unfolding readAs
+loadForm mode held s = readingForm held (formNumber (formBy s)) (readAs mode s)

@@ -7,6 +7,7 @@ use crate::store::store_field;
 use plan::Fault;
 use plan::Field;
 use plan::FieldRead;
+use plan::Form;
 use plan::read::read_field;
 use plan::route::route_bytes;
 use plan::route::route_repeats;
@@ -17,7 +18,7 @@ ghost use Prim.Native.Nat.{_≤_};
 ghost use mathlib.Core.Path.{_≡_};
 ghost use Rattle.plan.specs.Field.{field, fieldAt};
 ghost use Rattle.plan_reading.specs.Reading.{late, stepAt, maxBytes};
-ghost use Rattle.plan.specs.Answer.{fieldOf};
+ghost use Rattle.plan.specs.Answer.{formOf, fieldOf};
 ghost use Rattle.loading.specs.Answer.{modeOf};
 ghost use Rattle.loading.specs.Loading.{draftOf, progressOf};
 
@@ -44,8 +45,9 @@ fn is_late(strict: bool, field: Field, last: usize) -> bool
     key_of(field) < last
 }
 
-// A field that passed the tests 2 to 5: the tests 6, 12 and 7, and the field stored. last is the key of the field in front of it.
+// A field that passed the tests 2 to 5: the tests 6, 12 and 7, and the field stored, in a plan of this form. last is the key of the field in front of it.
 fn take_field(
+    form: Form,
     strict: bool,
     plan: &[u8],
     at: usize,
@@ -65,12 +67,12 @@ fn take_field(
     seen: &mut [u8; KEYS],
 ) -> Progress
     requires { ⌜
-        (totals .ports ≤ maxBytes) × (totals .flows ≤ maxBytes) × (fieldAt (now plan) at ≡ field (fieldOf x) next)
+        (totals .ports ≤ maxBytes) × (totals .flows ≤ maxBytes) × (fieldAt (formOf form) (now plan) at ≡ field (fieldOf x) next)
         ⌝ }
     ensures { λ r. ⌜
         progressOf r (now (rates .exit)) (now (blockings .exit)) (now (extras .exit)) (now (periods .exit))
         (now (counts .exit)) (now (lengths .exit)) (now (jitters .exit)) (now (hops .exit)) (now (routes .exit))
-        (now (seen .exit)) ≡ stepAt (modeOf strict) (now (plan .entry)) at last
+        (now (seen .exit)) ≡ stepAt (formOf form) (modeOf strict) (now (plan .entry)) at last
         (draftOf totals (now (rates .entry)) (now (blockings .entry)) (now (extras .entry)) (now (periods .entry))
         (now (counts .entry)) (now (lengths .entry)) (now (jitters .entry)) (now (hops .entry))
         (now (routes .entry)) (now (seen .entry)))
@@ -118,8 +120,9 @@ fn take_field(
     }
 }
 
-// The field at this offset.
+// The field at this offset of a plan of this form.
 pub(crate) fn step(
+    form: Form,
     strict: bool,
     plan: &[u8],
     at: usize,
@@ -140,14 +143,15 @@ pub(crate) fn step(
     ensures { λ r. ⌜
         progressOf r (now (rates .exit)) (now (blockings .exit)) (now (extras .exit)) (now (periods .exit))
         (now (counts .exit)) (now (lengths .exit)) (now (jitters .exit)) (now (hops .exit)) (now (routes .exit))
-        (now (seen .exit)) ≡ stepAt (modeOf strict) (now (plan .entry)) at last
+        (now (seen .exit)) ≡ stepAt (formOf form) (modeOf strict) (now (plan .entry)) at last
         (draftOf totals (now (rates .entry)) (now (blockings .entry)) (now (extras .entry)) (now (periods .entry))
         (now (counts .entry)) (now (lengths .entry)) (now (jitters .entry)) (now (hops .entry))
         (now (routes .entry)) (now (seen .entry)))
         ⌝ }
 {
-    match read_field(plan, at) {
+    match read_field(form, plan, at) {
         FieldRead::Field { field, next } => take_field(
+            form,
             strict,
             plan,
             at,

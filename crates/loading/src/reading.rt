@@ -12,6 +12,8 @@ use crate::store::KEYS;
 use crate::store::Totals;
 use numbers::clock::Clock;
 use plan::Fault;
+use plan::form_by;
+use plan::form_number;
 use tables::FLOWS;
 use tables::PORTS;
 use tables::Planner;
@@ -72,7 +74,7 @@ fn size_ok(size: usize) -> bool
 // A load in either reading. The plan in these bytes is held in place of the one before, where the rules find no refusal; otherwise the planner is given
 // back as it came. The columns are fresh, and go into the planner once, where the plan is accepted.
 pub fn read_plan(strict: bool, planner: Planner, plan: &[u8]) -> LoadOutcome
-    ensures { λ r. ⌜ Loads (modeOf strict) (planOf planner) (now (plan .entry)) r ⌝ }
+    ensures { λ r. ⌜ Loads (modeOf strict) (planOf planner) (planner .form) (now (plan .entry)) r ⌝ }
 {
     if !size_ok(plan.len()) {
         return LoadOutcome {
@@ -83,6 +85,7 @@ pub fn read_plan(strict: bool, planner: Planner, plan: &[u8]) -> LoadOutcome
             },
         };
     }
+    let form = form_by(plan);
     let mut rates = [0u32; PORTS];
     let mut blockings = [0u16; PORTS];
     let mut extras = [0u8; PORTS];
@@ -108,6 +111,7 @@ pub fn read_plan(strict: bool, planner: Planner, plan: &[u8]) -> LoadOutcome
     let mut at = 0;
     while at < plan.len() {
         match step(
+            form,
             strict,
             plan,
             at,
@@ -143,9 +147,11 @@ pub fn read_plan(strict: bool, planner: Planner, plan: &[u8]) -> LoadOutcome
     }
     let answer = close(plan, totals.ports, totals.flows, &rates, &periods, &seen);
     let clock = totals.clock;
+    let number = form_number(form);
     match answer {
         LoadAnswer::Held { ports: _, flows: _ } => {
             let mut held = planner;
+            held.form = number;
             held.guard = totals.guard;
             held.top = totals.top;
             held.clock = clock;
@@ -172,14 +178,14 @@ pub fn read_plan(strict: bool, planner: Planner, plan: &[u8]) -> LoadOutcome
 
 // The load: fields may stand in any order.
 pub fn load(planner: Planner, plan: &[u8]) -> LoadOutcome
-    ensures { λ r. ⌜ Loads loose (planOf planner) (now (plan .entry)) r ⌝ }
+    ensures { λ r. ⌜ Loads loose (planOf planner) (planner .form) (now (plan .entry)) r ⌝ }
 {
     read_plan(false, planner, plan)
 }
 
 // The strict load: each field stands before all that follow it, by tag and number, or the plan is refused.
 pub fn load_strict(planner: Planner, plan: &[u8]) -> LoadOutcome
-    ensures { λ r. ⌜ Loads strict (planOf planner) (now (plan .entry)) r ⌝ }
+    ensures { λ r. ⌜ Loads strict (planOf planner) (planner .form) (now (plan .entry)) r ⌝ }
 {
     read_plan(true, planner, plan)
 }

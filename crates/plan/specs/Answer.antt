@@ -4,11 +4,12 @@ use mathlib.Core.List.{[], _∷_}
 use Rattle.answers.specs.Refusals.{badSize, truncated, unknownTag, wrongLength, outOfRange, duplicate, repeatedPort, incomplete, notInPlan, outOfOrder}
 use Rattle.plan.specs.declared.Fault.{Fault}
 use Rattle.plan.specs.declared.Fault.the-variants.{Size, Truncated, UnknownTag, WrongLength, OutOfRange, Duplicate, OutOfOrder, RepeatedPort, Incomplete, NotInPlan}
+use Rattle.plan.specs.declared.Form as declaredForm
 use Rattle.plan.specs.declared.Head.{Head}
 use Rattle.plan.specs.declared.Head.the-variants.{Whole, Cut}
 use Rattle.plan.specs.declared.Field as declaredField
 use Rattle.plan.specs.declared.FieldRead as declaredRead
-use Rattle.plan.specs.Layout.{Kind}
+use Rattle.plan.specs.Layout.{Form, older, Kind}
 use Rattle.plan.specs.Field.{HeadRead, head, cut, Field, FieldRead, field, refused}
 
 abbrev pub faultNumber : Fault → ℕ
@@ -22,6 +23,9 @@ faultNumber OutOfOrder = outOfOrder
 faultNumber RepeatedPort = repeatedPort
 faultNumber Incomplete = incomplete
 faultNumber NotInPlan = notInPlan
+
+abbrev pub formOf : declaredForm.Form → Form
+formOf declaredForm.Form.Older = older
 
 abbrev pub headOf : Head → HeadRead
 headOf (Whole tag size) = head tag size

@@ -9,7 +9,7 @@ use Rattle.answers.specs.Refusals.{truncated, unknownTag, wrongLength, outOfRan
 use Rattle.cqf.specs.Bounded.{every, distinct}
 use Rattle.cqf.specs.Limits.{portOk}
 use Rattle.plan.specs.Bytes.{number2, number4, numbers2, headSize, tagAt, sizeAt, wholeAt, valueAt}
-use Rattle.plan.specs.Layout.{Width, two, four, bytesIn, Number, Kind, layout, kinds, numbersSize, hopsAllowed}
+use Rattle.plan.specs.Layout.{Width, two, four, bytesIn, Number, Kind, layout, Form, kinds, numbersSize, hopsAllowed}
 
 -- a field as it is spelled: its kind and its numbers. A route stays in the field's value; hops is how many ports it has.
 pub record Field : Type 0 where
@@ -103,14 +103,15 @@ abbrev pub kindRead : Option Kind → List ℕ → (at next : ℕ) → FieldRead
 kindRead none v at next = refused unknownTag at
 kindRead (some k) v at next = valueIn k v at next
 
-unfoldable pub fieldIn : ℕ → List ℕ → (at next : ℕ) → FieldRead
+-- the field by its tag, in a plan of this form
+unfoldable pub fieldIn : Form → ℕ → List ℕ → (at next : ℕ) → FieldRead
 unfolding kindBy valueIn
-fieldIn tag v at next = kindRead (kindBy kinds tag) v at next
+fieldIn form tag v at next = kindRead (kindBy (kinds form) tag) v at next
 
 -- the field at this offset: test 2 first
-unfoldable pub fieldAt : List ℕ → ℕ → FieldRead
+unfoldable pub fieldAt : Form → List ℕ → ℕ → FieldRead
 unfolding fieldIn wholeAt valueAt sizeAt
-fieldAt s at = unless truncated at (wholeAt s at) (fieldIn (tagAt s at) (valueAt s at) at (at + headSize + sizeAt s at))
+fieldAt form s at = unless truncated at (wholeAt s at) (fieldIn form (tagAt s at) (valueAt s at) at (at + headSize + sizeAt s at))
 
 -- test 7: a port twice in the route of a flow's value
 unfoldable pub repeats : List ℕ → Bool

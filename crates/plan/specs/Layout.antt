@@ -53,9 +53,23 @@ layout Kind.jitter = record { tag = 5; numbers = in2 flowOk ∷ in4 jitterOk ∷
 layout Kind.clock =
     record { tag = 6; numbers = in4 driftOk ∷ in4 timingJitterOk ∷ in4 syncErrorOk ∷ []; numbered = false; mostHops = 0 }
 
--- the kinds that a plan may have
-abbrev pub kinds : List Kind
-kinds = Kind.header ∷ Kind.port ∷ Kind.flow ∷ Kind.extra ∷ Kind.jitter ∷ Kind.clock ∷ []
+-- every kind
+abbrev pub everyKind : List Kind
+everyKind = Kind.header ∷ Kind.port ∷ Kind.flow ∷ Kind.extra ∷ Kind.jitter ∷ Kind.clock ∷ []
+
+-- the form of a plan: the kinds of field that it may have. A plan's bytes tell which it is; there is one yet.
+pub data Form : Type 0 where
+  older : Form
+
+abbrev pub kinds : Form → List Kind
+kinds older = everyKind
+
+-- its number, as a planner holds it
+abbrev pub formNumber : Form → ℕ
+formNumber older = 0
+
+abbrev pub formBy : List ℕ → Form
+formBy s = older
 
 -- the bytes of these numbers
 abbrev pub widths : List Number → ℕ

@@ -6,12 +6,15 @@ ghost use Rattle.plan.specs.Answer.{faultNumber};
 
 pub mod layout; // layout.rt: tags, sizes and offsets
 pub mod number; // number.rt: numbers of several bytes, high byte first
+pub mod forms; // forms.rt: the form of a plan
 pub mod split; // split.rt: a field's head, and its value as a part of the plan
 pub mod route; // route.rt: a flow's route
 pub mod ranges; // ranges.rt: the numbers of a field in their ranges, test 5
 pub mod optional; // optional.rt: fields that a plan may leave out
 pub mod read; // read.rt: a whole field, tests 2 to 5
 
+pub use forms::form_by;
+pub use forms::form_number;
 pub use number::first_number;
 pub use read::read_field;
 pub use route::repeats_port;
@@ -35,6 +38,11 @@ pub enum Fault {
     RepeatedPort,
     Incomplete,
     NotInPlan,
+}
+
+// The form of a plan: the kinds of field that it may have. There is one yet.
+pub enum Form {
+    Older,
 }
 
 pub enum Head {

@@ -4,6 +4,7 @@ use crate::Fault;
 use crate::Field;
 use crate::FieldRead;
 use crate::Flow;
+use crate::Form;
 use crate::Head;
 use crate::Header;
 use crate::Port;
@@ -42,7 +43,7 @@ use crate::split::split_head;
 ghost use mathlib.Core.Path.{_≡_};
 ghost use Rattle.plan.specs.Layout.{Kind};
 ghost use Rattle.plan.specs.Field.{valueIn, fieldIn, fieldAt};
-ghost use Rattle.plan.specs.Answer.{fieldReadOf};
+ghost use Rattle.plan.specs.Answer.{formOf, fieldReadOf};
 
 fn header_of(value: &[u8], at: usize, next: usize) -> FieldRead
     ensures { λ r. ⌜ fieldReadOf r ≡ valueIn Kind.header (now (value .entry)) at next ⌝ }
@@ -131,9 +132,9 @@ fn flow_of(value: &[u8], at: usize, next: usize) -> FieldRead
     }
 }
 
-// The field by its tag, with its value: tests 3, 4 and 5.
-fn field_of(tag: u8, value: &[u8], at: usize, next: usize) -> FieldRead
-    ensures { λ r. ⌜ fieldReadOf r ≡ fieldIn tag (now (value .entry)) at next ⌝ }
+// The field by its tag in a plan of this form, with its value: tests 3, 4 and 5.
+fn field_of(form: Form, tag: u8, value: &[u8], at: usize, next: usize) -> FieldRead
+    ensures { λ r. ⌜ fieldReadOf r ≡ fieldIn (formOf form) tag (now (value .entry)) at next ⌝ }
 {
     if tag == HEADER_TAG {
         return header_of(value, at, next);
@@ -159,15 +160,15 @@ fn field_of(tag: u8, value: &[u8], at: usize, next: usize) -> FieldRead
     }
 }
 
-// The field at this offset, with the offset after it, or the first of tests 2 to 5 that refuses it.
-pub fn read_field(plan: &[u8], at: usize) -> FieldRead
-    ensures { λ r. ⌜ fieldReadOf r ≡ fieldAt (now (plan .entry)) at ⌝ }
+// The field at this offset of a plan of this form, with the offset after it, or the first of tests 2 to 5 that refuses it.
+pub fn read_field(form: Form, plan: &[u8], at: usize) -> FieldRead
+    ensures { λ r. ⌜ fieldReadOf r ≡ fieldAt (formOf form) (now (plan .entry)) at ⌝ }
 {
     match split_head(plan, at) {
         Head::Whole { tag, size } => {
             let next = at + HEAD_SIZE + size;
             let value = field_value(plan, at);
-            field_of(tag, value, at, next)
+            field_of(form, tag, value, at, next)
         }
         Head::Cut => FieldRead::Refused {
             fault: Fault::Truncated,

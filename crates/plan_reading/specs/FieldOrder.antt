@@ -6,6 +6,7 @@ use Prim.Native.Nat.{ℕ, _+_, _≤_}
 use lib.ListN.{length}
 use Rattle.cqf.specs.Plan.{equalClocks}
 use Rattle.plan.specs.Bytes.{headSize, sizeAt}
+use Rattle.plan.specs.Layout.{formBy}
 use Rattle.plan.specs.Field.{Field, field, fieldAt}
 use Rattle.plan_reading.specs.Part.{Part, header, port, flow, extra, jitter, clock, partsOf}
 
@@ -51,7 +52,7 @@ pub record ZeroMore (s t : List ℕ) : Type 0 where
   pub others : List (List ℕ)
   pub read : Field
   pub fields : AllFields all
-  pub says : fieldAt zero 0 ≡ field read (length zero)
+  pub says : fieldAt (formBy s) zero 0 ≡ field read (length zero)
   pub nothing : SaysNothing read
   pub bytes-all : s ≡ flatten all
   pub bytes-others : t ≡ flatten others

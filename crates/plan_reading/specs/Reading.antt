@@ -10,7 +10,7 @@ use Rattle.cqf.specs.Bounded.{within, every}
 use Rattle.cqf.specs.Limits.{flowOk}
 use Rattle.cqf.specs.Plan.{Plan, portIn}
 use Rattle.plan.specs.Bytes.{number2, headSize, tagAt, sizeAt, wholeAt, valueAt}
-use Rattle.plan.specs.Layout.{Kind, layout}
+use Rattle.plan.specs.Layout.{Form, formBy, Kind, layout}
 use Rattle.plan.specs.Field.{Field, FieldRead, field, refused, fieldAt, routeIn}
 use Rattle.plan_reading.specs.Key.{headerKey, keyOf}
 use Rattle.plan_reading.specs.Draft.{Draft, blank, hasKey, taken, fieldRepeats, added}
@@ -53,9 +53,9 @@ fieldStep mode s at last d (field x next) =
     (cond (fieldRepeats (routeAt (x .kind) s at)) (stop repeatedPort at)
     (more next (keyOf x) (added d x (routeAt (x .kind) s at)))))
 
-unfoldable pub stepAt : Mode → List ℕ → (at last : ℕ) → Draft → Step
+unfoldable pub stepAt : Form → Mode → List ℕ → (at last : ℕ) → Draft → Step
 unfolding fieldAt
-stepAt mode s at last d = fieldStep mode s at last d (fieldAt s at)
+stepAt form mode s at last d = fieldStep mode s at last d (fieldAt form s at)
 
 -- the offset of the first whole field in the bytes, from this offset on, that is sought; the plan's length where none is.
 -- The first number bounds how many fields are looked at: the plan's length is enough.
@@ -114,22 +114,22 @@ closing s d =
 
 -- the fields from this offset on, last being the key of the one in front of it. The first number bounds how many are read: the
 -- plan's length is enough.
-unfoldable pub readFrom : Mode → ℕ → List ℕ → (at last : ℕ) → Draft → PlanRead
+unfoldable pub readFrom : Form → Mode → ℕ → List ℕ → (at last : ℕ) → Draft → PlanRead
 unfolding stepAt closing
-readFrom mode zero s at last d = closing s d
-readFrom mode (suc n) s at last d =
+readFrom form mode zero s at last d = closing s d
+readFrom form mode (suc n) s at last d =
     elim (ltb at (length s)) [
       | true ↦
-          elim (stepAt mode s at last d) [
+          elim (stepAt form mode s at last d) [
             | stop number offset ↦ rejected number offset
-            | more next key d′ ↦ readFrom mode n s next key d′
+            | more next key d′ ↦ readFrom form mode n s next key d′
           ]
       | false ↦ closing s d
     ]
 
 unfoldable pub readAs : Mode → List ℕ → PlanRead
 unfolding readFrom blank
-readAs mode s = elim (within 1 maxBytes (length s)) [ true ↦ readFrom mode (length s) s 0 0 blank | false ↦ rejected badSize 0 ]
+readAs mode s = elim (within 1 maxBytes (length s)) [ true ↦ readFrom (formBy s) mode (length s) s 0 0 blank | false ↦ rejected badSize 0 ]
 
 -- the loose reading
 unfoldable pub readPlan : List ℕ → PlanRead

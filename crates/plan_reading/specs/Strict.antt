@@ -8,6 +8,7 @@ use lib.Dec.{leb, ltb, eqb}
 use lib.ListN.{length}
 use Rattle.answers.specs.Refusals.{outOfOrder}
 use Rattle.cqf.specs.Plan.{Plan}
+use Rattle.plan.specs.Layout.{Form, formBy}
 use Rattle.plan.specs.Field.{Field, field, refused, fieldAt}
 use Rattle.plan_reading.specs.Rank.{before}
 use Rattle.plan_reading.specs.Reading.{PlanRead, accepted, rejected, Mode, routeAt, readAs}
@@ -29,16 +30,16 @@ entryOf x r = record { field = x; route = r }
 
 -- the fields from this offset on, as far as each passes the tests 2 to 5. The first number bounds how many are read: the plan's
 -- length is enough.
-unfoldable pub fieldsFrom : ℕ → List ℕ → ℕ → List Entry
+unfoldable pub fieldsFrom : Form → ℕ → List ℕ → ℕ → List Entry
 unfolding fieldAt
-fieldsFrom zero s at = []
-fieldsFrom (suc n) s at =
-    elim (fieldAt s at) [ field x next ↦ entryOf x (routeAt (x .kind) s at) ∷ fieldsFrom n s next | refused number offset ↦ [] ]
+fieldsFrom form zero s at = []
+fieldsFrom form (suc n) s at =
+    elim (fieldAt form s at) [ field x next ↦ entryOf x (routeAt (x .kind) s at) ∷ fieldsFrom form n s next | refused number offset ↦ [] ]
 
 -- the fields of a plan, from the front
 unfoldable pub fieldsIn : List ℕ → List Entry
 unfolding fieldsFrom
-fieldsIn s = fieldsFrom (length s) s 0
+fieldsIn s = fieldsFrom (formBy s) (length s) s 0
 
 -- two plans hold the same fields, in whatever order
 abbrev pub SameContent : List ℕ → List ℕ → Type 0
@@ -64,18 +65,18 @@ overdue x [] = false
 overdue x (y ∷ ys) = before x y || overdue x ys
 
 -- the offset of the first such field from this offset on, with these in front of it; the plan's length where there is none
-unfoldable pub lateFrom : ℕ → List Field → List ℕ → ℕ → ℕ
+unfoldable pub lateFrom : Form → ℕ → List Field → List ℕ → ℕ → ℕ
 unfolding fieldAt overdue
-lateFrom zero front s at = length s
-lateFrom (suc n) front s at =
-    elim (fieldAt s at) [
-      | field x next ↦ elim (overdue x front) [ true ↦ at | false ↦ lateFrom n (x ∷ front) s next ]
+lateFrom form zero front s at = length s
+lateFrom form (suc n) front s at =
+    elim (fieldAt form s at) [
+      | field x next ↦ elim (overdue x front) [ true ↦ at | false ↦ lateFrom form n (x ∷ front) s next ]
       | refused number offset ↦ length s
     ]
 
 unfoldable pub firstLate : List ℕ → ℕ
 unfolding lateFrom
-firstLate s = lateFrom (length s) [] s 0
+firstLate s = lateFrom (formBy s) (length s) [] s 0
 
 -- whether an answer of the loose reading is found before test 12 finds a field at this offset. Fields are taken from the front,
 -- each tested for 2 to 6, then 12, then 7; 8, 9 and acceptance come when all have been.

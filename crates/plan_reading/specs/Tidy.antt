@@ -1,4 +1,4 @@
--- Tidy tables. A flow has 16 places in the table of routes, and its route takes as many of them as it has hops; the tables are
+-- Tidy tables. A flow has 24 places in the table of routes, and its route takes as many of them as it has hops; the tables are
 -- tidy where each place past the hops is 0. What a reading leaves is tidy.
 use Prim.Native.Nat.{ℕ, _+_, _*_, _/_, _%_, _≤_, _<_}
 use mathlib.Core.Path.{_≡_}
@@ -19,7 +19,6 @@ tidiedAt p j = cond (ltb (j % routeStride) (hopsOf p (j / routeStride))) (getD (
 
 -- the plan with 0 in each place past the hops
 unfoldable pub tidied : Plan → Plan
-unfolding tabulate
 tidied p =
     record {
       guard = p .guard;

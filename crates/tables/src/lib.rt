@@ -9,7 +9,7 @@ pub const PORTS: usize = numbers::limits::MAX_PORT as usize;
 
 pub const FLOWS: usize = numbers::limits::MAX_FLOW as usize;
 
-pub const STRIDE: usize = 16;
+pub const STRIDE: usize = 24;
 
 pub mod columns; // columns.rt: the type of each column
 mod valid; // valid.rt: whether the tables hold a plan that the rules accept
@@ -19,9 +19,10 @@ mod flows; // flows.rt: the slots of the flows
 pub use valid::valid_tables;
 
 // The held plan: port n in slot n - 1, flow n in slot n - 1, a flow's route at its slot times the stride. An absent port has rate 0,
-// an absent flow period 0; top is 0 where no plan is held.
+// an absent flow period 0; top is 0 where no plan is held. The form's number is that of the bytes that the plan was read from.
 #[repr(C)]
 pub struct Planner {
+    pub form: u32,
     pub guard: u32,
     pub top: u32,
     pub clock: Clock,
@@ -38,9 +39,11 @@ pub struct Planner {
 
 // The planner that holds no plan.
 pub fn empty() -> Planner
-    ensures { λ r. ⌜ planOf r ≡ noPlan ⌝ }
+    ensures plan { λ r. ⌜ planOf r ≡ noPlan ⌝ }
+    ensures form { λ r. ⌜ r .form ≡ 0 ⌝ }
 {
     Planner {
+        form: 0,
         guard: 0,
         top: 0,
         clock: Clock {

@@ -33,10 +33,14 @@ pub struct FieldRead {
     pub numbers: [u64; 5],
 }
 
+/// Places in the table of routes from one flow's route to the next.
+pub const STRIDE: usize = 24;
+
 /// The tables of a planner, laid out as the C header says.
 #[repr(C)]
 #[derive(Clone, PartialEq, Eq)]
 pub struct Planner {
+    pub form: u32,
     pub guard: u32,
     pub top: u32,
     pub drift: u32,
@@ -50,10 +54,10 @@ pub struct Planner {
     pub lengths: [u16; 256],
     pub jitters: [u32; 256],
     pub hops: [u8; 256],
-    pub routes: [u8; 4096],
+    pub routes: [u8; 256 * STRIDE],
 }
 
-pub const PLANNER_BYTES: usize = 7892;
+pub const PLANNER_BYTES: usize = 9944;
 const _: () = assert!(std::mem::size_of::<Planner>() == PLANNER_BYTES);
 
 impl Planner {
@@ -71,9 +75,9 @@ impl Planner {
         fn first<T: PartialEq>(name: &'static str, one: &[T], other: &[T]) -> Option<(&'static str, usize)> {
             (0..one.len()).find(|slot| one[*slot] != other[*slot]).map(|slot| (name, slot))
         }
-        let header = |planner: &Planner| [planner.guard, planner.top];
+        let header = |planner: &Planner| [planner.form, planner.guard, planner.top];
         let clocks = |planner: &Planner| [planner.drift, planner.timing_jitter, planner.sync_error];
-        first("guard, top", &header(self), &header(other))
+        first("form, guard, top", &header(self), &header(other))
             .or_else(|| first("clocks", &clocks(self), &clocks(other)))
             .or_else(|| first("rates", &self.rates, &other.rates))
             .or_else(|| first("blockings", &self.blockings, &other.blockings))

@@ -9,7 +9,7 @@ returns : tie.Need-returns
 returns c =
     let told = c .outcome-numbers .ensures in
     let outcome = c .before .read-plan .ensures in
-    (told .0 ∙ outcome .leaves, told .1 ∙ ap loadNumbers (outcome .answers))
+    (told .0 ∙ outcome .leaves, told .1 ∙ outcome .formed, told .2 ∙ ap loadNumbers (outcome .answers))
 
 pub cp-load-strict-spec : {M : Type 1} → statement M
 cp-load-strict-spec = tie.close (tie.spec (λ c κs. search needs) (λ c κs. search needs) returns)

@@ -5,7 +5,7 @@ use Rattle.console.proofs.load_bytes.Statement.{statement}
 use Rattle.console.proofs.load_bytes.Tie as tie
 
 returns : tie.Need-returns
-returns c = record { told = refl; loads = rw (c .before .empty .ensures) at (c .load .ensures) }
+returns c = record { told = refl; loads = rw (c .before .empty .ensures .0, c .before .empty .ensures .1) at (c .load .ensures) }
 
 pub load-bytes-spec : {M : Type 1} → statement M
 load-bytes-spec = tie.close (tie.spec (λ c κs. search needs) (λ c κs. search needs) returns)

@@ -8,7 +8,7 @@ use native.Mathlib.Decide.{decLt}
 use native.Mathlib.Omega.{arith}
 use lib.ListN.{length, getD}
 use borrow.Author.Tests.{leb-true}
-use Rattle.cqf.specs.Limits.{portSlots, flowSlots, portOk, maxHops}
+use Rattle.cqf.specs.Limits.{portSlots, flowSlots, portOk, routeStride}
 use Rattle.cqf.specs.Plan.{Plan, hopsOf, routeOf, present, crosses, portIn, validPlan}
 use Rattle.cqf.specs.Port.{window, capacity}
 use Rattle.cqf.specs.Condition.{crossed, admissible}
@@ -37,7 +37,7 @@ module _ (p : Plan) (valid : validPlan p ≡ true) where
       let s = some-flow in
       let f = s .0 in
       let flow = present-held p valid f (s .2) in
-      let long : 0 < length (routeOf p f) = omega (arith, sublist-length (p .routes) (f * maxHops) (hopsOf p f), flow .hops-least) in
+      let long : 0 < length (routeOf p f) = omega (arith, sublist-length (p .routes) (f * routeStride) (hopsOf p f), flow .hops-least) in
       let n = getD (routeOf p f) 0 0 in
       let ok : portOk n ≡ true = and-eq-true-iff (portOk n) _ .0 (every-at (portIn (p .rates)) (routeOf p f) (flow .in-plan) 0 long) .0 in
       let ends = and-eq-true-iff _ _ .0 ok in

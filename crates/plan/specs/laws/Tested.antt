@@ -11,21 +11,21 @@ use lib.Dec.{eqb}
 use lib.ListN.{length, drop-of-length-le}
 use Rattle.cqf.specs.Bounded.{every}
 use Rattle.plan.specs.Bytes.{headSize, tagAt, sizeAt, wholeAt, valueAt}
-use Rattle.plan.specs.Layout.{Kind, layout, numbersSize, hopsAllowed, kinds}
+use Rattle.plan.specs.Layout.{Kind, layout, numbersSize, hopsAllowed, everyKind, Form, older, kinds}
 use Rattle.plan.specs.Field.{field, refused, numbersAt, inRanges, hopsIn, routePorts, routeIn, fieldBy, sizeOk, rangesOk, valueIn, kindBy, kindRead, fieldIn, fieldAt}
 
 -- test 2
-module _ (s : List ℕ) (at : ℕ) where
-  pub field-cut : wholeAt s at ≡ false → fieldAt s at ≡ refused 2 at
+module _ (form : Form) (s : List ℕ) (at : ℕ) where
+  pub field-cut : wholeAt s at ≡ false → fieldAt form s at ≡ refused 2 at
   unfolding fieldAt
   field-cut e = rw e
 
-  pub field-whole : wholeAt s at ≡ true → fieldAt s at ≡ fieldIn (tagAt s at) (valueAt s at) at (at + headSize + sizeAt s at)
+  pub field-whole : wholeAt s at ≡ true → fieldAt form s at ≡ fieldIn form (tagAt s at) (valueAt s at) at (at + headSize + sizeAt s at)
   unfolding fieldAt
   field-whole e = rw e
 
 -- test 3: each kind is found by its tag, and by no other
-pub kind-found : (k : Kind) → kindBy kinds (layout k .tag) ≡ some k
+kind-found : (k : Kind) → kindBy everyKind (layout k .tag) ≡ some k
 unfolding kindBy
 kind-found Kind.header = refl
 kind-found Kind.port = refl
@@ -34,19 +34,29 @@ kind-found Kind.extra = refl
 kind-found Kind.jitter = refl
 kind-found Kind.clock = refl
 
+-- so a tag is that of one kind
+pub tag-kind : (j k : Kind) → layout j .tag ≡ layout k .tag → j ≡ k
+tag-kind j k e =
+    let same : some j ≡ some k = sym (kind-found j) ∙ ap (kindBy everyKind) e ∙ kind-found k in
+    cc
+
+-- each kind may stand in a plan of this form
+of-form : (form : Form) (k : Kind) → kindBy (kinds form) (layout k .tag) ≡ some k
+of-form older k = kind-found k
+
 none-found : (ks : List Kind) (tag : ℕ) → ((k : Kind) → tag ≡ layout k .tag → ⊥) → kindBy ks tag ≡ none
 unfolding kindBy
 none-found [] tag other = refl
 none-found (k ∷ ks) tag other = rw (ne-eqb tag (layout k .tag) (other k), kindBy) (none-found ks tag other)
 
 module _ (v : List ℕ) (at next : ℕ) where
-  pub tag-known : (k : Kind) (tag : ℕ) → tag ≡ layout k .tag → fieldIn tag v at next ≡ valueIn k v at next
+  pub tag-known : (form : Form) (k : Kind) (tag : ℕ) → tag ≡ layout k .tag → fieldIn form tag v at next ≡ valueIn k v at next
   unfolding fieldIn
-  tag-known k tag e = ap (λ (t : ℕ). kindRead (kindBy kinds t) v at next) e ∙ ap (λ o. kindRead o v at next) (kind-found k)
+  tag-known form k tag e = ap (λ (t : ℕ). kindRead (kindBy (kinds form) t) v at next) e ∙ ap (λ o. kindRead o v at next) (of-form form k)
 
-  pub tag-unknown : (tag : ℕ) → ((k : Kind) → tag ≡ layout k .tag → ⊥) → fieldIn tag v at next ≡ refused 3 at
+  pub tag-unknown : (form : Form) (tag : ℕ) → ((k : Kind) → tag ≡ layout k .tag → ⊥) → fieldIn form tag v at next ≡ refused 3 at
   unfolding fieldIn
-  tag-unknown tag other = ap (λ o. kindRead o v at next) (none-found kinds tag other)
+  tag-unknown form tag other = ap (λ o. kindRead o v at next) (none-found (kinds form) tag other)
 
   -- tests 4 and 5: a value of another length, with a number out of range, or with neither
   module _ (k : Kind) where

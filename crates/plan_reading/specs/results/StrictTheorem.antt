@@ -10,6 +10,7 @@ use borrow.Author.Tests.{le-leb}
 use lib.ListN.{length}
 use Rattle.cqf.specs.Plan.{Plan}
 use Rattle.plan.specs.Bytes.{Octets}
+use Rattle.plan.specs.Layout.{formBy}
 use Rattle.plan_reading.specs.Draft.{blank}
 use Rattle.plan_reading.specs.Reading.{PlanRead, accepted, rejected, Mode, loose, strict, readAs, readPlan}
 use Rattle.plan_reading.specs.Strict.{Accepts, fieldsIn, SameContent, InOrder, firstLate, foundBefore, strictly}
@@ -49,13 +50,13 @@ read-loosely strict s p m k e = strictly-accepted s (firstLate s) (readAs loose 
 pub keys-ascend : (s : List ℕ) (p : Plan) (ports flows : ℕ) → readAs strict s ≡ accepted p ports flows → Ascends 0 (fieldsIn s)
 unfolding fieldsIn
 keys-ascend s p m k e =
-    strict-ascends (length s) s 0 0 blank 0 p m k flagged-blank (λ x fresh in-time. omega arith)
+    strict-ascends (formBy s) (length s) s 0 0 blank 0 p m k flagged-blank (λ x fresh in-time. omega arith)
     (sym (read-sized strict s (sized strict s p m k e)) ∙ e)
 
 -- a plan in order has no field that should have stood earlier
 pub in-order-late : (s : List ℕ) → InOrder s → firstLate s ≡ length s
 unfolding fieldsIn firstLate
-in-order-late s up = none-late (length s) [] s 0 0 0 known-none (omega arith) (rising-from (length s) s 0 up)
+in-order-late s up = none-late (formBy s) (length s) [] s 0 0 0 known-none (omega arith) (rising-from (formBy s) (length s) s 0 up)
 
 -- The strict reading accepts a plan exactly when the loose one does and the plan's fields stand in order: each before all that
 -- follow it, by tag and number. The plan and the numbers of fields are then the same.

@@ -6,7 +6,7 @@ use Rattle.tables.proofs.empty.Tie as tie
 
 returns : tie.Need-returns
 unfolding noPlan
-returns c = refl
+returns c = (refl, refl)
 
 pub empty-spec : {M : Type 1} → statement M
 empty-spec = tie.close (tie.spec returns)

@@ -1,7 +1,7 @@
 //! Planners that no call made: 20 to every question, unless the rules accept the plan in their tables.
 
 use super::{ask_all, known::K, loads::one_load};
-use crate::answers::{Planner, PLANNER_BYTES};
+use crate::answers::{Planner, PLANNER_BYTES, STRIDE};
 use crate::ffi;
 use crate::gen::{self, damage, encode};
 use crate::model::spans::effort;
@@ -40,7 +40,7 @@ fn damage_flow(rng: &mut Rng, tables: &mut Planner) {
     let used: Vec<usize> = (0..256).filter(|slot| tables.hops[*slot] != 0).collect();
     let slot = slot(rng, &used, 256);
     let hops = usize::from(tables.hops[slot]).clamp(1, 16);
-    let route = slot * 16;
+    let route = slot * STRIDE;
     match rng.below(9) {
         0 => tables.periods[slot] = rng.pick(&[0, 1, 999, 1_000, 99_999_999, 100_000_000, 100_000_001, u32::MAX]),
         1 => tables.counts[slot] = rng.pick(&[0, 1, 2, 63, 64, 65, 256, u16::MAX]),
@@ -50,7 +50,7 @@ fn damage_flow(rng: &mut Rng, tables: &mut Planner) {
         5 => tables.routes[route + rng.index(hops)] = tables.routes[route + rng.index(hops)],
         6 => tables.routes[route + rng.index(hops)] = rng.range(1, 64) as u8,
         7 => tables.jitters[slot] = rng.pick(&[0, 1, 30_000, 9_999_999, 10_000_000, 10_000_001, 1 << 31, u32::MAX]),
-        _ => tables.routes[route + rng.index(16)] = rng.next() as u8,
+        _ => tables.routes[route + rng.index(STRIDE)] = rng.next() as u8,
     }
 }
 
@@ -77,8 +77,8 @@ fn empty_flow(rng: &mut Rng, tables: &mut Planner) {
 /// Bytes that no question may look at.
 pub fn stir_unused(rng: &mut Rng, tables: &mut Planner) {
     for slot in 0..256 {
-        for hop in usize::from(tables.hops[slot]).min(16)..16 {
-            tables.routes[slot * 16 + hop] = rng.next() as u8;
+        for hop in usize::from(tables.hops[slot]).min(STRIDE)..STRIDE {
+            tables.routes[slot * STRIDE + hop] = rng.next() as u8;
         }
     }
 }

@@ -2,7 +2,7 @@
 
 use super::field::{clocks_fit, repeats};
 use super::{Clocks, Flow, Plan, Port};
-use crate::answers::Planner;
+use crate::answers::{Planner, STRIDE};
 use std::collections::BTreeMap;
 
 fn ports_of(tables: &Planner) -> Option<BTreeMap<u64, Port>> {
@@ -39,7 +39,7 @@ fn flow_of(tables: &Planner, slot: usize, ports: &BTreeMap<u64, Port>) -> Option
     if !fits {
         return None;
     }
-    let route: Vec<u64> = tables.routes[slot * 16..][..hops].iter().map(|port| u64::from(*port)).collect();
+    let route: Vec<u64> = tables.routes[slot * STRIDE..][..hops].iter().map(|port| u64::from(*port)).collect();
     let sound = !repeats(&route) && route.iter().all(|port| ports.contains_key(port));
     sound.then_some(Some(Flow { period, count, length, jitter, route }))
 }
@@ -68,7 +68,7 @@ pub fn plan_of(tables: &Planner) -> Option<Plan> {
     (!flows.is_empty()).then_some(Plan { guard, top, clocks, ports, flows })
 }
 
-/// The tables that hold a plan: port n and flow n in slot n - 1, routes 16 apart, all else 0.
+/// The tables that hold a plan: port n and flow n in slot n - 1, routes a stride apart, all else 0.
 pub fn tables_of(plan: &Plan) -> Planner {
     let mut tables = Planner::zero();
     tables.guard = plan.guard as u32;
@@ -89,7 +89,7 @@ pub fn tables_of(plan: &Plan) -> Planner {
         tables.jitters[slot] = flow.jitter as u32;
         tables.hops[slot] = flow.route.len() as u8;
         for (hop, port) in flow.route.iter().enumerate() {
-            tables.routes[slot * 16 + hop] = *port as u8;
+            tables.routes[slot * STRIDE + hop] = *port as u8;
         }
     }
     tables

@@ -57,7 +57,7 @@ route-read c =
       c .route-bytes .ensures,
       c .before .route-start .ensures,
       c .before .before .field-value .ensures,
-      part-whole _ _ (field-is-whole _ _ (fieldOf (a .args .x)) (a .args .next) (a .pre .2)),
+      part-whole _ _ (field-is-whole _ _ _ (fieldOf (a .args .x)) (a .args .next) (a .pre .2)),
     )
 
 repeats-read : (c : tie.After-route-repeats) →
@@ -66,19 +66,19 @@ repeats-read : (c : tie.After-route-repeats) →
 repeats-read c = c .route-repeats .ensures ∙ rw (route-read (c .before))
 
 element-copy-out-if1 : tie.Need-element-copy-out-if1
-element-copy-out-if1 c = omega (arith, c .key-of .ensures, key-below (fieldOf (c .before .before .args .x)) (found-numbers _ _ _ _ (c .before .before .pre .2)))
+element-copy-out-if1 c = omega (arith, c .key-of .ensures, key-below (fieldOf (c .before .before .args .x)) (found-numbers _ _ _ _ _ (c .before .before .pre .2)))
 
 returns : tie.Need-returns
 returns c =
     let a = c .before .before .before .before in
-    sym (step-taken (modeOf (a .args .strict)) _ _ _ (held a) (fieldOf (a .args .x)) (a .args .next) (a .pre .2)
+    sym (step-taken _ (modeOf (a .args .strict)) _ _ _ (held a) (fieldOf (a .args .x)) (a .args .next) (a .pre .2)
     (rw (← c .before .before .key-of .ensures) (lt-ltb _ _ (c .if1 .taken))))
 
 returns-2 : tie.Need-returns-2
 returns-2 c =
     let six = c .before .before in
     let a = entry six in
-    sym (step-late (modeOf (a .args .strict)) _ _ _ (held a) (fieldOf (a .args .x)) (a .args .next) (a .pre .2)
+    sym (step-late _ (modeOf (a .args .strict)) _ _ _ (held a) (fieldOf (a .args .x)) (a .args .next) (a .pre .2)
     (free six)
     (sym (c .before .is-late .ensures) ∙ c .if2 .taken))
 
@@ -87,7 +87,7 @@ returns-3 c =
     let twelve = c .before .before .before .before .before in
     let six = past-6 twelve in
     let a = entry six in
-    sym (step-repeats (modeOf (a .args .strict)) _ _ _ (held a) (fieldOf (a .args .x)) (a .args .next) (a .pre .2)
+    sym (step-repeats _ (modeOf (a .args .strict)) _ _ _ (held a) (fieldOf (a .args .x)) (a .args .next) (a .pre .2)
     (free six)
     (in-time twelve)
     (sym (repeats-read (c .before)) ∙ c .if3 .taken))
@@ -96,7 +96,7 @@ store-field-requires : tie.Need-store-field-requires
 store-field-requires c κs =
     let route = past-7 c .before .before in
     let a = entry (past-6 (route .before .before .before)) in
-    (a .pre .0, a .pre .1, found-numbers _ _ _ _ (a .pre .2), rw (route-read route) (found-route _ _ _ _ (a .pre .2)))
+    (a .pre .0, a .pre .1, found-numbers _ _ _ _ _ (a .pre .2), rw (route-read route) (found-route _ _ _ _ _ (a .pre .2)))
 
 returns-4 : tie.Need-returns-4
 returns-4 c =
@@ -107,7 +107,7 @@ returns-4 c =
     let a = entry six in
     rw (c .store-field .ensures, route-read route)
     (ap (λ (key : ℕ). more (a .args .next) key (added (held a) (fieldOf (a .args .x)) (routeAt (fieldOf (a .args .x) .kind) (now (a .args .plan)) (a .args .at)))) (six .before .before .key-of .ensures)
-    ∙ sym (step-added (modeOf (a .args .strict)) _ _ _ (held a) (fieldOf (a .args .x)) (a .args .next) (a .pre .2)
+    ∙ sym (step-added _ (modeOf (a .args .strict)) _ _ _ (held a) (fieldOf (a .args .x)) (a .args .next) (a .pre .2)
     (free six)
     (in-time twelve)
     (sym (repeats-read (seven .before)) ∙ seven .if3 .left)))

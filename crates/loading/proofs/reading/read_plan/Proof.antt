@@ -10,13 +10,15 @@ use lib.ListN.{length}
 use denote.Ref.{now}
 use Rattle.cqf.specs.Bounded.{within}
 use Rattle.cqf.specs.Plan.{noPlan}
+use Rattle.plan.specs.Layout.{Form, formNumber}
+use Rattle.plan.specs.Answer.{formOf}
 use Rattle.plan_reading.specs.Draft.{Draft, blank}
 use Rattle.plan_reading.specs.Reading.{Mode, Step, more, stepAt, readFrom, readAs, maxBytes}
 use Rattle.plan_reading.specs.laws.reading.PlanLength.{read-sized, read-unsized}
 use Rattle.plan_reading.specs.laws.fields.Within.{within-high}
 use Rattle.plan_reading.specs.laws.reading.Onward.{Onward, onward, read-end, read-stop, read-more}
 use Rattle.tables.specs.Tables.{planOf}
-use Rattle.loading.specs.laws.Load.{refused-leaves, refused-answer, accepted-leaves, accepted-answer}
+use Rattle.loading.specs.laws.Load.{refused-leaves, refused-form, refused-answer, accepted-leaves, accepted-form, accepted-answer}
 use Rattle.loading.specs.Answer.{modeOf}
 use Rattle.loading.specs.Loading.{draftOf, progressOf, answerOf}
 use Rattle.loading.specs.declared.field.Progress.{Progress}
@@ -24,18 +26,18 @@ use Rattle.loading.proofs.reading.read_plan.Statement.{statement}
 use Rattle.loading.proofs.reading.read_plan.Tie as tie
 
 -- the fields before this offset are read, into this draft
-record Reached (mode : Mode) (s : List ℕ) (d : Draft) (at last : ℕ) : Type 0 where
+record Reached (form : Form) (mode : Mode) (s : List ℕ) (d : Draft) (at last : ℕ) : Type 0 where
   inside : at ≤ length s
   ports : d .ports ≤ at
   flows : d .flows ≤ at
-  rest : readFrom mode (length s) s 0 0 blank ≡ readFrom mode (length s) s at last d
+  rest : readFrom form mode (length s) s 0 0 blank ≡ readFrom form mode (length s) s at last d
 
 abbrev Inv-loop : tie.InvT-loop
-Inv-loop strict planner plan rates₀ blockings₀ extras₀ periods₀ counts₀ lengths₀ jitters₀ hops₀ routes₀ seen₀ totals₀ last₀ at₀ rates blockings extras periods counts lengths jitters hops routes seen totals last at =
-    Reached (modeOf strict) plan (draftOf totals rates blockings extras periods counts lengths jitters hops routes seen) at last
+Inv-loop strict planner plan form rates₀ blockings₀ extras₀ periods₀ counts₀ lengths₀ jitters₀ hops₀ routes₀ seen₀ totals₀ last₀ at₀ rates blockings extras periods counts lengths jitters hops routes seen totals last at =
+    Reached (formOf form) (modeOf strict) plan (draftOf totals rates blockings extras periods counts lengths jitters hops routes seen) at last
 
 abbrev μ-loop : tie.MeasureT-loop
-μ-loop strict planner plan rates₀ blockings₀ extras₀ periods₀ counts₀ lengths₀ jitters₀ hops₀ routes₀ seen₀ totals₀ last₀ at₀ rates blockings extras periods counts lengths jitters hops routes seen totals last at =
+μ-loop strict planner plan form rates₀ blockings₀ extras₀ periods₀ counts₀ lengths₀ jitters₀ hops₀ routes₀ seen₀ totals₀ last₀ at₀ rates blockings extras periods counts lengths jitters hops routes seen totals last at =
     length plan - at
 
 -- the states on the way, each named once: in a turn from where its columns are lent, the loop's from its end, and the start
@@ -46,12 +48,15 @@ abbrev at-last : tie.After-close Inv-loop μ-loop → tie.At-loop Inv-loop μ-lo
 at-last c = c .before .before .before .before .before
 
 abbrev entry : tie.At-loop Inv-loop μ-loop → tie.Start Inv-loop μ-loop
-entry c = c .before .before .before .before
+entry c = c .before .before .before .before .before
 
 -- where a turn begins: the reading, the plan's bytes, the offset, the key before it and the draft so far
 module _ (c : tie.At-loop Inv-loop μ-loop) where
   abbrev mode : Mode
   mode = modeOf (entry c .args .strict)
+
+  abbrev form : Form
+  form = formOf (c .before .form-by .result)
 
   abbrev bytes : List ℕ
   bytes = now (entry c .args .plan)
@@ -69,16 +74,19 @@ module _ (c : tie.At-loop Inv-loop μ-loop) where
 
   -- test 1 was passed
   sized : within 1 maxBytes (length bytes) ≡ true
-  sized = sym (c .before .before .size-ok .ensures) ∙ not-false (c .before .before .size-ok .result) (c .before .if1 .left)
+  sized = sym (c .before .before .before .size-ok .ensures) ∙ not-false (c .before .before .before .size-ok .result) (c .before .before .if1 .left)
 
   -- the reading of the plan is the reading from here on
-  rest-read : readAs mode bytes ≡ readFrom mode (length bytes) bytes here last held
-  rest-read = read-sized mode bytes sized ∙ c .loop .inv .rest
+  rest-read : readAs mode bytes ≡ readFrom form mode (length bytes) bytes here last held
+  rest-read =
+      read-sized mode bytes sized
+      ∙ ap (λ (f : Form). readFrom f mode (length bytes) bytes 0 0 blank) (sym (c .before .form-by .ensures))
+      ∙ c .loop .inv .rest
 
 -- the step of a field that was read with this outcome, into the columns as the turn left them
 abbrev stepped-as : tie.After-step Inv-loop μ-loop → Progress → Step
 stepped-as c r =
-    let l = c .step .last .1 .1 .1 .1 .1 in
+    let l = c .step .last .1 .1 .1 .1 .1 .1 in
     progressOf r (l .0) (l .1 .0) (l .1 .1 .0) (l .1 .1 .1 .0) (l .1 .1 .1 .1 .0) (l .1 .1 .1 .1 .1 .0) (l .1 .1 .1 .1 .1 .1 .0)
     (l .1 .1 .1 .1 .1 .1 .1 .0) (l .1 .1 .1 .1 .1 .1 .1 .1 .0) (l .1 .1 .1 .1 .1 .1 .1 .1 .1 .0)
 
@@ -98,29 +106,29 @@ module _ (c : tie.After-known-told Inv-loop μ-loop) where
 
   abbrev read : Draft
   read =
-      let l = c .before .before .before .step .last .1 .1 .1 .1 .1 in
+      let l = c .before .before .before .step .last .1 .1 .1 .1 .1 .1 in
       draftOf (c .before .next .given .0 .1 .1 .0) (l .0) (l .1 .0) (l .1 .1 .0) (l .1 .1 .1 .0) (l .1 .1 .1 .1 .0) (l .1 .1 .1 .1 .1 .0)
       (l .1 .1 .1 .1 .1 .1 .0) (l .1 .1 .1 .1 .1 .1 .1 .0) (l .1 .1 .1 .1 .1 .1 .1 .1 .0) (l .1 .1 .1 .1 .1 .1 .1 .1 .1 .0)
 
-  stepped : stepAt (mode turn) (bytes turn) (here turn) (last turn) (held turn) ≡ more next key read
+  stepped : stepAt (form turn) (mode turn) (bytes turn) (here turn) (last turn) (held turn) ≡ more next key read
   stepped = sym (c .before .before .before .step .ensures) ∙ ap (stepped-as (c .before .before .before)) (c .before .next .given .1)
 
   goes-on : Onward (bytes turn) (here turn) (held turn) next read
-  goes-on = onward (mode turn) (bytes turn) (here turn) (last turn) (held turn) next key read stepped
+  goes-on = onward (form turn) (mode turn) (bytes turn) (here turn) (last turn) (held turn) next key read stepped
 
 -- all fields are read
 at-end : (c : tie.After-close Inv-loop μ-loop) → readAs (mode (at-last c)) (bytes (at-last c)) ≡ answerOf (held (at-last c) .tables) (c .close .result)
 at-end c =
     let l = at-last c in
     rest-read l
-    ∙ read-end (mode l) (bytes l) (here l) (last l) (held l) _ (c .before .before .before .before .loop-test .left)
+    ∙ read-end (form l) (mode l) (bytes l) (here l) (last l) (held l) _ (c .before .before .before .before .loop-test .left)
     ∙ sym (c .close .ensures (held l .tables) refl refl)
 
 returns : tie.Need-returns Inv-loop μ-loop
 returns c =
     let m = modeOf (c .before .before .before .args .strict) in
     let e = read-unsized m (now (c .before .before .before .args .plan)) (sym (c .before .size-ok .ensures) ∙ not-true (c .before .size-ok .result) (c .if1 .taken)) in
-    record { leaves = sym (refused-leaves m _ _ 1 0 e); answers = sym (refused-answer m _ 1 0 e) }
+    record { leaves = sym (refused-leaves m _ _ 1 0 e); formed = sym (refused-form m _ _ 1 0 e); answers = sym (refused-answer m _ 1 0 e) }
 
 loop-holds : tie.Need-loop-holds Inv-loop μ-loop
 unfolding blank noPlan
@@ -144,7 +152,7 @@ loop-again c =
       inside = goes-on c .inside;
       ports = omega (arith, i .ports, goes-on c .ports, goes-on c .forward);
       flows = omega (arith, i .flows, goes-on c .flows, goes-on c .forward);
-      rest = i .rest ∙ read-more (mode l) (bytes l) (here l) (last l) (held l) (tested c .loop-test .taken) (next c) (key c) (read c) (stepped c);
+      rest = i .rest ∙ read-more (form l) (mode l) (bytes l) (here l) (last l) (held l) (tested c .loop-test .taken) (next c) (key c) (read c) (stepped c);
     }
 
 returns-2 : tie.Need-returns-2 Inv-loop μ-loop
@@ -153,27 +161,29 @@ returns-2 c =
     let l = test .before in
     let e =
     rest-read l
-    ∙ read-stop (mode l) (bytes l) (here l) (last l) (held l) (test .loop-test .taken) _ _
+    ∙ read-stop (form l) (mode l) (bytes l) (here l) (last l) (held l) (test .loop-test .taken) _ _
     (sym (c .before .before .before .step .ensures) ∙ ap (stepped-as (c .before .before .before)) (c .before .fault .given .1)) in
-    record { leaves = sym (refused-leaves (mode l) _ (bytes l) _ _ e); answers = sym (refused-answer (mode l) (bytes l) _ _ e) }
+    record { leaves = sym (refused-leaves (mode l) _ (bytes l) _ _ e); formed = sym (refused-form (mode l) _ (bytes l) _ _ e); answers = sym (refused-answer (mode l) (bytes l) _ _ e) }
 
 returns-3 : tie.Need-returns-3 Inv-loop μ-loop
 returns-3 c =
-    let l = at-last (c .before .before .before) in
+    let l = at-last (c .before .before .before .before) in
     let s = bytes l in
-    let e = at-end (c .before .before .before) ∙ ap (answerOf _) (c .enum-told .given .1) in
+    let e = at-end (c .before .before .before .before) ∙ ap (answerOf _) (c .enum-told .given .1) in
     record {
       leaves = sym (accepted-leaves (mode l) (planOf (entry l .args .planner)) s _ _ _ e);
+      formed = c .before .before .form-number .ensures ∙ ap formNumber (l .before .form-by .ensures) ∙ sym (accepted-form (mode l) (entry l .args .planner .form) s _ _ _ e);
       answers = rw (c .enum-told .given .1) (sym (accepted-answer (mode l) s _ _ _ e));
     }
 
 returns-4 : tie.Need-returns-4 Inv-loop μ-loop
 returns-4 c =
-    let l = at-last (c .before .before .before) in
+    let l = at-last (c .before .before .before .before) in
     let s = bytes l in
-    let e = at-end (c .before .before .before) ∙ ap (answerOf _) (c .enum-told2 .given .1) in
+    let e = at-end (c .before .before .before .before) ∙ ap (answerOf _) (c .enum-told2 .given .1) in
     record {
       leaves = sym (refused-leaves (mode l) (planOf (entry l .args .planner)) s _ _ e);
+      formed = sym (refused-form (mode l) (entry l .args .planner .form) s _ _ e);
       answers = rw (c .enum-told2 .given .1) (sym (refused-answer (mode l) s _ _ e));
     }
 
@@ -185,6 +195,7 @@ read-plan-spec =
     μ-loop
     (λ c κs. tt)
     returns
+    (λ c κs. tt)
     loop-holds
     step-requires
     (λ c. search needs)
@@ -192,6 +203,7 @@ read-plan-spec =
     loop-again
     (λ c. search needs)
     returns-2
+    (λ c κs. tt)
     (λ c κs. tt)
     (λ c. search needs)
     (λ c. search needs)

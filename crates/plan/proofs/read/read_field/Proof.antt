@@ -39,12 +39,12 @@ returns c =
     let w = read-whole p at (x .0) (x .1 .0) h in
     c .field-of .ensures
     ∙ rw (read-tag p at (x .0) (x .1 .0) h, read-size p at (x .0) (x .1 .0) h, c .before .field-value .ensures, part-whole p at w)
-    (sym (field-whole p at w))
+    (sym (field-whole _ p at w))
 
 returns-2 : tie.Need-returns-2
 returns-2 c =
     let h = sym (ap headOf (c .enum-told .given .1)) ∙ c .before .before .split-head .ensures in
-    sym (field-cut _ _ (read-cut _ _ h))
+    sym (field-cut _ _ _ (read-cut _ _ h))
 
 pub read-field-spec : {M : Type 1} → statement M
 read-field-spec =

@@ -8,7 +8,7 @@ use borrow.Author.Tests.{eq-eqb}
 use lib.ListN.{length, length-append}
 use lib.Seq.{getD-append-add, drop-at}
 use Rattle.plan.specs.Bytes.{byteAt, number2, number4, numbers2}
-use Rattle.plan.specs.Layout.{Width, two, four, bytesIn, Number, widths, layout, numbersSize}
+use Rattle.plan.specs.Layout.{Form, Width, two, four, bytesIn, Number, widths, layout, numbersSize}
 use Rattle.plan.specs.Field.{Field, field, numberIn, numbersAt, inRanges, hopsIn, routePorts, routeIn, fieldBy, sizeOk, rangesOk, fieldIn}
 use Rattle.plan_reading.specs.Rank.{tagOf}
 use Rattle.plan_reading.specs.Ranges.{NumbersOk, RouteFits}
@@ -125,14 +125,14 @@ module _ (x : Field) (r : List ℕ) (k : NumbersOk x) (fits : RouteFits x r) whe
       ∙ route-decoded r
 
   -- and it is read as the field
-  pub value-decoded : (at next : ℕ) → fieldIn (tagOf x) (valueOf x r) at next ≡ field x next
+  pub value-decoded : (form : Form) (at next : ℕ) → fieldIn form (tagOf x) (valueOf x r) at next ≡ field x next
   unfolding valueOf
-  value-decoded at next =
+  value-decoded form at next =
       let v = valueOf x r in
       let hops : hopsIn (x .kind) (length v) ≡ x .hops = omega (arith, value-length) in
       let ns = numbers-decoded (layout (x .kind) .numbers) (x .numbers) (bytes2s r) (k .ranges) in
       let long : sizeOk (x .kind) (length v) ≡ true = rw (hops, k .hops) (eq-eqb (length v) _ value-length) in
       let ranges : rangesOk (x .kind) v ≡ true = rw (ns, k .ranges, route-in-value) (fits .ports) in
-      tag-known v at next (x .kind) (tagOf x) refl
+      tag-known v at next form (x .kind) (tagOf x) refl
       ∙ value-read v at next (x .kind) long ranges
       ∙ (λ i. field (record { kind = x .kind; numbers = ns i; hops = hops i }) next)

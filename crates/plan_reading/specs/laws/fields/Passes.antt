@@ -10,16 +10,16 @@ use lib.ListN.{length}
 use borrow.Author.Tests.{eqb-true}
 use Rattle.cqf.specs.Bounded.{every}
 use Rattle.plan.specs.Bytes.{headSize, tagAt, sizeAt, wholeAt, valueAt}
-use Rattle.plan.specs.Layout.{Kind, layout, hopsAllowed, kinds}
+use Rattle.plan.specs.Layout.{Form, Kind, layout, hopsAllowed, kinds}
 use Rattle.plan.specs.Field.{Field, FieldRead, field, refused, unless, numbersAt, inRanges, hopsIn, routeIn, fieldBy, sizeOk, rangesOk, valueIn, kindBy, kindRead, fieldIn, fieldAt}
 use Rattle.plan_reading.specs.Ranges.{NumbersOk, RouteFits}
 use Rattle.plan_reading.specs.Rank.{tagOf}
 use Rattle.plan_reading.specs.FieldBytes.{sizeOf}
+use Rattle.plan.specs.laws.Tested.{tag-kind}
 use Rattle.plan.specs.laws.Route.{value-hops}
 
 -- field x is the one of this tag and value
 pub record Passes (tag : ℕ) (v : List ℕ) (x : Field) : Type 0 where
-  pub known : kindBy kinds tag ≡ some (x .kind)
   pub kind : tag ≡ tagOf x
   pub numbers : fieldBy (x .kind) v ≡ x
   pub size : length v ≡ sizeOf x
@@ -70,20 +70,19 @@ kind-tag (m ∷ ms) tag k e = go (kind-tag ms tag k) (eqb tag (layout m .tag)) r
 
 -- the tests 4 and 5 of a value
 value-passes
-    : (tag : ℕ) (v : List ℕ) (at after : ℕ) (k : Kind) {x : Field} {next : ℕ}
-    → kindBy kinds tag ≡ some k
+    : (form : Form) (tag : ℕ) (v : List ℕ) (at after : ℕ) (k : Kind) {x : Field} {next : ℕ}
+    → kindBy (kinds form) tag ≡ some k
     → valueIn k v at after ≡ field x next
     → Read tag v after x next
 unfolding valueIn
-value-passes tag v at after k found e =
+value-passes form tag v at after k found e =
     let a = unless-passes 4 at (sizeOk k (length v)) _ e in
     let b = unless-passes 5 at (rangesOk k v) _ (a .1) in
     let long = and-eq-true-iff (hopsAllowed (layout k .mostHops) (hopsIn k (length v))) _ .0 (a .0) in
     let ranges = and-eq-true-iff (inRanges (layout k .numbers) (numbersAt (layout k .numbers) v 0)) _ .0 (b .0) in
     read-as tag v after (fieldBy k v)
     (record {
-      known = found;
-      kind = kind-tag kinds tag k found;
+      kind = kind-tag (kinds form) tag k found;
       numbers = refl;
       size = eqb-true (length v) _ (long .1);
       ok = record { ranges = ranges .0; hops = long .0 };
@@ -92,31 +91,30 @@ value-passes tag v at after k found e =
     (b .1)
 
 field-read
-    : (tag : ℕ) (v : List ℕ) (at after : ℕ) {x : Field} {next : ℕ}
-    → fieldIn tag v at after ≡ field x next
+    : (form : Form) (tag : ℕ) (v : List ℕ) (at after : ℕ) {x : Field} {next : ℕ}
+    → fieldIn form tag v at after ≡ field x next
     → Read tag v after x next
 unfolding fieldIn
-field-read tag v at after {x} {next} = go (kindBy kinds tag) refl
+field-read form tag v at after {x} {next} = go (kindBy (kinds form) tag) refl
   where
-    go : (o : Option Kind) → kindBy kinds tag ≡ o → kindRead o v at after ≡ field x next → Read tag v after x next
+    go : (o : Option Kind) → kindBy (kinds form) tag ≡ o → kindRead o v at after ≡ field x next → Read tag v after x next
     go none found e = let z : _≡_ {A = ℕ} 0 1 = cc in absurd (omega arith)
-    go (some k) found e = value-passes tag v at after k found e
+    go (some k) found e = value-passes form tag v at after k found e
 
 -- a field of the plan is whole, and passes
-pub field-is-whole : (s : List ℕ) (at : ℕ) (x : Field) (next : ℕ) → fieldAt s at ≡ field x next → wholeAt s at ≡ true
+pub field-is-whole : (form : Form) (s : List ℕ) (at : ℕ) (x : Field) (next : ℕ) → fieldAt form s at ≡ field x next → wholeAt s at ≡ true
 unfolding fieldAt
-field-is-whole s at x next e = unless-passes 2 at (wholeAt s at) _ e .0
+field-is-whole form s at x next e = unless-passes 2 at (wholeAt s at) _ e .0
 
 pub field-passes
-    : (s : List ℕ) (at : ℕ) (x : Field) (next : ℕ)
-    → fieldAt s at ≡ field x next
+    : (form : Form) (s : List ℕ) (at : ℕ) (x : Field) (next : ℕ)
+    → fieldAt form s at ≡ field x next
     → Read (tagAt s at) (valueAt s at) (at + headSize + sizeAt s at) x next
 unfolding fieldAt
-field-passes s at x next e = field-read (tagAt s at) (valueAt s at) at _ (unless-passes 2 at (wholeAt s at) _ e .1)
+field-passes form s at x next e = field-read form (tagAt s at) (valueAt s at) at _ (unless-passes 2 at (wholeAt s at) _ e .1)
 
 -- a tag and a value are those of one field
 pub passes-once : (tag : ℕ) (v : List ℕ) (x y : Field) → Passes tag v x → Passes tag v y → x ≡ y
 passes-once tag v x y a b =
-    let found : some (x .kind) ≡ some (y .kind) = sym (a .known) ∙ b .known in
-    let same : x .kind ≡ y .kind = cc in
+    let same = tag-kind (x .kind) (y .kind) (sym (a .kind) ∙ b .kind) in
     sym (a .numbers) ∙ ap (λ (k : Kind). fieldBy k v) same ∙ b .numbers

@@ -8,6 +8,7 @@ use native.Mathlib.Omega.{arith}
 use lib.ListN.{length, take, drop, length-append, length-drop, take-append-drop, drop-of-length-le}
 use lib.Seq.{length-take-le, getD-take, getD-drop, drop-drop}
 use Rattle.plan.specs.Bytes.{byteAt, number2, headSize, tagAt, sizeAt, wholeAt, valueAt}
+use Rattle.plan.specs.Layout.{Form}
 use Rattle.plan.specs.Field.{Field, routeIn}
 use Rattle.plan_reading.specs.Draft.{Draft}
 use Rattle.plan_reading.specs.Reading.{Mode}
@@ -36,27 +37,27 @@ data Row : List (List ℕ) → List Entry → Type 0 where
 
 -- a walk over whole fields reads them one after the other
 walk-row
-    : (bs : List (List ℕ)) (s front : List ℕ) (n at : ℕ) (d e : Draft)
+    : {form : Form} (bs : List (List ℕ)) (s front : List ℕ) (n at : ℕ) (d e : Draft)
     → s ≡ front ++ flatten bs
     → at ≡ length front
     → length s ≤ at + n
     → AllFields bs
-    → Reads s at d e
-    → Row bs (fieldsFrom n s at)
+    → Reads form s at d e
+    → Row bs (fieldsFrom form n s at)
 unfolding flatten
-walk-row [] s front n at d e p q enough h (done same end) = rw (row-refused n s at 2 at (past-end s at end)) nothing
-walk-row [] s front n at d e p q enough h (one x after less stands fresh no-repeat rest) =
+walk-row {form} [] s front n at d e p q enough h (done same end) = rw (row-refused form n s at 2 at (past-end form s at end)) nothing
+walk-row {form} [] s front n at d e p q enough h (one x after less stands fresh no-repeat rest) =
     absurd (omega (arith, ap length (p ∙ append-nil front)))
-walk-row (b ∷ bs) s front n at d e p q enough (more is h) (done same end) =
+walk-row {form} (b ∷ bs) s front n at d e p q enough (more is h) (done same end) =
     absurd (omega (arith, ap length p, length-append front (b ++ flatten bs), length-append b (flatten bs), is .headed))
-walk-row (b ∷ bs) s front zero at d e p q enough (more is h) (one x after less stands fresh no-repeat rest) = absurd (omega arith)
-walk-row (b ∷ bs) s front (suc n) at d e p q enough (more is h) (one x after less stands fresh no-repeat rest) =
-    let r = field-passes s at x after stands in
+walk-row {form} (b ∷ bs) s front zero at d e p q enough (more is h) (one x after less stands fresh no-repeat rest) = absurd (omega arith)
+walk-row {form} (b ∷ bs) s front (suc n) at d e p q enough (more is h) (one x after less stands fresh no-repeat rest) =
+    let r = field-passes form s at x after stands in
     let tag : tagAt s at ≡ tagAt b 0 = rw (p, q) (tag-inside front b (flatten bs) is) in
     let size : sizeAt s at ≡ sizeAt b 0 = rw (p, q) (size-inside front b (flatten bs) is) in
     let value : valueAt s at ≡ valueAt b 0 = rw (p, q) (value-inside front b (flatten bs) is) in
     let ends : after ≡ length (front ++ b) = omega (arith, r .follows, length-append front b, is .whole) in
-    rw (row-field n s at x after stands)
+    rw (row-field form n s at x after stands)
     (next x (rw (tag, value) at (r .passes)) (ap (λ (v : List ℕ). entryOf x (routeIn (x .kind) v)) (sym value))
     (walk-row bs s (front ++ b) n after _ e (p ∙ sym (append-assoc front b (flatten bs))) ends (omega (arith, r .follows)) h rest))
 
@@ -124,17 +125,17 @@ record Cut (s : List ℕ) (at : ℕ) : Type 0 where
   fields : AllFields parts
   bytes : drop at s ≡ flatten parts
 
-walk-cut : (s : List ℕ) {at : ℕ} {d e : Draft} → Reads s at d e → Cut s at
+walk-cut : {form : Form} (s : List ℕ) {at : ℕ} {d e : Draft} → Reads form s at d e → Cut s at
 unfolding flatten
 walk-cut s (done same end) = record { parts = []; fields = none; bytes = drop-of-length-le s end }
-walk-cut s {at} (one x after less stands fresh no-repeat rest) =
-    let r = field-passes s at x after stands in
+walk-cut {form} s {at} (one x after less stands fresh no-repeat rest) =
+    let r = field-passes form s at x after stands in
     let size = headSize + sizeAt s at in
     let t = walk-cut s rest in
     let ends : at + size ≡ after = omega (arith, r .follows) in
     record {
       parts = take size (drop at s) ∷ t .parts;
-      fields = more (taken-out s at (field-is-whole s at x after stands)) (t .fields);
+      fields = more (taken-out s at (field-is-whole form s at x after stands)) (t .fields);
       bytes =
           sym (take-append-drop size (drop at s))
           ∙ ap (λ (l : List ℕ). take size (drop at s) ++ l) (drop-drop size at s ∙ ap (λ (m : ℕ). drop m s) ends ∙ t .bytes);

@@ -10,6 +10,7 @@ use borrow.Author.Tests.{le-ltb, ltb-true, ltb-false}
 use lib.Dec.{ltb}
 use lib.ListN.{length}
 use Rattle.cqf.specs.Plan.{Plan}
+use Rattle.plan.specs.Layout.{Form}
 use Rattle.plan.specs.Field.{Field, FieldRead, field, refused, fieldAt}
 use Rattle.plan_reading.specs.Key.{keyOf}
 use Rattle.plan_reading.specs.Ranges.{NumbersOk}
@@ -26,32 +27,32 @@ use Rattle.plan_reading.specs.laws.order.Rows.{row-refused, row-field, A
 
 -- none of them should have stood earlier
 pub none-late
-    : (n : ℕ) (front : List Field) (s : List ℕ) (at last least : ℕ)
+    : (form : Form) (n : ℕ) (front : List Field) (s : List ℕ) (at last least : ℕ)
     → Known front last
     → last ≤ least
-    → Ascends least (fieldsFrom n s at)
-    → lateFrom n front s at ≡ length s
+    → Ascends least (fieldsFrom form n s at)
+    → lateFrom form n front s at ≡ length s
 unfolding lateFrom
-none-late zero front s at last least known low up = refl
-none-late (suc n) front s at last least known low up =
-    go (λ x after known up. none-late n (x ∷ front) s after (keyOf x) (suc (keyOf x)) known (omega arith) up) (fieldAt s at) refl
+none-late form zero front s at last least known low up = refl
+none-late form (suc n) front s at last least known low up =
+    go (λ x after known up. none-late form n (x ∷ front) s after (keyOf x) (suc (keyOf x)) known (omega arith) up) (fieldAt form s at) refl
   where
     Rest : Type 0
     Rest =
         (x : Field) (after : ℕ)
         → Known (x ∷ front) (keyOf x)
-        → Ascends (suc (keyOf x)) (fieldsFrom n s after)
-        → lateFrom n (x ∷ front) s after ≡ length s
+        → Ascends (suc (keyOf x)) (fieldsFrom form n s after)
+        → lateFrom form n (x ∷ front) s after ≡ length s
 
-    first : Rest → (x : Field) (after : ℕ) → fieldAt s at ≡ field x after → Ascends least (entryOf x (routeAt (x .kind) s at) ∷ fieldsFrom n s after)
-        → lateFrom (suc n) front s at ≡ length s
+    first : Rest → (x : Field) (after : ℕ) → fieldAt form s at ≡ field x after → Ascends least (entryOf x (routeAt (x .kind) s at) ∷ fieldsFrom form n s after)
+        → lateFrom form (suc n) front s at ≡ length s
     first rest x after e (next k from up) =
         let in-time : ltb (keyOf x) last ≡ false = le-ltb (keyOf x) last (omega arith) in
-        late-past n front s at x after e (known x k ∙ in-time) ∙ rest x after (known-next front last x k known in-time) up
+        late-past form n front s at x after e (known x k ∙ in-time) ∙ rest x after (known-next front last x k known in-time) up
 
-    go : Rest → (r : FieldRead) → fieldAt s at ≡ r → lateFrom (suc n) front s at ≡ length s
-    go rest (refused k o) e = late-refused n front s at k o e
-    go rest (field x after) e = first rest x after e (rw (row-field n s at x after e) at up)
+    go : Rest → (r : FieldRead) → fieldAt form s at ≡ r → lateFrom form (suc n) front s at ≡ length s
+    go rest (refused k o) e = late-refused form n front s at k o e
+    go rest (field x after) e = first rest x after e (rw (row-field form n s at x after e) at up)
 
 -- a field that is neither seen before nor late has a key from this one on
 abbrev Floor : Draft → (last least : ℕ) → Type 0
@@ -63,43 +64,43 @@ floor-next d x r flagged k y fresh in-time =
 
 -- the fields that the strict reading accepts
 pub strict-ascends
-    : (n : ℕ) (s : List ℕ) (at last : ℕ) (d : Draft) (least : ℕ) (p : Plan) (ports flows : ℕ)
+    : (form : Form) (n : ℕ) (s : List ℕ) (at last : ℕ) (d : Draft) (least : ℕ) (p : Plan) (ports flows : ℕ)
     → Flagged d
     → Floor d last least
-    → readFrom strict n s at last d ≡ accepted p ports flows
-    → Ascends least (fieldsFrom n s at)
+    → readFrom form strict n s at last d ≡ accepted p ports flows
+    → Ascends least (fieldsFrom form n s at)
 unfolding fieldsFrom
-strict-ascends zero s at last d least p m k flagged floor e = none
-strict-ascends (suc n) s at last d least p m k flagged floor e =
-    by-end (λ after key d′ least. strict-ascends n s after key d′ least p m k) (ltb at (length s)) refl
+strict-ascends form zero s at last d least p m k flagged floor e = none
+strict-ascends form (suc n) s at last d least p m k flagged floor e =
+    by-end (λ after key d′ least. strict-ascends form n s after key d′ least p m k) (ltb at (length s)) refl
   where
     Rest : Type 0
     Rest =
         (after key : ℕ) (d′ : Draft) (least : ℕ)
         → Flagged d′
         → Floor d′ key least
-        → readFrom strict n s after key d′ ≡ accepted p m k
-        → Ascends least (fieldsFrom n s after)
+        → readFrom form strict n s after key d′ ≡ accepted p m k
+        → Ascends least (fieldsFrom form n s after)
 
-    by-step : Rest → at < length s → (r : Step) → stepAt strict s at last d ≡ r → Ascends least (fieldsFrom (suc n) s at)
+    by-step : Rest → at < length s → (r : Step) → stepAt form strict s at last d ≡ r → Ascends least (fieldsFrom form (suc n) s at)
     by-step rest inside (stop number offset) q =
-        let y : rejected number offset ≡ accepted p m k = sym (stop-one strict s at last d n number offset inside q) ∙ e in
+        let y : rejected number offset ≡ accepted p m k = sym (stop-one form strict s at last d n number offset inside q) ∙ e in
         let z : _≡_ {A = ℕ} 0 1 = cc in
         absurd (omega arith)
     by-step rest inside (more after key d′) q =
-        let t = step-more strict s at last d after key d′ q in
+        let t = step-more form strict s at last d after key d′ q in
         let x = t .part in
-        let ok = found-numbers s at x after (t .stands) in
+        let ok = found-numbers form s at x after (t .stands) in
         let floors = floor-next d x (routeAt (x .kind) s at) flagged ok in
         let flags = added-flagged d x (routeAt (x .kind) s at) flagged in
-        let reads = sym (more-one strict s at last d n after key d′ inside q) ∙ e in
-        rw (row-field n s at x after (t .stands))
+        let reads = sym (more-one form strict s at last d n after key d′ inside q) ∙ e in
+        rw (row-field form n s at x after (t .stands))
         (next ok (floor x (t .fresh) (t .in-time))
         (rest after (keyOf x) (added d x (routeAt (x .kind) s at)) (suc (keyOf x)) flags floors (rw (t .keyed, t .adds) reads)))
 
-    by-end : Rest → (b : Bool) → ltb at (length s) ≡ b → Ascends least (fieldsFrom (suc n) s at)
-    by-end rest true q = by-step rest (ltb-true at (length s) q) (stepAt strict s at last d) refl
-    by-end rest false q = rw (row-refused (suc n) s at 2 at (past-end s at (ltb-false at (length s) q))) none
+    by-end : Rest → (b : Bool) → ltb at (length s) ≡ b → Ascends least (fieldsFrom form (suc n) s at)
+    by-end rest true q = by-step rest (ltb-true at (length s) q) (stepAt form strict s at last d) refl
+    by-end rest false q = rw (row-refused form (suc n) s at 2 at (past-end form s at (ltb-false at (length s) q))) none
 
 -- a field of such a row has a key from the row's first on
 ascends-from : {least : ℕ} {es : List Entry} {f : Entry} → Ascends least es → List·Memᴰ f es → least ≤ keyOf (f .field)

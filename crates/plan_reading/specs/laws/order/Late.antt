@@ -7,6 +7,7 @@ use native.Mathlib.Omega.{arith}
 use borrow.Author.Tests.{le-ltb, ltb-false}
 use lib.Dec.{ltb}
 use lib.ListN.{length}
+use Rattle.plan.specs.Layout.{Form}
 use Rattle.plan.specs.Field.{Field, FieldRead, field, refused, fieldAt}
 use Rattle.plan_reading.specs.Key.{keyOf}
 use Rattle.plan_reading.specs.Ranges.{NumbersOk}
@@ -17,43 +18,43 @@ use Rattle.plan_reading.specs.laws.fields.Found.{found-forward, found-wi
 use Rattle.plan_reading.specs.laws.order.Ranks.{before-key}
 
 -- past the plan's end no field stands
-pub past-end : (s : List ℕ) (at : ℕ) → length s ≤ at → fieldAt s at ≡ refused 2 at
-past-end s at end = field-cut s at (not-whole s at (omega arith))
+pub past-end : (form : Form) (s : List ℕ) (at : ℕ) → length s ≤ at → fieldAt form s at ≡ refused 2 at
+past-end form s at end = field-cut form s at (not-whole s at (omega arith))
 
 -- the first field that should have stood earlier, field by field
-module _ (n : ℕ) (front : List Field) (s : List ℕ) (at : ℕ) where
-  pub late-refused : (k o : ℕ) → fieldAt s at ≡ refused k o → lateFrom (suc n) front s at ≡ length s
+module _ (form : Form) (n : ℕ) (front : List Field) (s : List ℕ) (at : ℕ) where
+  pub late-refused : (k o : ℕ) → fieldAt form s at ≡ refused k o → lateFrom form (suc n) front s at ≡ length s
   unfolding lateFrom
   late-refused k o e = rw (e, lateFrom)
 
-  pub late-here : (x : Field) (next : ℕ) → fieldAt s at ≡ field x next → overdue x front ≡ true → lateFrom (suc n) front s at ≡ at
+  pub late-here : (x : Field) (next : ℕ) → fieldAt form s at ≡ field x next → overdue x front ≡ true → lateFrom form (suc n) front s at ≡ at
   unfolding lateFrom
   late-here x next e o = rw (e, o, lateFrom)
 
   pub late-past
       : (x : Field) (next : ℕ)
-      → fieldAt s at ≡ field x next
+      → fieldAt form s at ≡ field x next
       → overdue x front ≡ false
-      → lateFrom (suc n) front s at ≡ lateFrom n (x ∷ front) s next
+      → lateFrom form (suc n) front s at ≡ lateFrom form n (x ∷ front) s next
   unfolding lateFrom
   late-past x next e o = rw (e, o, lateFrom)
 
 -- it does not stand before the offset that is looked from
-pub late-onward : (n : ℕ) (front : List Field) (s : List ℕ) (at : ℕ) → at ≤ length s → at ≤ lateFrom n front s at
+pub late-onward : (form : Form) (n : ℕ) (front : List Field) (s : List ℕ) (at : ℕ) → at ≤ length s → at ≤ lateFrom form n front s at
 unfolding lateFrom
-late-onward zero front s at inside = inside
-late-onward (suc n) front s at inside = go (λ x next. late-onward n (x ∷ front) s next) (fieldAt s at) refl
+late-onward form zero front s at inside = inside
+late-onward form (suc n) front s at inside = go (λ x next. late-onward form n (x ∷ front) s next) (fieldAt form s at) refl
   where
     Rest : Type 0
-    Rest = (x : Field) (next : ℕ) → next ≤ length s → next ≤ lateFrom n (x ∷ front) s next
+    Rest = (x : Field) (next : ℕ) → next ≤ length s → next ≤ lateFrom form n (x ∷ front) s next
 
-    by-front : Rest → (x : Field) (next : ℕ) → fieldAt s at ≡ field x next → (b : Bool) → overdue x front ≡ b → at ≤ lateFrom (suc n) front s at
-    by-front rest x next e true o = omega (arith, late-here n front s at x next e o)
+    by-front : Rest → (x : Field) (next : ℕ) → fieldAt form s at ≡ field x next → (b : Bool) → overdue x front ≡ b → at ≤ lateFrom form (suc n) front s at
+    by-front rest x next e true o = omega (arith, late-here form n front s at x next e o)
     by-front rest x next e false o =
-        omega (arith, late-past n front s at x next e o, rest x next (found-within s at x next e), found-forward s at x next e)
+        omega (arith, late-past form n front s at x next e o, rest x next (found-within form s at x next e), found-forward form s at x next e)
 
-    go : Rest → (r : FieldRead) → fieldAt s at ≡ r → at ≤ lateFrom (suc n) front s at
-    go rest (refused k o) e = omega (arith, late-refused n front s at k o e)
+    go : Rest → (r : FieldRead) → fieldAt form s at ≡ r → at ≤ lateFrom form (suc n) front s at
+    go rest (refused k o) e = omega (arith, late-refused form n front s at k o e)
     go rest (field x next) e = by-front rest x next e (overdue x front) refl
 
 -- one of the fields in front is due after x exactly when the key of the last one is above x's

@@ -7,6 +7,7 @@ use lib.ListN.{length, getD, take, drop, length-append, length-drop, length-repl
 use lib.Seq.{getD-append-add, drop-append-add, drop-append-le, take-append-le}
 use Rattle.cqf.specs.Plan.{Plan}
 use Rattle.plan.specs.Bytes.{headSize, tagAt, sizeAt, valueAt}
+use Rattle.plan.specs.Layout.{Form}
 use Rattle.plan_reading.specs.Key.{keySlots}
 use Rattle.plan_reading.specs.Draft.{Draft, blank, added}
 use Rattle.plan_reading.specs.Reading.{accepted, routeAt, readPlan}
@@ -41,11 +42,11 @@ module _ (front b rest : List ℕ) (is : IsField b) where
 
 -- a walk over whole fields stores them one after the other
 walk-stored
-    : (bs : List (List ℕ)) (s front : List ℕ) (at : ℕ) (d e : Draft)
+    : {form : Form} (bs : List (List ℕ)) (s front : List ℕ) (at : ℕ) (d e : Draft)
     → s ≡ front ++ flatten bs
     → at ≡ length front
     → AllFields bs
-    → Reads s at d e
+    → Reads form s at d e
     → Stored bs d e
 unfolding flatten
 walk-stored [] s front at d e p q h (done same end) = nothing same
@@ -53,8 +54,8 @@ walk-stored [] s front at d e p q h (one x after less stands fresh no-repeat res
     absurd (omega (arith, ap length (p ∙ append-nil front)))
 walk-stored (b ∷ bs) s front at d e p q (more is h) (done same end) =
     absurd (omega (arith, ap length p, length-append front (b ++ flatten bs), length-append b (flatten bs), is .headed))
-walk-stored (b ∷ bs) s front at d e p q (more is h) (one x after less stands fresh no-repeat rest) =
-    let r = field-passes s at x after stands in
+walk-stored {form} (b ∷ bs) s front at d e p q (more is h) (one x after less stands fresh no-repeat rest) =
+    let r = field-passes form s at x after stands in
     let tag : tagAt s at ≡ tagAt b 0 = rw (p, q) (tag-inside front b (flatten bs) is) in
     let size : sizeAt s at ≡ sizeAt b 0 = rw (p, q) (size-inside front b (flatten bs) is) in
     let value : valueAt s at ≡ valueAt b 0 = rw (p, q) (value-inside front b (flatten bs) is) in
@@ -72,10 +73,10 @@ all-permuted (List·Permᴰ·trans p q) h = all-permuted q (all-permuted p h)
 
 -- an accepted plan of whole fields leaves what they store
 pub accepted-stored
-    : (bs : List (List ℕ)) (s : List ℕ) (d : Draft)
+    : {form : Form} (bs : List (List ℕ)) (s : List ℕ) (d : Draft)
     → s ≡ flatten bs
     → AllFields bs
-    → Reads s 0 blank d
+    → Reads form s 0 blank d
     → Stored bs blank d
 accepted-stored bs s d p h reads = walk-stored bs s [] 0 blank d p refl h reads
 

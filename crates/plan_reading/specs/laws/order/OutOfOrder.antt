@@ -9,6 +9,7 @@ use borrow.Author.Tests.{ltb-true, ltb-false}
 use lib.Dec.{ltb, eqb}
 use lib.ListN.{length}
 use Rattle.cqf.specs.Bounded.{within}
+use Rattle.plan.specs.Layout.{Form, formBy}
 use Rattle.plan.specs.Field.{FieldRead, field, refused, fieldAt}
 use Rattle.plan_reading.specs.Key.{headerKey, keyOf}
 use Rattle.plan_reading.specs.Draft.{Draft, blank, hasKey, taken, fieldRepeats, added}
@@ -20,17 +21,17 @@ use Rattle.plan_reading.specs.laws.reading.Refusals.{refused-here}
 use Rattle.plan_reading.specs.laws.order.Strictly.{strict-reading}
 
 -- the refusals of one field, and those of the whole plan
-step-number : (s : List ℕ) (at last : ℕ) (d : Draft) (k o : ℕ) → stepAt loose s at last d ≡ stop k o → k ≤ 9
+step-number : (form : Form) (s : List ℕ) (at last : ℕ) (d : Draft) (k o : ℕ) → stepAt form loose s at last d ≡ stop k o → k ≤ 9
 unfolding stepAt
-step-number s at last d k o e = go (fieldAt s at) refl e
+step-number form s at last d k o e = go (fieldAt form s at) refl e
   where
     by-tests : (six seven : Bool) (n key : ℕ) (d′ : Draft) → cond six (stop 6 at) (cond seven (stop 7 at) (more n key d′)) ≡ stop k o → k ≤ 9
     by-tests true b n key d′ e = let same : _≡_ {A = ℕ} 6 k = cc in omega arith
     by-tests false true n key d′ e = let same : _≡_ {A = ℕ} 7 k = cc in omega arith
     by-tests false false n key d′ e = let z : _≡_ {A = ℕ} 0 1 = cc in absurd (omega arith)
 
-    go : (r : FieldRead) → fieldAt s at ≡ r → fieldStep loose s at last d r ≡ stop k o → k ≤ 9
-    go (refused number offset) q e = let same : number ≡ k = cc in omega (arith, refused-here s at number offset q .early)
+    go : (r : FieldRead) → fieldAt form s at ≡ r → fieldStep loose s at last d r ≡ stop k o → k ≤ 9
+    go (refused number offset) q e = let same : number ≡ k = cc in omega (arith, refused-here form s at number offset q .early)
     go (field x next) q e = by-tests (taken d x) (fieldRepeats (routeAt (x .kind) s at)) next (keyOf x) (added d x (routeAt (x .kind) s at)) e
 
 closed-number : (s : List ℕ) (d : Draft) (k o : ℕ) → closing s d ≡ rejected k o → k ≤ 9
@@ -48,31 +49,31 @@ closed-number s d k o = go (not (hasKey d headerKey) || eqb (d .flows) 0) (ltb a
     go false true e = let same : _≡_ {A = ℕ} 9 k = cc in omega arith
     go false false e = let z : _≡_ {A = ℕ} 0 1 = cc in absurd (omega arith)
 
-number-from : (n : ℕ) (s : List ℕ) (at last : ℕ) (d : Draft) (k o : ℕ) → readFrom loose n s at last d ≡ rejected k o → k ≤ 9
+number-from : (form : Form) (n : ℕ) (s : List ℕ) (at last : ℕ) (d : Draft) (k o : ℕ) → readFrom form loose n s at last d ≡ rejected k o → k ≤ 9
 unfolding readFrom
-number-from zero s at last d k o e = closed-number s d k o e
-number-from (suc n) s at last d k o e = by-end (λ next key d′. number-from n s next key d′ k o) (ltb at (length s)) refl
+number-from form zero s at last d k o e = closed-number s d k o e
+number-from form (suc n) s at last d k o e = by-end (λ next key d′. number-from form n s next key d′ k o) (ltb at (length s)) refl
   where
     Rest : Type 0
-    Rest = (next key : ℕ) (d′ : Draft) → readFrom loose n s next key d′ ≡ rejected k o → k ≤ 9
+    Rest = (next key : ℕ) (d′ : Draft) → readFrom form loose n s next key d′ ≡ rejected k o → k ≤ 9
 
-    by-step : Rest → at < length s → (r : Step) → stepAt loose s at last d ≡ r → k ≤ 9
+    by-step : Rest → at < length s → (r : Step) → stepAt form loose s at last d ≡ r → k ≤ 9
     by-step rest l (stop k′ o′) q =
-        let r : rejected k′ o′ ≡ rejected k o = sym (stop-one loose s at last d n k′ o′ l q) ∙ e in
+        let r : rejected k′ o′ ≡ rejected k o = sym (stop-one form loose s at last d n k′ o′ l q) ∙ e in
         let same : k′ ≡ k = cc in
-        omega (arith, step-number s at last d k′ o′ q)
-    by-step rest l (more next key d′) q = rest next key d′ (sym (more-one loose s at last d n next key d′ l q) ∙ e)
+        omega (arith, step-number form s at last d k′ o′ q)
+    by-step rest l (more next key d′) q = rest next key d′ (sym (more-one form loose s at last d n next key d′ l q) ∙ e)
 
     by-end : Rest → (b : Bool) → ltb at (length s) ≡ b → k ≤ 9
-    by-end rest true q = by-step rest (ltb-true _ _ q) (stepAt loose s at last d) refl
-    by-end rest false q = closed-number s d k o (sym (read-end loose s at last d (suc n) (ltb-false _ _ q)) ∙ e)
+    by-end rest true q = by-step rest (ltb-true _ _ q) (stepAt form loose s at last d) refl
+    by-end rest false q = closed-number s d k o (sym (read-end form loose s at last d (suc n) (ltb-false _ _ q)) ∙ e)
 
 -- the loose reading refuses with 1 to 9
 pub loose-number : (s : List ℕ) (number offset : ℕ) → readAs loose s ≡ rejected number offset → number ≤ 9
 loose-number s k o e = go (within 1 maxBytes (length s)) refl
   where
     go : (b : Bool) → within 1 maxBytes (length s) ≡ b → k ≤ 9
-    go true q = number-from (length s) s 0 0 blank k o (sym (read-sized loose s q) ∙ e)
+    go true q = number-from (formBy s) (length s) s 0 0 blank k o (sym (read-sized loose s q) ∙ e)
     go false q =
         let r : rejected 1 0 ≡ rejected k o = sym (read-unsized loose s q) ∙ e in
         let same : _≡_ {A = ℕ} 1 k = cc in

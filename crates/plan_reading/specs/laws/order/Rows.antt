@@ -5,6 +5,7 @@ use mathlib.Core.List.{List, [], _∷_}
 use mathlib.Core.Bool.{true, and-eq-true-iff}
 use native.Mathlib.Omega.{arith}
 use borrow.Author.Tests.{lt-ltb, ltb-true}
+use Rattle.plan.specs.Layout.{Form}
 use Rattle.plan.specs.Field.{Field, FieldRead, field, refused, fieldAt}
 use Rattle.plan_reading.specs.Key.{keyOf}
 use Rattle.plan_reading.specs.Rank.{before}
@@ -15,17 +16,17 @@ use Rattle.plan_reading.specs.laws.fields.Found.{found-numbers}
 use Rattle.plan_reading.specs.laws.order.Ranks.{before-key}
 
 -- the fields of a plan, one by one
-pub row-refused : (n : ℕ) (s : List ℕ) (at k o : ℕ) → fieldAt s at ≡ refused k o → fieldsFrom n s at ≡ []
+pub row-refused : (form : Form) (n : ℕ) (s : List ℕ) (at k o : ℕ) → fieldAt form s at ≡ refused k o → fieldsFrom form n s at ≡ []
 unfolding fieldsFrom
-row-refused zero s at k o e = refl
-row-refused (suc n) s at k o e = rw (e, fieldsFrom)
+row-refused form zero s at k o e = refl
+row-refused form (suc n) s at k o e = rw (e, fieldsFrom)
 
 pub row-field
-    : (n : ℕ) (s : List ℕ) (at : ℕ) (x : Field) (next : ℕ)
-    → fieldAt s at ≡ field x next
-    → fieldsFrom (suc n) s at ≡ entryOf x (routeAt (x .kind) s at) ∷ fieldsFrom n s next
+    : (form : Form) (n : ℕ) (s : List ℕ) (at : ℕ) (x : Field) (next : ℕ)
+    → fieldAt form s at ≡ field x next
+    → fieldsFrom form (suc n) s at ≡ entryOf x (routeAt (x .kind) s at) ∷ fieldsFrom form n s next
 unfolding fieldsFrom
-row-field n s at x next e = rw (e, fieldsFrom)
+row-field form n s at x next e = rw (e, fieldsFrom)
 
 -- fields in range whose keys rise from this one on
 pub data Ascends : ℕ → List Entry → Type 0 where
@@ -54,14 +55,14 @@ data Ranged : List Entry → Type 0 where
   none : Ranged []
   next : {e : Entry} {es : List Entry} → NumbersOk (e .field) → Ranged es → Ranged (e ∷ es)
 
-ranged : (n : ℕ) (s : List ℕ) (at : ℕ) → Ranged (fieldsFrom n s at)
+ranged : (form : Form) (n : ℕ) (s : List ℕ) (at : ℕ) → Ranged (fieldsFrom form n s at)
 unfolding fieldsFrom
-ranged zero s at = none
-ranged (suc n) s at = go (ranged n s) (fieldAt s at) refl
+ranged form zero s at = none
+ranged form (suc n) s at = go (ranged form n s) (fieldAt form s at) refl
   where
-    go : ((next : ℕ) → Ranged (fieldsFrom n s next)) → (r : FieldRead) → fieldAt s at ≡ r → Ranged (fieldsFrom (suc n) s at)
-    go rest (refused k o) e = rw (row-refused (suc n) s at k o e) none
-    go rest (field x after) e = rw (row-field n s at x after e) (next (found-numbers s at x after e) (rest after))
+    go : ((next : ℕ) → Ranged (fieldsFrom form n s next)) → (r : FieldRead) → fieldAt form s at ≡ r → Ranged (fieldsFrom form (suc n) s at)
+    go rest (refused k o) e = rw (row-refused form (suc n) s at k o e) none
+    go rest (field x after) e = rw (row-field form n s at x after e) (next (found-numbers form s at x after e) (rest after))
 
 abbrev From : ℕ → List Entry → Type 0
 From least [] = Unit {0}
@@ -80,8 +81,8 @@ rising-ascends least (next {e = e} {es = es} k rest) from up =
         let b = and-eq-true-iff (before (e .field) (f .field)) (ahead (e .field) fs) .0 a .0 in
         ltb-true (keyOf (e .field)) (keyOf (f .field)) (sym (before-key (e .field) (f .field) k m) ∙ b)
 
-pub rising-from : (n : ℕ) (s : List ℕ) (at : ℕ) → rising (fieldsFrom n s at) ≡ true → Ascends 0 (fieldsFrom n s at)
-rising-from n s at = rising-ascends 0 (ranged n s at) (any (fieldsFrom n s at))
+pub rising-from : (form : Form) (n : ℕ) (s : List ℕ) (at : ℕ) → rising (fieldsFrom form n s at) ≡ true → Ascends 0 (fieldsFrom form n s at)
+rising-from form n s at = rising-ascends 0 (ranged form n s at) (any (fieldsFrom form n s at))
   where
     any : (es : List Entry) → From 0 es
     any [] = tt

@@ -8,6 +8,7 @@ use borrow.Author.Tests.{lt-ltb, le-ltb, le-leb, ltb-true, ltb-false}
 use lib.Dec.{ltb}
 use lib.ListN.{length}
 use Rattle.cqf.specs.Bounded.{within}
+use Rattle.plan.specs.Layout.{Form, formBy}
 use Rattle.plan.specs.Field.{Field, FieldRead, field, refused, fieldAt}
 use Rattle.plan_reading.specs.Key.{keyOf}
 use Rattle.plan_reading.specs.Ranges.{NumbersOk}
@@ -29,135 +30,135 @@ closed : (s : List ℕ) (d : Draft) → closing s d ≡ strictly s (length s) (c
 closed s d = stands s (length s) (closing s d) (closed-last s d (length s) ∙ le-leb (length s) (length s) (omega arith))
 
 -- the strict reading of the fields from this offset on is the loose one but for a field that should have stood earlier
-abbrev Strictly : ℕ → List ℕ → (at last : ℕ) → Draft → List Field → Type 0
-Strictly n s at last d front = readFrom strict n s at last d ≡ strictly s (lateFrom n front s at) (readFrom loose n s at last d)
+abbrev Strictly : Form → ℕ → List ℕ → (at last : ℕ) → Draft → List Field → Type 0
+Strictly form n s at last d front = readFrom form strict n s at last d ≡ strictly s (lateFrom form n front s at) (readFrom form loose n s at last d)
 
 -- one field, and those after it
-module _ (n : ℕ) (s : List ℕ) (at last : ℕ) (d : Draft) (front : List Field) (inside : at < length s) where
+module _ (form : Form) (n : ℕ) (s : List ℕ) (at last : ℕ) (d : Draft) (front : List Field) (inside : at < length s) where
   -- both readings stop at this field, before test 12
   both-stop : (k o : ℕ)
-      → readFrom strict (suc n) s at last d ≡ rejected k o
-      → readFrom loose (suc n) s at last d ≡ rejected k o
-      → foundBefore s (lateFrom (suc n) front s at) (rejected k o) ≡ true
-      → Strictly (suc n) s at last d front
-  both-stop k o a b f = a ∙ stands s (lateFrom (suc n) front s at) (rejected k o) f ∙ rw b
+      → readFrom form strict (suc n) s at last d ≡ rejected k o
+      → readFrom form loose (suc n) s at last d ≡ rejected k o
+      → foundBefore s (lateFrom form (suc n) front s at) (rejected k o) ≡ true
+      → Strictly form (suc n) s at last d front
+  both-stop k o a b f = a ∙ stands s (lateFrom form (suc n) front s at) (rejected k o) f ∙ rw b
 
-  from-refused : (k o : ℕ) → fieldAt s at ≡ refused k o → Strictly (suc n) s at last d front
+  from-refused : (k o : ℕ) → fieldAt form s at ≡ refused k o → Strictly form (suc n) s at last d front
   from-refused k o e =
-      let h = refused-here s at k o e in
-      let whole = late-refused n front s at k o e in
+      let h = refused-here form s at k o e in
+      let whole = late-refused form n front s at k o e in
       both-stop k o
-      (stop-one strict s at last d n k o inside (step-refused strict s at last d k o e))
-      (stop-one loose s at last d n k o inside (step-refused loose s at last d k o e))
-      (rw (le-leb k 6 (h .early)) (le-leb o (lateFrom (suc n) front s at) (omega (arith, h .place))))
+      (stop-one form strict s at last d n k o inside (step-refused form strict s at last d k o e))
+      (stop-one form loose s at last d n k o inside (step-refused form loose s at last d k o e))
+      (rw (le-leb k 6 (h .early)) (le-leb o (lateFrom form (suc n) front s at) (omega (arith, h .place))))
 
-  module _ (x : Field) (next : ℕ) (e : fieldAt s at ≡ field x next) where
-    from-taken : taken d x ≡ true → Strictly (suc n) s at last d front
+  module _ (x : Field) (next : ℕ) (e : fieldAt form s at ≡ field x next) where
+    from-taken : taken d x ≡ true → Strictly form (suc n) s at last d front
     from-taken t =
         both-stop 6 at
-        (stop-one strict s at last d n 6 at inside (step-taken strict s at last d x next e t))
-        (stop-one loose s at last d n 6 at inside (step-taken loose s at last d x next e t))
-        (le-leb at (lateFrom (suc n) front s at) (late-onward (suc n) front s at (omega arith)))
+        (stop-one form strict s at last d n 6 at inside (step-taken form strict s at last d x next e t))
+        (stop-one form loose s at last d n 6 at inside (step-taken form loose s at last d x next e t))
+        (le-leb at (lateFrom form (suc n) front s at) (late-onward form (suc n) front s at (omega arith)))
 
     -- test 12 finds it, and the loose reading finds nothing before
-    nothing-before : taken d x ≡ false → foundBefore s at (readFrom loose (suc n) s at last d) ≡ false
+    nothing-before : taken d x ≡ false → foundBefore s at (readFrom form loose (suc n) s at last d) ≡ false
     nothing-before t = go (fieldRepeats (routeAt (x .kind) s at)) refl
       where
-        go : (b : Bool) → fieldRepeats (routeAt (x .kind) s at) ≡ b → foundBefore s at (readFrom loose (suc n) s at last d) ≡ false
+        go : (b : Bool) → fieldRepeats (routeAt (x .kind) s at) ≡ b → foundBefore s at (readFrom form loose (suc n) s at last d) ≡ false
         go true g =
-            rw (stop-one loose s at last d n 7 at inside (step-repeats loose s at last d x next e t refl g))
+            rw (stop-one form loose s at last d n 7 at inside (step-repeats form loose s at last d x next e t refl g))
             (le-ltb at at (omega arith))
         go false g =
-            rw (more-one loose s at last d n next (keyOf x) (added d x (routeAt (x .kind) s at)) inside (step-added loose s at last d x next e t refl g))
-            (found-after loose n s next (keyOf x) (added d x (routeAt (x .kind) s at)) at (omega (arith, found-forward s at x next e)) inside)
+            rw (more-one form loose s at last d n next (keyOf x) (added d x (routeAt (x .kind) s at)) inside (step-added form loose s at last d x next e t refl g))
+            (found-after form loose n s next (keyOf x) (added d x (routeAt (x .kind) s at)) at (omega (arith, found-forward form s at x next e)) inside)
 
-    from-late : taken d x ≡ false → overdue x front ≡ true → ltb (keyOf x) last ≡ true → Strictly (suc n) s at last d front
+    from-late : taken d x ≡ false → overdue x front ≡ true → ltb (keyOf x) last ≡ true → Strictly form (suc n) s at last d front
     from-late t o l =
-        stop-one strict s at last d n 12 at inside (step-late strict s at last d x next e t l)
-        ∙ rw (late-here n front s at x next e o, nothing-before t)
+        stop-one form strict s at last d n 12 at inside (step-late form strict s at last d x next e t l)
+        ∙ rw (late-here form n front s at x next e o, nothing-before t)
 
     -- it is in time
     module _ (t : taken d x ≡ false) (o : overdue x front ≡ false) (l : ltb (keyOf x) last ≡ false) where
-      from-repeats : fieldRepeats (routeAt (x .kind) s at) ≡ true → Strictly (suc n) s at last d front
+      from-repeats : fieldRepeats (routeAt (x .kind) s at) ≡ true → Strictly form (suc n) s at last d front
       from-repeats g =
-          let past = late-past n front s at x next e o in
-          let onward = late-onward n (x ∷ front) s next (found-within s at x next e) in
+          let past = late-past form n front s at x next e o in
+          let onward = late-onward form n (x ∷ front) s next (found-within form s at x next e) in
           both-stop 7 at
-          (stop-one strict s at last d n 7 at inside (step-repeats strict s at last d x next e t l g))
-          (stop-one loose s at last d n 7 at inside (step-repeats loose s at last d x next e t refl g))
-          (lt-ltb at (lateFrom (suc n) front s at) (omega (arith, found-forward s at x next e)))
+          (stop-one form strict s at last d n 7 at inside (step-repeats form strict s at last d x next e t l g))
+          (stop-one form loose s at last d n 7 at inside (step-repeats form loose s at last d x next e t refl g))
+          (lt-ltb at (lateFrom form (suc n) front s at) (omega (arith, found-forward form s at x next e)))
 
       from-added
           : fieldRepeats (routeAt (x .kind) s at) ≡ false
-          → Strictly n s next (keyOf x) (added d x (routeAt (x .kind) s at)) (x ∷ front)
-          → Strictly (suc n) s at last d front
+          → Strictly form n s next (keyOf x) (added d x (routeAt (x .kind) s at)) (x ∷ front)
+          → Strictly form (suc n) s at last d front
       from-added g rest =
           let after = added d x (routeAt (x .kind) s at) in
-          more-one strict s at last d n next (keyOf x) after inside (step-added strict s at last d x next e t l g)
+          more-one form strict s at last d n next (keyOf x) after inside (step-added form strict s at last d x next e t l g)
           ∙ rest
           ∙ rw (
-            late-past n front s at x next e o,
-            more-one loose s at last d n next (keyOf x) after inside (step-added loose s at last d x next e t refl g),
+            late-past form n front s at x next e o,
+            more-one form loose s at last d n next (keyOf x) after inside (step-added form loose s at last d x next e t refl g),
           )
 
     -- by the tests 6, 12 and 7, where the fields after it are read so
     module _
         (known : Known front last)
-        (rest : (after : Draft) → Known (x ∷ front) (keyOf x) → Strictly n s next (keyOf x) after (x ∷ front)) where
+        (rest : (after : Draft) → Known (x ∷ front) (keyOf x) → Strictly form n s next (keyOf x) after (x ∷ front)) where
       ok : NumbersOk x
-      ok = found-numbers s at x next e
+      ok = found-numbers form s at x next e
 
       by-repeats
           : taken d x ≡ false
           → ltb (keyOf x) last ≡ false
           → (b : Bool)
           → fieldRepeats (routeAt (x .kind) s at) ≡ b
-          → Strictly (suc n) s at last d front
+          → Strictly form (suc n) s at last d front
       by-repeats t l true g = from-repeats t (known x ok ∙ l) l g
       by-repeats t l false g =
           from-added t (known x ok ∙ l) l g (rest (added d x (routeAt (x .kind) s at)) (known-next front last x ok known l))
 
-      by-key : taken d x ≡ false → (b : Bool) → ltb (keyOf x) last ≡ b → Strictly (suc n) s at last d front
+      by-key : taken d x ≡ false → (b : Bool) → ltb (keyOf x) last ≡ b → Strictly form (suc n) s at last d front
       by-key t true l = from-late t (known x ok ∙ l) l
       by-key t false l = by-repeats t l (fieldRepeats (routeAt (x .kind) s at)) refl
 
-      from-field : (b : Bool) → taken d x ≡ b → Strictly (suc n) s at last d front
+      from-field : (b : Bool) → taken d x ≡ b → Strictly form (suc n) s at last d front
       from-field true t = from-taken t
       from-field false t = by-key t (ltb (keyOf x) last) refl
 
 -- the fields from this offset on
-strict-from : (n : ℕ) (s : List ℕ) (at last : ℕ) (d : Draft) (front : List Field) → Known front last → Strictly n s at last d front
+strict-from : (form : Form) (n : ℕ) (s : List ℕ) (at last : ℕ) (d : Draft) (front : List Field) → Known front last → Strictly form n s at last d front
 unfolding readFrom lateFrom
-strict-from zero s at last d front known = closed s d
-strict-from (suc n) s at last d front known =
-    by-end (λ x next after k. strict-from n s next (keyOf x) after (x ∷ front) k) (ltb at (length s)) refl
+strict-from form zero s at last d front known = closed s d
+strict-from form (suc n) s at last d front known =
+    by-end (λ x next after k. strict-from form n s next (keyOf x) after (x ∷ front) k) (ltb at (length s)) refl
   where
     Rest : Type 0
-    Rest = (x : Field) (next : ℕ) (after : Draft) → Known (x ∷ front) (keyOf x) → Strictly n s next (keyOf x) after (x ∷ front)
+    Rest = (x : Field) (next : ℕ) (after : Draft) → Known (x ∷ front) (keyOf x) → Strictly form n s next (keyOf x) after (x ∷ front)
 
-    by-field : Rest → at < length s → (r : FieldRead) → fieldAt s at ≡ r → Strictly (suc n) s at last d front
-    by-field rest inside (refused k o) e = from-refused n s at last d front inside k o e
-    by-field rest inside (field x next) e = from-field n s at last d front inside x next e known (rest x next) (taken d x) refl
+    by-field : Rest → at < length s → (r : FieldRead) → fieldAt form s at ≡ r → Strictly form (suc n) s at last d front
+    by-field rest inside (refused k o) e = from-refused form n s at last d front inside k o e
+    by-field rest inside (field x next) e = from-field form n s at last d front inside x next e known (rest x next) (taken d x) refl
 
-    by-end : Rest → (b : Bool) → ltb at (length s) ≡ b → Strictly (suc n) s at last d front
-    by-end rest true e = by-field rest (ltb-true at (length s) e) (fieldAt s at) refl
+    by-end : Rest → (b : Bool) → ltb at (length s) ≡ b → Strictly form (suc n) s at last d front
+    by-end rest true e = by-field rest (ltb-true at (length s) e) (fieldAt form s at) refl
     by-end rest false e =
         let end = ltb-false at (length s) e in
-        read-end strict s at last d (suc n) end
+        read-end form strict s at last d (suc n) end
         ∙ closed s d
-        ∙ rw (late-refused n front s at 2 at (past-end s at end), read-end loose s at last d (suc n) end)
+        ∙ rw (late-refused form n front s at 2 at (past-end form s at end), read-end form loose s at last d (suc n) end)
 
 -- a whole plan
 pub strict-reading : (s : List ℕ) → readAs strict s ≡ strictly s (firstLate s) (readAs loose s)
 unfolding firstLate
 strict-reading s = go (within 1 maxBytes (length s)) refl
   where
-    go : (b : Bool) → within 1 maxBytes (length s) ≡ b → readAs strict s ≡ strictly s (lateFrom (length s) [] s 0) (readAs loose s)
+    go : (b : Bool) → within 1 maxBytes (length s) ≡ b → readAs strict s ≡ strictly s (lateFrom (formBy s) (length s) [] s 0) (readAs loose s)
     go true e =
         read-sized strict s e
-        ∙ strict-from (length s) s 0 0 blank [] known-none
+        ∙ strict-from (formBy s) (length s) s 0 0 blank [] known-none
         ∙ rw (read-sized loose s e)
     go false e =
         read-unsized strict s e
-        ∙ stands s (lateFrom (length s) [] s 0) (rejected 1 0) (le-leb 0 (lateFrom (length s) [] s 0) (omega arith))
+        ∙ stands s (lateFrom (formBy s) (length s) [] s 0) (rejected 1 0) (le-leb 0 (lateFrom (formBy s) (length s) [] s 0) (omega arith))
         ∙ rw (read-unsized loose s e)

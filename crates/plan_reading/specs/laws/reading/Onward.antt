@@ -8,7 +8,7 @@ use borrow.Author.Tests.{lt-ltb, le-ltb, ltb-true, ltb-false}
 use lib.Dec.{ltb}
 use lib.ListN.{length}
 use Rattle.plan.specs.Bytes.{headSize}
-use Rattle.plan.specs.Layout.{Kind}
+use Rattle.plan.specs.Layout.{Form, Kind}
 use Rattle.plan.specs.Field.{Field}
 use Rattle.plan_reading.specs.Part.{partsBy, partsOf}
 use Rattle.plan_reading.specs.Draft.{Draft, added, portsIn, flowsIn, sumOf}
@@ -48,25 +48,25 @@ module _ (x : Field) (r : List ℕ) where
       go Kind.clock = omega arith
 
 pub onward
-    : (mode : Mode) (s : List ℕ) (at last : ℕ) (d : Draft) (next key : ℕ) (d′ : Draft)
-    → stepAt mode s at last d ≡ more next key d′
+    : (form : Form) (mode : Mode) (s : List ℕ) (at last : ℕ) (d : Draft) (next key : ℕ) (d′ : Draft)
+    → stepAt form mode s at last d ≡ more next key d′
     → Onward s at d next d′
 unfolding added
-onward mode s at last d next key d′ e =
-    let t = step-more mode s at last d next key d′ e in
+onward form mode s at last d next key d′ e =
+    let t = step-more form mode s at last d next key d′ e in
     let r = routeAt (t .part .kind) s at in
     let ep : d .ports + sumOf portsIn (partsOf (t .part) r) ≡ d′ .ports = ap (λ (y : Draft). y .ports) (t .adds) in
     let ef : d .flows + sumOf flowsIn (partsOf (t .part) r) ≡ d′ .flows = ap (λ (y : Draft). y .flows) (t .adds) in
     record {
-      forward = found-forward s at (t .part) next (t .stands);
-      inside = found-within s at (t .part) next (t .stands);
+      forward = found-forward form s at (t .part) next (t .stands);
+      inside = found-within form s at (t .part) next (t .stands);
       ports = omega (arith, portsIn-one (t .part) r);
       flows = omega (arith, flowsIn-one (t .part) r);
     }
 
-module _ (mode : Mode) (s : List ℕ) (at last : ℕ) (d : Draft) where
+module _ (form : Form) (mode : Mode) (s : List ℕ) (at last : ℕ) (d : Draft) where
   -- at the plan's end, whatever number of steps is left
-  pub read-end : (n : ℕ) → length s ≤ at → readFrom mode n s at last d ≡ closing s d
+  pub read-end : (n : ℕ) → length s ≤ at → readFrom form mode n s at last d ≡ closing s d
   unfolding readFrom
   read-end zero h = refl
   read-end (suc n) h = rw (le-ltb at (length s) h, readFrom)
@@ -74,67 +74,67 @@ module _ (mode : Mode) (s : List ℕ) (at last : ℕ) (d : Draft) where
   pub stop-one
       : (n : ℕ) (k o : ℕ)
       → at < length s
-      → stepAt mode s at last d ≡ stop k o
-      → readFrom mode (suc n) s at last d ≡ rejected k o
+      → stepAt form mode s at last d ≡ stop k o
+      → readFrom form mode (suc n) s at last d ≡ rejected k o
   unfolding readFrom
   stop-one n k o h e = rw (lt-ltb at (length s) h, e, readFrom)
 
   pub more-one
       : (n : ℕ) (next key : ℕ) (d′ : Draft)
       → at < length s
-      → stepAt mode s at last d ≡ more next key d′
-      → readFrom mode (suc n) s at last d ≡ readFrom mode n s next key d′
+      → stepAt form mode s at last d ≡ more next key d′
+      → readFrom form mode (suc n) s at last d ≡ readFrom form mode n s next key d′
   unfolding readFrom
   more-one n next key d′ h e = rw (lt-ltb at (length s) h, e, readFrom)
 
 -- any number of steps that is no less than the bytes left gives the same reading
 pub read-enough
-    : (mode : Mode) (n m : ℕ) (s : List ℕ) (at last : ℕ) (d : Draft)
+    : (form : Form) (mode : Mode) (n m : ℕ) (s : List ℕ) (at last : ℕ) (d : Draft)
     → length s ≤ at + n
     → length s ≤ at + m
-    → readFrom mode n s at last d ≡ readFrom mode m s at last d
-read-enough mode zero m s at last d h g =
-    read-end mode s at last d zero (omega arith) ∙ sym (read-end mode s at last d m (omega arith))
-read-enough mode (suc n) zero s at last d h g =
-    read-end mode s at last d (suc n) (omega arith) ∙ sym (read-end mode s at last d zero (omega arith))
-read-enough mode (suc n) (suc m) s at last d h g = by-end (λ next key d′. read-enough mode n m s next key d′) (ltb at (length s)) refl
+    → readFrom form mode n s at last d ≡ readFrom form mode m s at last d
+read-enough form mode zero m s at last d h g =
+    read-end form mode s at last d zero (omega arith) ∙ sym (read-end form mode s at last d m (omega arith))
+read-enough form mode (suc n) zero s at last d h g =
+    read-end form mode s at last d (suc n) (omega arith) ∙ sym (read-end form mode s at last d zero (omega arith))
+read-enough form mode (suc n) (suc m) s at last d h g = by-end (λ next key d′. read-enough form mode n m s next key d′) (ltb at (length s)) refl
   where
     Rest : Type 0
     Rest =
         (next key : ℕ) (d′ : Draft)
         → length s ≤ next + n
         → length s ≤ next + m
-        → readFrom mode n s next key d′ ≡ readFrom mode m s next key d′
+        → readFrom form mode n s next key d′ ≡ readFrom form mode m s next key d′
 
     by-step
         : Rest
         → (r : Step)
-        → stepAt mode s at last d ≡ r
+        → stepAt form mode s at last d ≡ r
         → at < length s
-        → readFrom mode (suc n) s at last d ≡ readFrom mode (suc m) s at last d
-    by-step rest (stop k o) e l = stop-one mode s at last d n k o l e ∙ sym (stop-one mode s at last d m k o l e)
+        → readFrom form mode (suc n) s at last d ≡ readFrom form mode (suc m) s at last d
+    by-step rest (stop k o) e l = stop-one form mode s at last d n k o l e ∙ sym (stop-one form mode s at last d m k o l e)
     by-step rest (more next key d′) e l =
-        let f = onward mode s at last d next key d′ e in
-        more-one mode s at last d n next key d′ l e
+        let f = onward form mode s at last d next key d′ e in
+        more-one form mode s at last d n next key d′ l e
         ∙ rest next key d′ (omega (arith, f .forward)) (omega (arith, f .forward))
-        ∙ sym (more-one mode s at last d m next key d′ l e)
+        ∙ sym (more-one form mode s at last d m next key d′ l e)
 
-    by-end : Rest → (b : Bool) → ltb at (length s) ≡ b → readFrom mode (suc n) s at last d ≡ readFrom mode (suc m) s at last d
-    by-end rest true e = by-step rest (stepAt mode s at last d) refl (ltb-true _ _ e)
+    by-end : Rest → (b : Bool) → ltb at (length s) ≡ b → readFrom form mode (suc n) s at last d ≡ readFrom form mode (suc m) s at last d
+    by-end rest true e = by-step rest (stepAt form mode s at last d) refl (ltb-true _ _ e)
     by-end rest false e =
-        read-end mode s at last d (suc n) (ltb-false _ _ e) ∙ sym (read-end mode s at last d (suc m) (ltb-false _ _ e))
+        read-end form mode s at last d (suc n) (ltb-false _ _ e) ∙ sym (read-end form mode s at last d (suc m) (ltb-false _ _ e))
 
 -- one field, with the plan's length as the bound throughout
-module _ (mode : Mode) (s : List ℕ) (at last : ℕ) (d : Draft) (l : at < length s) where
-  pub read-stop : (k o : ℕ) → stepAt mode s at last d ≡ stop k o → readFrom mode (length s) s at last d ≡ rejected k o
+module _ (form : Form) (mode : Mode) (s : List ℕ) (at last : ℕ) (d : Draft) (l : at < length s) where
+  pub read-stop : (k o : ℕ) → stepAt form mode s at last d ≡ stop k o → readFrom form mode (length s) s at last d ≡ rejected k o
   read-stop k o e =
-      read-enough mode (length s) (suc (length s)) s at last d (omega arith) (omega arith)
-      ∙ stop-one mode s at last d (length s) k o l e
+      read-enough form mode (length s) (suc (length s)) s at last d (omega arith) (omega arith)
+      ∙ stop-one form mode s at last d (length s) k o l e
 
   pub read-more
       : (next key : ℕ) (d′ : Draft)
-      → stepAt mode s at last d ≡ more next key d′
-      → readFrom mode (length s) s at last d ≡ readFrom mode (length s) s next key d′
+      → stepAt form mode s at last d ≡ more next key d′
+      → readFrom form mode (length s) s at last d ≡ readFrom form mode (length s) s next key d′
   read-more next key d′ e =
-      read-enough mode (length s) (suc (length s)) s at last d (omega arith) (omega arith)
-      ∙ more-one mode s at last d (length s) next key d′ l e
+      read-enough form mode (length s) (suc (length s)) s at last d (omega arith) (omega arith)
+      ∙ more-one form mode s at last d (length s) next key d′ l e

@@ -6,6 +6,7 @@ use mathlib.Core.Bool.{Bool, true, false}
 use lib.ListN.{length}
 use Rattle.cqf.specs.Bounded.{within}
 use Rattle.cqf.specs.Plan.{Plan}
+use Rattle.plan.specs.Layout.{formBy}
 use Rattle.plan_reading.specs.Draft.{blank}
 use Rattle.plan_reading.specs.Reading.{accepted, rejected, Mode, maxBytes, readFrom, readAs}
 
@@ -14,7 +15,7 @@ module _ (mode : Mode) (s : List ℕ) where
   unfolding readAs
   read-unsized e = rw (e, readAs)
 
-  pub read-sized : within 1 maxBytes (length s) ≡ true → readAs mode s ≡ readFrom mode (length s) s 0 0 blank
+  pub read-sized : within 1 maxBytes (length s) ≡ true → readAs mode s ≡ readFrom (formBy s) mode (length s) s 0 0 blank
   unfolding readAs
   read-sized e = rw (e, readAs)
 

@@ -9,7 +9,7 @@ use borrow.Author.Tests.{lt-leb, le-ltb, ltb-true, ltb-false}
 use lib.Dec.{leb, ltb, eqb}
 use lib.ListN.{length}
 use Rattle.plan.specs.Bytes.{headSize, tagAt, sizeAt, wholeAt, valueAt}
-use Rattle.plan.specs.Layout.{Kind, kinds}
+use Rattle.plan.specs.Layout.{Form, Kind, kinds}
 use Rattle.plan.specs.Field.{FieldRead, field, refused, unless, fieldBy, sizeOk, rangesOk, valueIn, kindBy, kindRead, fieldIn, fieldAt}
 use Rattle.plan_reading.specs.Key.{headerKey, keyOf}
 use Rattle.plan_reading.specs.Draft.{Draft, hasKey, taken, fieldRepeats, added}
@@ -32,30 +32,30 @@ value-refused v at next k {n} {o} = go (sizeOk k (length v)) (rangesOk k v)
     go true false e = let same : _≡_ {A = ℕ} 5 n = cc in record { early = omega arith; place = cc }
     go true true e = let z : _≡_ {A = ℕ} 0 1 = cc in absurd (omega arith)
 
-tag-refused : (v : List ℕ) (at next tag : ℕ) {n o : ℕ} → fieldIn tag v at next ≡ refused n o → Here at n o
+tag-refused : (form : Form) (v : List ℕ) (at next tag : ℕ) {n o : ℕ} → fieldIn form tag v at next ≡ refused n o → Here at n o
 unfolding fieldIn
-tag-refused v at next tag {n} {o} = go (kindBy kinds tag)
+tag-refused form v at next tag {n} {o} = go (kindBy (kinds form) tag)
   where
     go : (found : Option Kind) → kindRead found v at next ≡ refused n o → Here at n o
     go none e = let same : _≡_ {A = ℕ} 3 n = cc in record { early = omega arith; place = cc }
     go (some k) e = value-refused v at next k e
 
 -- a field that tests 2 to 5 refuse is refused at its tag
-pub refused-here : (s : List ℕ) (at k o : ℕ) → fieldAt s at ≡ refused k o → Here at k o
+pub refused-here : (form : Form) (s : List ℕ) (at k o : ℕ) → fieldAt form s at ≡ refused k o → Here at k o
 unfolding fieldAt
-refused-here s at k o = go (wholeAt s at)
+refused-here form s at k o = go (wholeAt s at)
   where
     go
         : (whole : Bool)
-        → unless 2 at whole (fieldIn (tagAt s at) (valueAt s at) at (at + headSize + sizeAt s at)) ≡ refused k o
+        → unless 2 at whole (fieldIn form (tagAt s at) (valueAt s at) at (at + headSize + sizeAt s at)) ≡ refused k o
         → Here at k o
-    go true e = tag-refused (valueAt s at) at _ (tagAt s at) e
+    go true e = tag-refused form (valueAt s at) at _ (tagAt s at) e
     go false e = let same : _≡_ {A = ℕ} 2 k = cc in record { early = omega arith; place = cc }
 
 -- a step that ends the reading does so at the field's tag
-pub stop-here : (mode : Mode) (s : List ℕ) (at last : ℕ) (d : Draft) (k o : ℕ) → stepAt mode s at last d ≡ stop k o → o ≡ at
+pub stop-here : (form : Form) (mode : Mode) (s : List ℕ) (at last : ℕ) (d : Draft) (k o : ℕ) → stepAt form mode s at last d ≡ stop k o → o ≡ at
 unfolding stepAt
-stop-here mode s at last d k o e = go (fieldAt s at) refl e
+stop-here form mode s at last d k o e = go (fieldAt form s at) refl e
   where
     by-tests
         : (six twelve seven : Bool) (n key : ℕ) (d′ : Draft)
@@ -66,10 +66,10 @@ stop-here mode s at last d k o e = go (fieldAt s at) refl e
     by-tests false false true n key d′ e = cc
     by-tests false false false n key d′ e = cc
 
-    go : (r : FieldRead) → fieldAt s at ≡ r → fieldStep mode s at last d r ≡ stop k o → o ≡ at
+    go : (r : FieldRead) → fieldAt form s at ≡ r → fieldStep mode s at last d r ≡ stop k o → o ≡ at
     go (refused number offset) q e =
         let same : offset ≡ o = cc in
-        sym same ∙ refused-here s at number offset q .place
+        sym same ∙ refused-here form s at number offset q .place
     go (field x next) q e =
         by-tests (taken d x) (late mode last x) (fieldRepeats (routeAt (x .kind) s at)) next (keyOf x) (added d x (routeAt (x .kind) s at)) e
 
@@ -99,25 +99,25 @@ refused-after s here k o less inside = go (leb k 6) (eqb k 7)
     go false false = lt-leb (length s) here inside
 
 pub found-after
-    : (mode : Mode) (n : ℕ) (s : List ℕ) (at last : ℕ) (d : Draft) (here : ℕ)
+    : (form : Form) (mode : Mode) (n : ℕ) (s : List ℕ) (at last : ℕ) (d : Draft) (here : ℕ)
     → here < at
     → here < length s
-    → foundBefore s here (readFrom mode n s at last d) ≡ false
+    → foundBefore s here (readFrom form mode n s at last d) ≡ false
 unfolding readFrom
-found-after mode zero s at last d here less inside = closed-last s d here ∙ lt-leb (length s) here inside
-found-after mode (suc n) s at last d here less inside = by-end (λ next key d′. found-after mode n s next key d′ here) (ltb at (length s)) refl
+found-after form mode zero s at last d here less inside = closed-last s d here ∙ lt-leb (length s) here inside
+found-after form mode (suc n) s at last d here less inside = by-end (λ next key d′. found-after form mode n s next key d′ here) (ltb at (length s)) refl
   where
     Rest : Type 0
-    Rest = (next key : ℕ) (d′ : Draft) → here < next → here < length s → foundBefore s here (readFrom mode n s next key d′) ≡ false
+    Rest = (next key : ℕ) (d′ : Draft) → here < next → here < length s → foundBefore s here (readFrom form mode n s next key d′) ≡ false
 
-    by-step : Rest → at < length s → (r : Step) → stepAt mode s at last d ≡ r → foundBefore s here (readFrom mode (suc n) s at last d) ≡ false
+    by-step : Rest → at < length s → (r : Step) → stepAt form mode s at last d ≡ r → foundBefore s here (readFrom form mode (suc n) s at last d) ≡ false
     by-step rest l (stop k o) e =
-        rw (stop-one mode s at last d n k o l e) (refused-after s here k o (omega (arith, stop-here mode s at last d k o e)) inside)
+        rw (stop-one form mode s at last d n k o l e) (refused-after s here k o (omega (arith, stop-here form mode s at last d k o e)) inside)
     by-step rest l (more next key d′) e =
-        rw (more-one mode s at last d n next key d′ l e)
-        (rest next key d′ (omega (arith, onward mode s at last d next key d′ e .forward)) inside)
+        rw (more-one form mode s at last d n next key d′ l e)
+        (rest next key d′ (omega (arith, onward form mode s at last d next key d′ e .forward)) inside)
 
-    by-end : Rest → (b : Bool) → ltb at (length s) ≡ b → foundBefore s here (readFrom mode (suc n) s at last d) ≡ false
-    by-end rest true e = by-step rest (ltb-true _ _ e) (stepAt mode s at last d) refl
+    by-end : Rest → (b : Bool) → ltb at (length s) ≡ b → foundBefore s here (readFrom form mode (suc n) s at last d) ≡ false
+    by-end rest true e = by-step rest (ltb-true _ _ e) (stepAt form mode s at last d) refl
     by-end rest false e =
-        rw (read-end mode s at last d (suc n) (ltb-false _ _ e)) (closed-last s d here ∙ lt-leb (length s) here inside)
+        rw (read-end form mode s at last d (suc n) (ltb-false _ _ e)) (closed-last s d here ∙ lt-leb (length s) here inside)

@@ -9,6 +9,7 @@ use lib.ListN.{length}
 use borrow.Author.Tests.{ltb-true, ltb-false}
 use Rattle.cqf.specs.Bounded.{within}
 use Rattle.cqf.specs.Plan.{Plan}
+use Rattle.plan.specs.Layout.{Form, formBy}
 use Rattle.plan.specs.Field.{Field, field, fieldAt}
 use Rattle.plan_reading.specs.Key.{headerKey}
 use Rattle.plan_reading.specs.Draft.{Draft, blank, hasKey, taken, fieldRepeats, added}
@@ -17,82 +18,82 @@ use Rattle.plan_reading.specs.laws.reading.Steps.{step-more}
 use Rattle.plan_reading.specs.laws.reading.Onward.{onward, read-end, read-stop, read-more}
 
 -- from offset at and draft d the fields of s are read to their end, which leaves draft e
-pub data Reads (s : List ℕ) : ℕ → Draft → Draft → Type 0 where
-  done : {at : ℕ} {d e : Draft} → d ≡ e → length s ≤ at → Reads s at d e
+pub data Reads (form : Form) (s : List ℕ) : ℕ → Draft → Draft → Type 0 where
+  done : {at : ℕ} {d e : Draft} → d ≡ e → length s ≤ at → Reads form s at d e
   one
       : {at : ℕ} {d e : Draft} (x : Field) (next : ℕ)
       → at < length s
-      → fieldAt s at ≡ field x next
+      → fieldAt form s at ≡ field x next
       → taken d x ≡ false
       → fieldRepeats (routeAt (x .kind) s at) ≡ false
-      → Reads s next (added d x (routeAt (x .kind) s at)) e
-      → Reads s at d e
+      → Reads form s next (added d x (routeAt (x .kind) s at)) e
+      → Reads form s at d e
 
 -- a reading that ends with tests 8 and 9
-pub record Ends (s : List ℕ) (at : ℕ) (d : Draft) (r : PlanRead) : Type 0 where
+pub record Ends (form : Form) (s : List ℕ) (at : ℕ) (d : Draft) (r : PlanRead) : Type 0 where
   pub final : Draft
-  pub walk : Reads s at d final
+  pub walk : Reads form s at d final
   pub closes : closing s final ≡ r
 
 -- an accepted reading walks over all the fields, of which there are no more than bytes left
 reads-from
-    : (mode : Mode) (n : ℕ) (s : List ℕ) (at last : ℕ) (d : Draft) (p : Plan) (ports flows : ℕ)
+    : (form : Form) (mode : Mode) (n : ℕ) (s : List ℕ) (at last : ℕ) (d : Draft) (p : Plan) (ports flows : ℕ)
     → length s ≤ at + n
-    → readFrom mode (length s) s at last d ≡ accepted p ports flows
-    → Ends s at d (accepted p ports flows)
-reads-from mode zero s at last d p m k enough e =
+    → readFrom form mode (length s) s at last d ≡ accepted p ports flows
+    → Ends form s at d (accepted p ports flows)
+reads-from form mode zero s at last d p m k enough e =
     let end : length s ≤ at = omega arith in
-    record { final = d; walk = Reads.done {at = at} refl end; closes = sym (read-end mode s at last d (length s) end) ∙ e }
-reads-from mode (suc n) s at last d p m k enough e = go (reads-from mode n s) (ltb at (length s)) refl
+    record { final = d; walk = Reads.done {at = at} refl end; closes = sym (read-end form mode s at last d (length s) end) ∙ e }
+reads-from form mode (suc n) s at last d p m k enough e = go (reads-from form mode n s) (ltb at (length s)) refl
   where
     Again : Type 0
     Again =
         (at last : ℕ) (d : Draft) (p : Plan) (m k : ℕ)
         → length s ≤ at + n
-        → readFrom mode (length s) s at last d ≡ accepted p m k
-        → Ends s at d (accepted p m k)
+        → readFrom form mode (length s) s at last d ≡ accepted p m k
+        → Ends form s at d (accepted p m k)
 
-    step : Again → at < length s → (r : Step) → stepAt mode s at last d ≡ r → Ends s at d (accepted p m k)
+    step : Again → at < length s → (r : Step) → stepAt form mode s at last d ≡ r → Ends form s at d (accepted p m k)
     step again less (stop number offset) q =
-        let y : rejected number offset ≡ accepted p m k = sym (read-stop mode s at last d less number offset q) ∙ e in
+        let y : rejected number offset ≡ accepted p m k = sym (read-stop form mode s at last d less number offset q) ∙ e in
         let z : _≡_ {A = ℕ} 0 1 = cc in
         absurd (omega arith)
     step again less (more next key d′) q =
-        let t = step-more mode s at last d next key d′ q in
+        let t = step-more form mode s at last d next key d′ q in
         let rest =
-        again next key d′ p m k (omega (arith, onward mode s at last d next key d′ q .forward))
-        (sym (read-more mode s at last d less next key d′ q) ∙ e) in
+        again next key d′ p m k (omega (arith, onward form mode s at last d next key d′ q .forward))
+        (sym (read-more form mode s at last d less next key d′ q) ∙ e) in
         record {
           final = rest .final;
           walk = Reads.one {d = d} {e = rest .final} (t .part) next less (t .stands) (t .fresh) (t .no-repeat) (rw (t .adds) (rest .walk));
           closes = rest .closes;
         }
 
-    go : Again → (b : Bool) → ltb at (length s) ≡ b → Ends s at d (accepted p m k)
-    go again true q = step again (ltb-true _ _ q) (stepAt mode s at last d) refl
+    go : Again → (b : Bool) → ltb at (length s) ≡ b → Ends form s at d (accepted p m k)
+    go again true q = step again (ltb-true _ _ q) (stepAt form mode s at last d) refl
     go again false q =
         let end = ltb-false _ _ q in
-        record { final = d; walk = Reads.done refl end; closes = sym (read-end mode s at last d (length s) end) ∙ e }
+        record { final = d; walk = Reads.done refl end; closes = sym (read-end form mode s at last d (length s) end) ∙ e }
 
 -- an accepted plan is read from the front to its end
 pub read-as
     : (mode : Mode) (s : List ℕ) (p : Plan) (ports flows : ℕ)
     → readAs mode s ≡ accepted p ports flows
-    → Ends s 0 blank (accepted p ports flows)
+    → Ends (formBy s) s 0 blank (accepted p ports flows)
 unfolding readAs
 read-as mode s p m k e = go (within 1 maxBytes (length s)) e
   where
     go
         : (b : Bool)
-        → elim b [ true ↦ readFrom mode (length s) s 0 0 blank | false ↦ rejected 1 0 ] ≡ accepted p m k
-        → Ends s 0 blank (accepted p m k)
-    go true e = reads-from mode (length s) s 0 0 blank p m k (omega arith) e
+        → elim b [ true ↦ readFrom (formBy s) mode (length s) s 0 0 blank | false ↦ rejected 1 0 ] ≡ accepted p m k
+        → Ends (formBy s) s 0 blank (accepted p m k)
+    go true e = reads-from (formBy s) mode (length s) s 0 0 blank p m k (omega arith) e
     go false e = let z : _≡_ {A = ℕ} 0 1 = cc in absurd (omega arith)
 
 pub accepted-reads
     : (s : List ℕ) (p : Plan) (ports flows : ℕ)
     → readPlan s ≡ accepted p ports flows
-    → Ends s 0 blank (accepted p ports flows)
+    → Ends (formBy s) s 0 blank (accepted p ports flows)
 unfolding readPlan
 accepted-reads s = read-as loose s
 

@@ -6,6 +6,7 @@ use mathlib.Core.Bool.{true, false}
 use native.Mathlib.Omega.{arith}
 use lib.ListN.{length}
 use Rattle.cqf.specs.Plan.{Plan, noPlan}
+use Rattle.plan.specs.Layout.{Form, formBy}
 use Rattle.plan_reading.specs.Draft.{Draft, blank}
 use Rattle.plan_reading.specs.Reading.{accepted, Mode, routeAt, readAs}
 use Rattle.plan_reading.specs.Strict.{Entry, entryOf, fieldsFrom, fieldsIn, rising}
@@ -27,25 +28,25 @@ use Rattle.plan_reading.specs.laws.saved.Tidy.{fresh-tidy}
 
 -- a walk over fields is one over such a row
 walk-free
-    : (s : List ℕ) (n : ℕ) {at : ℕ} {d e : Draft}
-    → Reads s at d e
+    : (form : Form) (s : List ℕ) (n : ℕ) {at : ℕ} {d e : Draft}
+    → Reads form s at d e
     → length s ≤ at + n
-    → Free d (fieldsFrom n s at) × (addedAll d (fieldsFrom n s at) ≡ e)
+    → Free d (fieldsFrom form n s at) × (addedAll d (fieldsFrom form n s at) ≡ e)
 unfolding addedAll
-walk-free s n {at} (done same end) enough = rw (row-refused n s at 2 at (past-end s at end)) (done, same)
-walk-free s zero (one x next less stands free no-repeat rest) enough = absurd (omega arith)
-walk-free s (suc n) {at} {d} {e} (one x next less stands free no-repeat rest) enough =
-    let t = walk-free s n rest (omega (arith, found-forward s at x next stands)) in
+walk-free form s n {at} (done same end) enough = rw (row-refused form n s at 2 at (past-end form s at end)) (done, same)
+walk-free form s zero (one x next less stands free no-repeat rest) enough = absurd (omega arith)
+walk-free form s (suc n) {at} {d} {e} (one x next less stands free no-repeat rest) enough =
+    let t = walk-free form s n rest (omega (arith, found-forward form s at x next stands)) in
     let ok : EntryOk (entryOf x (routeAt (x .kind) s at)) =
-    record { numbers = found-numbers s at x next stands; fits = found-route s at x next stands; no-repeat = no-repeat } in
-    rw (row-field n s at x next stands) (then ok free (t .0), t .1)
+    record { numbers = found-numbers form s at x next stands; fits = found-route form s at x next stands; no-repeat = no-repeat } in
+    rw (row-field form n s at x next stands) (then ok free (t .0), t .1)
 
 -- so the parts of a row of fields in range that rises are fresh
 pub fresh-row : (es : List Entry) → AllOk es → rising es ≡ true → Fresh (partsRow es)
 unfolding fieldsIn
 fresh-row es ok up =
     free-fresh blank flagged-blank
-    (subst (Free blank) (row-fields es ok) (walk-free (rowBytes es) (length (rowBytes es)) (row-reads es ok up) (omega arith) .0))
+    (subst (Free blank) (row-fields es ok) (walk-free (formBy (rowBytes es)) (rowBytes es) (length (rowBytes es)) (row-reads es ok up) (omega arith) .0))
 
 -- the fields of an accepted plan, and the tables that they leave
 pub record AcceptedRow (s : List ℕ) (p : Plan) : Type 0 where
@@ -58,13 +59,13 @@ pub accepted-row : (mode : Mode) (s : List ℕ) (p : Plan) (ports flows : ℕ) �
 unfolding fieldsIn blank
 accepted-row mode s p m k e =
     let w = read-as mode s p m k e in
-    let t = walk-free s (length s) (w .walk) (omega arith) in
+    let t = walk-free (formBy s) s (length s) (w .walk) (omega arith) in
     let leaves = ap (λ (d : Draft). d .tables) (t .1) ∙ closing-accepted s (w .final) p m k (w .closes) .plan in
     record {
       free = t .0;
       leaves = leaves;
       fresh = free-fresh blank flagged-blank (t .0);
-      tables = sym (row-tables blank (fieldsFrom (length s) s 0)) ∙ leaves;
+      tables = sym (row-tables blank (fieldsFrom (formBy s) (length s) s 0)) ∙ leaves;
     }
 
 -- and the numbers of port and flow fields among them
@@ -75,7 +76,7 @@ pub accepted-counts
 unfolding fieldsIn
 accepted-counts mode s p m k e =
     let w = read-as mode s p m k e in
-    let t = walk-free s (length s) (w .walk) (omega arith) .1 in
+    let t = walk-free (formBy s) s (length s) (w .walk) (omega arith) .1 in
     let c = closing-accepted s (w .final) p m k (w .closes) in
     (ap (λ (d : Draft). d .ports) t ∙ c .ports-read, ap (λ (d : Draft). d .flows) t ∙ c .flows-read)
 

@@ -7,6 +7,7 @@ use native.Mathlib.Omega.{arith}
 use lib.ListN.{length, length-append}
 use lib.Seq.{take-all}
 use Rattle.plan.specs.Bytes.{headSize, tagAt, sizeAt, wholeAt, valueAt}
+use Rattle.plan.specs.Layout.{Form}
 use Rattle.plan.specs.Field.{field, fieldAt}
 use Rattle.plan_reading.specs.Rank.{tagOf}
 use Rattle.plan_reading.specs.Reading.{routeAt}
@@ -60,13 +61,13 @@ module _ (front rest : List ℕ) (e : Entry) (ok : EntryOk e) where
       whole there (length front)
       (omega (arith, size-there, entry-length e ok, length-append front (bytesOf e ++ rest), length-append (bytesOf e) rest))
 
-  pub field-there : fieldAt there (length front) ≡ field (e .field) (length front + length (bytesOf e))
-  field-there =
+  pub field-there : (form : Form) → fieldAt form there (length front) ≡ field (e .field) (length front + length (bytesOf e))
+  field-there form =
       let next : length front + headSize + sizeAt there (length front) ≡ length front + length (bytesOf e) =
       omega (arith, size-there, entry-length e ok) in
-      field-whole there (length front) whole-there
+      field-whole form there (length front) whole-there
       ∙ rw (next, tag-there, value-there)
-      (value-decoded (e .field) (e .route) (ok .numbers) (ok .fits) (length front) (length front + length (bytesOf e)))
+      (value-decoded (e .field) (e .route) (ok .numbers) (ok .fits) form (length front) (length front + length (bytesOf e)))
 
   -- with its route
   pub route-there : routeAt (e .field .kind) there (length front) ≡ e .route

@@ -6,6 +6,7 @@ use mathlib.Core.Bool.{Bool, true, false}
 use native.Mathlib.Omega.{arith}
 use lib.ListN.{length}
 use Rattle.plan.specs.Bytes.{headSize, sizeAt, wholeAt}
+use Rattle.plan.specs.Layout.{Form, formBy}
 use Rattle.plan_reading.specs.Part.{partsOf}
 use Rattle.plan_reading.specs.Draft.{Draft}
 use Rattle.plan_reading.specs.Reading.{routeAt, namesAbsent, jitterAbsent, extraAbsent, firstAbsent}
@@ -47,10 +48,10 @@ module _ (sought : List ℕ → ℕ → Bool) (s : List ℕ) (at : ℕ) where
 -- a walk over such fields
 module _ (rates periods s : List ℕ) where
   walk-there
-      : (n : ℕ) {at : ℕ} {d e : Draft}
-      → Reads s at d e
+      : {form : Form} (n : ℕ) {at : ℕ} {d e : Draft}
+      → Reads form s at d e
       → length s ≤ at + n
-      → AllPresent rates periods (fieldsFrom n s at)
+      → AllPresent rates periods (fieldsFrom form n s at)
       → AllThere rates periods s at
   walk-there n {at} (done same end) enough there =
       record {
@@ -59,16 +60,16 @@ module _ (rates periods s : List ℕ) where
         extras = none-at-end (extraAbsent rates) s at end;
       }
   walk-there zero (one x next less stands fresh no-repeat rest) enough there = absurd (omega arith)
-  walk-there (suc n) {at} (one x next less stands fresh no-repeat rest) enough there =
-      go (walk-there n rest (omega (arith, found-forward s at x next stands))) (rw (row-field n s at x next stands) at there)
+  walk-there {form} (suc n) {at} (one x next less stands fresh no-repeat rest) enough there =
+      go (walk-there n rest (omega (arith, found-forward form s at x next stands))) (rw (row-field form n s at x next stands) at there)
     where
       go
-          : (AllPresent rates periods (fieldsFrom n s next) → AllThere rates periods s next)
-          → AllPresent rates periods (entryOf x (routeAt (x .kind) s at) ∷ fieldsFrom n s next)
+          : (AllPresent rates periods (fieldsFrom form n s next) → AllThere rates periods s next)
+          → AllPresent rates periods (entryOf x (routeAt (x .kind) s at) ∷ fieldsFrom form n s next)
           → AllThere rates periods s at
       go after (more k others) =
-          let r = field-passes s at x next stands in
-          let w = field-is-whole s at x next stands in
+          let r = field-passes form s at x next stands in
+          let w = field-is-whole form s at x next stands in
           let here = names-there rates periods s at x (r .passes) k in
           let all : AllThere rates periods s (at + headSize + sizeAt s at) = rw (r .follows) at (after others) in
           record {
@@ -80,7 +81,7 @@ module _ (rates periods s : List ℕ) where
   -- test 9 finds none in a plan whose fields name only what is present
   pub none-absent
       : {d e : Draft}
-      → Reads s 0 d e
+      → Reads (formBy s) s 0 d e
       → AllPresent rates periods (fieldsIn s)
       → length s ≤ firstAbsent rates periods s
   unfolding fieldsIn

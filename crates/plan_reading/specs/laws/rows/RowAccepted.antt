@@ -9,6 +9,7 @@ use native.Mathlib.Omega.{arith}
 use borrow.Author.Tests.{le-leb}
 use lib.ListN.{length, length-append}
 use Rattle.cqf.specs.Bounded.{within}
+use Rattle.plan.specs.Layout.{Form}
 use Rattle.plan_reading.specs.Part.{partsOf}
 use Rattle.plan_reading.specs.Key.{headerKey, keyOf}
 use Rattle.plan_reading.specs.Draft.{Draft, blank, hasKey, flowsIn, sumOf, added}
@@ -76,12 +77,12 @@ some-flow d (e ∷ es) f i is = go (λ j. some-flow after es f j is) (List·Mem�
 
 -- a walk to the end comes to the tests 8 and 9
 walk-closes
-    : (s : List ℕ) {at : ℕ} {d e : Draft} (last : ℕ)
-    → Reads s at d e
-    → readFrom loose (length s) s at last d ≡ closing s e
-walk-closes s {at} {d} last (done same end) = read-end loose s at last d (length s) end ∙ ap (closing s) same
-walk-closes s {at} {d} last (one x next less stands fresh no-repeat rest) =
-    read-more loose s at last d less next (keyOf x) _ (step-added loose s at last d x next stands fresh refl no-repeat)
+    : {form : Form} (s : List ℕ) {at : ℕ} {d e : Draft} (last : ℕ)
+    → Reads form s at d e
+    → readFrom form loose (length s) s at last d ≡ closing s e
+walk-closes {form} s {at} {d} last (done same end) = read-end form loose s at last d (length s) end ∙ ap (closing s) same
+walk-closes {form} s {at} {d} last (one x next less stands fresh no-repeat rest) =
+    read-more form loose s at last d less next (keyOf x) _ (step-added form loose s at last d x next stands fresh refl no-repeat)
     ∙ walk-closes s (keyOf x) rest
 
 module _ (es : List Entry) (row : Row es) where

@@ -9,6 +9,7 @@ use lib.Dec.{ltb}
 use lib.ListN.{length, getD, replicate, length-append, length-replicate, getD-replicate, List·getD-eq-default}
 use lib.Seq.{getD-set-other}
 use Rattle.plan.specs.Bytes.{headSize}
+use Rattle.plan.specs.Layout.{Form, formBy}
 use Rattle.plan.specs.Field.{Field, field, fieldAt}
 use Rattle.plan_reading.specs.Key.{keySlots, keyOf}
 use Rattle.plan_reading.specs.Draft.{Draft, blank, hasKey, fieldRepeats, added}
@@ -33,10 +34,10 @@ unfolding rowBytes
 holds-none s at h = ap length (h .bytes ∙ append-nil (h .front)) ∙ sym (h .offset)
 
 -- the field at the front is read, and the others follow it
-module _ (s : List ℕ) (at : ℕ) (e : Entry) (es : List Entry) (ok : EntryOk e) (h : Holds s at (e ∷ es)) where
-  front-field : fieldAt s at ≡ field (e .field) (at + length (bytesOf e))
+module _ (form : Form) (s : List ℕ) (at : ℕ) (e : Entry) (es : List Entry) (ok : EntryOk e) (h : Holds s at (e ∷ es)) where
+  front-field : fieldAt form s at ≡ field (e .field) (at + length (bytesOf e))
   unfolding rowBytes
-  front-field = rw (h .bytes, h .offset) (field-there (h .front) (rowBytes es) e ok)
+  front-field = rw (h .bytes, h .offset) (field-there (h .front) (rowBytes es) e ok form)
 
   front-route : routeAt (e .field .kind) s at ≡ e .route
   unfolding rowBytes
@@ -58,21 +59,21 @@ module _ (s : List ℕ) (at : ℕ) (e : Entry) (es : List Entry) (ok : EntryOk e
       omega (arith, whole, h .offset, length-append (bytesOf e) (rowBytes es), entry-length e ok)
 
 -- the fields that are read
-row-from : (n : ℕ) (s : List ℕ) (at : ℕ) {es : List Entry} → AllOk es → Holds s at es → length s ≤ at + n → fieldsFrom n s at ≡ es
-row-from n s at none h enough = row-refused n s at 2 at (past-end s at (omega (arith, holds-none s at h)))
-row-from zero s at (more {e = e} {es = es} ok rest) h enough = absurd (omega (arith, front-inside s at e es ok h))
-row-from (suc n) s at (more {e = e} {es = es} ok rest) h enough =
+row-from : (form : Form) (n : ℕ) (s : List ℕ) (at : ℕ) {es : List Entry} → AllOk es → Holds s at es → length s ≤ at + n → fieldsFrom form n s at ≡ es
+row-from form n s at none h enough = row-refused form n s at 2 at (past-end form s at (omega (arith, holds-none s at h)))
+row-from form zero s at (more {e = e} {es = es} ok rest) h enough = absurd (omega (arith, front-inside form s at e es ok h))
+row-from form (suc n) s at (more {e = e} {es = es} ok rest) h enough =
     let after = at + length (bytesOf e) in
     let long = entry-length e ok in
-    row-field n s at (e .field) after (front-field s at e es ok h)
-    ∙ ap₂ _∷_ (λ i. record { field = e .field; route = front-route s at e es ok h i }) (row-from n s after rest (holds-rest s at e es ok h) (omega arith))
+    row-field form n s at (e .field) after (front-field form s at e es ok h)
+    ∙ ap₂ _∷_ (λ i. record { field = e .field; route = front-route form s at e es ok h i }) (row-from form n s after rest (holds-rest form s at e es ok h) (omega arith))
 
 whole-row : (es : List Entry) → Holds (rowBytes es) 0 es
 whole-row es = record { front = []; bytes = refl; offset = refl }
 
 pub row-fields : (es : List Entry) → AllOk es → fieldsIn (rowBytes es) ≡ es
 unfolding fieldsIn
-row-fields es ok = row-from (length (rowBytes es)) (rowBytes es) 0 ok (whole-row es) (omega arith)
+row-fields es ok = row-from (formBy (rowBytes es)) (length (rowBytes es)) (rowBytes es) 0 ok (whole-row es) (omega arith)
 
 -- a row that rises is in order
 pub row-in-order : (es : List Entry) → AllOk es → rising es ≡ true → InOrder (rowBytes es)
@@ -81,7 +82,7 @@ row-in-order es ok up = ap rising (row-fields es ok) ∙ up
 pub row-ascends : (es : List Entry) → AllOk es → rising es ≡ true → Ascends 0 es
 unfolding fieldsIn
 row-ascends es ok up =
-    subst (Ascends 0) (row-fields es ok) (rising-from (length (rowBytes es)) (rowBytes es) 0 (row-in-order es ok up))
+    subst (Ascends 0) (row-fields es ok) (rising-from (formBy (rowBytes es)) (length (rowBytes es)) (rowBytes es) 0 (row-in-order es ok up))
 
 -- no key from this one on is taken
 abbrev Free : Draft → ℕ → Type 0
@@ -104,25 +105,25 @@ free-added d x r least free from key after =
 
 -- the walk over the row
 walk-row
-    : (s : List ℕ) (at least : ℕ) (d : Draft) {es : List Entry}
+    : (form : Form) (s : List ℕ) (at least : ℕ) (d : Draft) {es : List Entry}
     → AllOk es
     → Ascends least es
     → Free d least
     → Holds s at es
-    → Reads s at d (addedAll d es)
+    → Reads form s at d (addedAll d es)
 unfolding addedAll
-walk-row s at least d none up free h = Reads.done {at = at} refl (omega (arith, holds-none s at h))
-walk-row s at least d (more {e = e} {es = es} ok rest) (next k low up) free h =
-    let same = front-route s at e es ok h in
+walk-row form s at least d none up free h = Reads.done {at = at} refl (omega (arith, holds-none s at h))
+walk-row form s at least d (more {e = e} {es = es} ok rest) (next k low up) free h =
+    let same = front-route form s at e es ok h in
     let after = at + length (bytesOf e) in
     let final = addedAll (added d (e .field) (e .route)) es in
-    Reads.one {at = at} {d = d} {e = final} (e .field) after (omega (arith, front-inside s at e es ok h)) (front-field s at e es ok h)
+    Reads.one {at = at} {d = d} {e = final} (e .field) after (omega (arith, front-inside form s at e es ok h)) (front-field form s at e es ok h)
     (free (keyOf (e .field)) low)
     (ap fieldRepeats same ∙ ok .no-repeat)
     (rw same
-    (walk-row s after (suc (keyOf (e .field))) (added d (e .field) (e .route)) rest up
+    (walk-row form s after (suc (keyOf (e .field))) (added d (e .field) (e .route)) rest up
     (free-added d (e .field) (e .route) least free low)
-    (holds-rest s at e es ok h)))
+    (holds-rest form s at e es ok h)))
 
-pub row-reads : (es : List Entry) → AllOk es → rising es ≡ true → Reads (rowBytes es) 0 blank (addedAll blank es)
-row-reads es ok up = walk-row (rowBytes es) 0 0 blank ok (row-ascends es ok up) free-blank (whole-row es)
+pub row-reads : (es : List Entry) → AllOk es → rising es ≡ true → Reads (formBy (rowBytes es)) (rowBytes es) 0 blank (addedAll blank es)
+row-reads es ok up = walk-row (formBy (rowBytes es)) (rowBytes es) 0 0 blank ok (row-ascends es ok up) free-blank (whole-row es)

@@ -6,7 +6,7 @@ use native.Mathlib.Omega.{arith}
 use lib.ListN.{length, take, drop, length-take, length-drop, take-append-drop, drop-of-length-le}
 use lib.Seq.{drop-cons, drop-drop, take-all}
 use Rattle.plan.specs.Bytes.{Octets, headSize, tagAt, sizeAt, valueAt}
-use Rattle.plan.specs.Layout.{Kind, layout, numbersSize}
+use Rattle.plan.specs.Layout.{Form, formBy, Kind, layout, numbersSize}
 use Rattle.plan.specs.Field.{Field, field, routePorts, routeIn, fieldAt}
 use Rattle.plan_reading.specs.Draft.{Draft}
 use Rattle.plan_reading.specs.Reading.{routeAt}
@@ -44,9 +44,9 @@ module _ (tag : ℕ) (v : List ℕ) (o : Octets v) where
       (ap (λ (m : ℕ). take (2 * x .hops) (drop m v)) start ∙ route-bytes (x .kind) (x .hops) (k .size))
 
 -- a whole field
-module _ (s : List ℕ) (o : Octets s) (at : ℕ) (x : Field) (next : ℕ) (e : fieldAt s at ≡ field x next) where
+module _ (form : Form) (s : List ℕ) (o : Octets s) (at : ℕ) (x : Field) (next : ℕ) (e : fieldAt form s at ≡ field x next) where
   fits : at + headSize + sizeAt s at ≤ length s
-  fits = whole-fits s at (field-is-whole s at x next e)
+  fits = whole-fits s at (field-is-whole form s at x next e)
 
   octets-value : Octets (valueAt s at)
   unfolding valueAt
@@ -73,31 +73,31 @@ module _ (s : List ℕ) (o : Octets s) (at : ℕ) (x : Field) (next : ℕ) (e : 
   field-bytes : take (headSize + sizeAt s at) (drop at s) ≡ bytesOf (entryOf x (routeAt (x .kind) s at))
   unfolding bytesOf
   field-bytes =
-      let k = field-passes s at x next e .passes in
+      let k = field-passes form s at x next e .passes in
       let size : sizeAt s at ≡ sizeOf x = sym value-length ∙ k .size in
       head-bytes
       ∙ ap₂ _∷_ (k .kind) (ap₂ _++_ (ap bytes2 size) (value-bytes (tagAt s at) (valueAt s at) octets-value x k))
 
 -- the bytes from a field on are those of the fields from it on
 row-bytes
-    : (s : List ℕ)
+    : {form : Form} (s : List ℕ)
     → Octets s
     → (n : ℕ) {at : ℕ} {d e : Draft}
-    → Reads s at d e
+    → Reads form s at d e
     → length s ≤ at + n
-    → drop at s ≡ rowBytes (fieldsFrom n s at)
+    → drop at s ≡ rowBytes (fieldsFrom form n s at)
 unfolding rowBytes
-row-bytes s o n {at} (done same end) enough =
-    drop-of-length-le s end ∙ ap rowBytes (sym (row-refused n s at 2 at (past-end s at end)))
+row-bytes {form} s o n {at} (done same end) enough =
+    drop-of-length-le s end ∙ ap rowBytes (sym (row-refused form n s at 2 at (past-end form s at end)))
 row-bytes s o zero (one x next less stands fresh no-repeat rest) enough = absurd (omega arith)
-row-bytes s o (suc n) {at} (one x next less stands fresh no-repeat rest) enough =
-    let r = field-passes s at x next stands in
+row-bytes {form} s o (suc n) {at} (one x next less stands fresh no-repeat rest) enough =
+    let r = field-passes form s at x next stands in
     let size = headSize + sizeAt s at in
     let after : at + size ≡ next = omega (arith, r .follows) in
     sym (take-append-drop size (drop at s))
-    ∙ ap₂ _++_ (field-bytes s o at x next stands)
+    ∙ ap₂ _++_ (field-bytes form s o at x next stands)
     (drop-drop size at s ∙ ap (λ (m : ℕ). drop m s) after ∙ row-bytes s o n rest (omega arith))
-    ∙ ap rowBytes (sym (row-field n s at x next stands))
+    ∙ ap rowBytes (sym (row-field form n s at x next stands))
 
-pub plan-bytes : (s : List ℕ) {d e : Draft} → Octets s → Reads s 0 d e → s ≡ rowBytes (fieldsFrom (length s) s 0)
+pub plan-bytes : (s : List ℕ) {d e : Draft} → Octets s → Reads (formBy s) s 0 d e → s ≡ rowBytes (fieldsFrom (formBy s) (length s) s 0)
 plan-bytes s o reads = row-bytes s o (length s) reads (omega arith)

@@ -8,7 +8,7 @@ use lib.Seq.{set-getD}
 use Rattle.cqf.specs.Limits.{portSlots, flowSlots}
 use Rattle.cqf.specs.Plan.{Clock, Plan, noPlan, equalClocks}
 use Rattle.plan.specs.Bytes.{tagAt, valueAt}
-use Rattle.plan.specs.Layout.{Kind}
+use Rattle.plan.specs.Layout.{formBy, Kind}
 use Rattle.plan.specs.Field.{Field, routeIn}
 use Rattle.plan_reading.specs.Part.{Part, header, port, flow, extra, jitter, clock, partsBy, partsOf}
 use Rattle.plan_reading.specs.Store.{store, storeAll}
@@ -164,7 +164,7 @@ zero-absent s t z p q m n k l left right =
     let first = stored-permuted blank (a .final) (z .permuted) flagged-blank all in
     let rest = but-first (all-permuted (z .permuted) (z .fields)) in
     let second = accepted-stored (z .others) t (b .final) (z .bytes-others) rest (b .walk) in
-    let says = field-passes (z .zero) 0 (z .read) _ (z .says) .passes in
+    let says = field-passes (formBy s) (z .zero) 0 (z .read) _ (z .says) .passes in
     let same = without-zero (z .read) (z .zero) (z .others) (a .final) (b .final) says (z .nothing) first second in (
       sym (c .plan) ∙ same .tables ∙ d .plan,
       sym (c .ports-read) ∙ same .ports ∙ d .ports-read,

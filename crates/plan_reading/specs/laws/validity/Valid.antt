@@ -16,7 +16,7 @@ use Rattle.cqf.specs.Limits.{portSlots, flowSlots, topOk}
 use Rattle.cqf.specs.Plan.{Plan, present, validPort, validFlow, validPlan}
 use Rattle.cqf.specs.laws.Bounded.{allTo-every, anyTo-some}
 use Rattle.plan.specs.Bytes.{tagAt, valueAt}
-use Rattle.plan.specs.Layout.{Kind, layout}
+use Rattle.plan.specs.Layout.{Form, Kind, layout}
 use Rattle.plan.specs.Field.{Field}
 use Rattle.plan_reading.specs.Part.{Part, header, port, flow, extra, jitter, clock, partsBy, partsOf}
 use Rattle.plan_reading.specs.Key.{headerKey, keyOf}
@@ -140,15 +140,15 @@ field-valid rates periods s at d x k once named h =
 
 -- so does the whole walk
 walk-valid
-    : (rates periods s : List ℕ) {at : ℕ} {d e : Draft}
-    → Reads s at d e
+    : {form : Form} (rates periods s : List ℕ) {at : ℕ} {d e : Draft}
+    → Reads form s at d e
     → AllThere rates periods s at
     → ValidDraft rates periods d
     → ValidDraft rates periods e
 walk-valid rates periods s (done same end) named h = rw same at h
-walk-valid rates periods s {at} {d} (one x next less stands fresh no-repeat rest) named h =
-    let f = there-front rates periods s at less (field-is-whole s at x next stands) named in
-    let r = field-passes s at x next stands in
+walk-valid {form} rates periods s {at} {d} (one x next less stands fresh no-repeat rest) named h =
+    let f = there-front rates periods s at less (field-is-whole form s at x next stands) named in
+    let r = field-passes form s at x next stands in
     walk-valid rates periods s rest (rw (r .follows) (f .1)) (field-valid rates periods s at d x (r .passes) no-repeat (f .0) h)
 
 -- a valid draft with a header and a flow is a valid plan

@@ -1,0 +1,20 @@
+// The form of a plan: told by its bytes, and its number.
+
+use crate::Form;
+ghost use mathlib.Core.Path.{_≡_};
+ghost use Rattle.plan.specs.Layout.{formBy, formNumber};
+ghost use Rattle.plan.specs.Answer.{formOf};
+
+pub fn form_by(plan: &[u8]) -> Form
+    ensures { λ r. ⌜ formOf r ≡ formBy (now (plan .entry)) ⌝ }
+{
+    Form::Older
+}
+
+pub fn form_number(form: Form) -> u32
+    ensures { λ r. ⌜ r ≡ formNumber (formOf form) ⌝ }
+{
+    match form {
+        Form::Older => 0,
+    }
+}
