@@ -101,7 +101,7 @@ pub extern "C" fn cp_empty() -> Planner
 pub extern "C" fn cp_field(plan: &[u8], offset: usize) -> FieldReadNumbers
     ensures { λ r. ⌜ r ≡ fieldNumbers (fieldAt (formBy (now (plan .entry))) (now (plan .entry)) offset) ⌝ }
 {
-    field_in_c(plan::read_field(plan::form_by(plan), plan, offset))
+    field_in_c(plan::read_field(plan, offset))
 }
 
 #[no_mangle]

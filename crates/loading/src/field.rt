@@ -8,7 +8,7 @@ use plan::Fault;
 use plan::Field;
 use plan::FieldRead;
 use plan::Form;
-use plan::read::read_field;
+use plan::read::field_at;
 use plan::route::route_bytes;
 use plan::route::route_repeats;
 use plan::route::route_start;
@@ -149,7 +149,7 @@ pub(crate) fn step(
         (now (routes .entry)) (now (seen .entry)))
         ⌝ }
 {
-    match read_field(form, plan, at) {
+    match field_at(form, plan, at) {
         FieldRead::Field { field, next } => take_field(
             form,
             strict,

@@ -16,6 +16,7 @@ pub mod read; // read.rt: a whole field, tests 2 to 5
 pub use forms::form_by;
 pub use forms::form_number;
 pub use number::first_number;
+pub use read::field_at;
 pub use read::read_field;
 pub use route::repeats_port;
 pub use route::route_bytes;

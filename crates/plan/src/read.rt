@@ -8,6 +8,7 @@ use crate::Form;
 use crate::Head;
 use crate::Header;
 use crate::Port;
+use crate::forms::form_by;
 use crate::layout::BLOCKING_AT;
 use crate::layout::CLOCK_TAG;
 use crate::layout::COUNT_AT;
@@ -41,7 +42,7 @@ use crate::route::route_in_range;
 use crate::split::field_value;
 use crate::split::split_head;
 ghost use mathlib.Core.Path.{_≡_};
-ghost use Rattle.plan.specs.Layout.{Kind};
+ghost use Rattle.plan.specs.Layout.{formBy, Kind};
 ghost use Rattle.plan.specs.Field.{valueIn, fieldIn, fieldAt};
 ghost use Rattle.plan.specs.Answer.{formOf, fieldReadOf};
 
@@ -161,7 +162,7 @@ fn field_of(form: Form, tag: u8, value: &[u8], at: usize, next: usize) -> FieldR
 }
 
 // The field at this offset of a plan of this form, with the offset after it, or the first of tests 2 to 5 that refuses it.
-pub fn read_field(form: Form, plan: &[u8], at: usize) -> FieldRead
+pub fn field_at(form: Form, plan: &[u8], at: usize) -> FieldRead
     ensures { λ r. ⌜ fieldReadOf r ≡ fieldAt (formOf form) (now (plan .entry)) at ⌝ }
 {
     match split_head(plan, at) {
@@ -175,4 +176,11 @@ pub fn read_field(form: Form, plan: &[u8], at: usize) -> FieldRead
             offset: at,
         },
     }
+}
+
+// The same of a plan of the form that its bytes tell.
+pub fn read_field(plan: &[u8], at: usize) -> FieldRead
+    ensures { λ r. ⌜ fieldReadOf r ≡ fieldAt (formBy (now (plan .entry))) (now (plan .entry)) at ⌝ }
+{
+    field_at(form_by(plan), plan, at)
 }

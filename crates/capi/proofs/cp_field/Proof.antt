@@ -1,16 +1,12 @@
 -- `capi::cp_field` meets its contract: the planner's answer as numbers.
 use borrow.Author.Needs.{needs}
 use mathlib.Core.Path.{_∙_, ap}
-use Rattle.plan.specs.Layout.{Form}
-use Rattle.plan.specs.Field.{fieldAt}
 use Rattle.capi.specs.Numbers.{fieldNumbers}
 use Rattle.capi.proofs.cp_field.Statement.{statement}
 use Rattle.capi.proofs.cp_field.Tie as tie
 
 returns : tie.Need-returns
-returns c =
-    let form = c .before .before .form-by .ensures in
-    c .field-in-c .ensures ∙ ap fieldNumbers (c .before .read-field .ensures ∙ ap (λ (f : Form). fieldAt f _ _) form)
+returns c = c .field-in-c .ensures ∙ ap fieldNumbers (c .before .read-field .ensures)
 
 pub cp-field-spec : {M : Type 1} → statement M
-cp-field-spec = tie.close (tie.spec (λ c κs. search needs) (λ c κs. search needs) (λ c κs. search needs) returns)
+cp-field-spec = tie.close (tie.spec (λ c κs. search needs) (λ c κs. search needs) returns)

@@ -19,12 +19,12 @@ held c =
 take-field-requires : tie.Need-take-field-requires
 take-field-requires c κs =
     let a = c .before .before .before .before .before .before .before .before .before .before .before .before .before .before .before in
-    (a .pre .0, a .pre .1, sym (c .before .before .before .before .before .before .before .before .before .before .before .before .before .read-field .ensures) ∙ ap fieldReadOf (c .before .before .before .before .before .before .before .before .before .before .before .field .given .1))
+    (a .pre .0, a .pre .1, sym (c .before .before .before .before .before .before .before .before .before .before .before .before .before .field-at .ensures) ∙ ap fieldReadOf (c .before .before .before .before .before .before .before .before .before .before .before .field .given .1))
 
 returns-2 : tie.Need-returns-2
 returns-2 c =
     let a = c .before .before .before .before .before in
-    sym (step-refused _ (modeOf (a .args .strict)) _ _ _ (held a) _ _ (sym (c .before .before .before .read-field .ensures) ∙ ap fieldReadOf (c .before .fault .given .1)))
+    sym (step-refused _ (modeOf (a .args .strict)) _ _ _ (held a) _ _ (sym (c .before .before .before .field-at .ensures) ∙ ap fieldReadOf (c .before .fault .given .1)))
 
 pub step-spec : {M : Type 1} → statement M
 step-spec =
