@@ -24,28 +24,16 @@ pub record Onward (s : List ℕ) (at : ℕ) (d : Draft) (next : ℕ) (d′ : Dra
   pub flows : d′ .flows ≤ d .flows + 1
 
 -- a field adds one of a kind at the most
-module _ (x : Field) (r : List ℕ) where
-  pub portsIn-one : sumOf portsIn (partsOf x r) ≤ 1
-  portsIn-one = go (x .kind)
-    where
-      go : (k : Kind) → sumOf portsIn (partsBy k (x .numbers) r) ≤ 1
-      go Kind.header = omega arith
-      go Kind.port = omega arith
-      go Kind.flow = omega arith
-      go Kind.extra = omega arith
-      go Kind.jitter = omega arith
-      go Kind.clock = omega arith
-
-  pub flowsIn-one : sumOf flowsIn (partsOf x r) ≤ 1
-  flowsIn-one = go (x .kind)
-    where
-      go : (k : Kind) → sumOf flowsIn (partsBy k (x .numbers) r) ≤ 1
-      go Kind.header = omega arith
-      go Kind.port = omega arith
-      go Kind.flow = omega arith
-      go Kind.extra = omega arith
-      go Kind.jitter = omega arith
-      go Kind.clock = omega arith
+field-one : (x : Field) (r : List ℕ) → (sumOf portsIn (partsOf x r) ≤ 1) × (sumOf flowsIn (partsOf x r) ≤ 1)
+field-one x r = go (x .kind)
+  where
+    go : (k : Kind) → (sumOf portsIn (partsBy k (x .numbers) r) ≤ 1) × (sumOf flowsIn (partsBy k (x .numbers) r) ≤ 1)
+    go Kind.header = (omega arith, omega arith)
+    go Kind.port = (omega arith, omega arith)
+    go Kind.flow = (omega arith, omega arith)
+    go Kind.extra = (omega arith, omega arith)
+    go Kind.jitter = (omega arith, omega arith)
+    go Kind.clock = (omega arith, omega arith)
 
 pub onward
     : (form : Form) (mode : Mode) (s : List ℕ) (at last : ℕ) (d : Draft) (next key : ℕ) (d′ : Draft)
@@ -60,8 +48,8 @@ onward form mode s at last d next key d′ e =
     record {
       forward = found-forward form s at (t .part) next (t .stands);
       inside = found-within form s at (t .part) next (t .stands);
-      ports = omega (arith, portsIn-one (t .part) r);
-      flows = omega (arith, flowsIn-one (t .part) r);
+      ports = omega (arith, field-one (t .part) r .0);
+      flows = omega (arith, field-one (t .part) r .1);
     }
 
 module _ (form : Form) (mode : Mode) (s : List ℕ) (at last : ℕ) (d : Draft) where

@@ -9,7 +9,7 @@ use lib.ListN.{length, getD-replicate}
 use lib.Seq.{getD-set-same, getD-set-other}
 use Rattle.cqf.specs.Bounded.{every, distinct}
 use Rattle.cqf.specs.Limits.{portSlots, flowSlots, maxHops, guardOk}
-use Rattle.cqf.specs.Plan.{Clock, Plan, noPlan, clockOk, periodOf, routeOf, portIn}
+use Rattle.cqf.specs.Plan.{Clock, Plan, noPlan, clockOk, routeOf, portIn}
 use Rattle.plan_reading.specs.Part.{Part, header, port, flow, extra, jitter, clock}
 use Rattle.plan_reading.specs.Store.{store, storeAll}
 use Rattle.plan_reading.specs.Reading.{hasFlow}
@@ -46,197 +46,122 @@ none-valid rates periods =
       jitters = λ f l. rw (getD-replicate {A = ℕ} flowSlots f 0 0 l);
     }
 
--- a header keeps the tables valid
-header-valid
-    : (rates periods : List ℕ) (p : Plan) (g t : ℕ)
-    → HeaderOk g t
-    → ValidTables rates periods p
-    → ValidTables rates periods (store p (header g t))
-unfolding store validRate validExtra validIn validJitter
-header-valid rates periods p g t ok s =
-    record {
-      sized = sized-store p (header g t) (s .sized);
-      guard = ok .guard;
-      clock = s .clock;
-      ports = s .ports;
-      extras = s .extras;
-      flows = s .flows;
-      jitters = s .jitters;
-    }
+-- a part more keeps the tables valid
+module _ (rates periods : List ℕ) (p : Plan) (s : ValidTables rates periods p) where
+  header-valid : (g t : ℕ) → HeaderOk g t → ValidTables rates periods (store p (header g t))
+  unfolding store validRate validExtra validIn validJitter
+  header-valid g t ok =
+      record { sized = sized-store p (header g t) (s .sized); guard = ok .guard; clock = s .clock; ports = s .ports; extras = s .extras; flows = s .flows; jitters = s .jitters }
 
--- so does a port
-port-valid
-    : (rates periods : List ℕ) (p : Plan) (n rate b : ℕ)
-    → PortOk n rate b
-    → ValidTables rates periods p
-    → ValidTables rates periods (store p (port n rate b))
-unfolding store validExtra validIn validJitter
-port-valid rates periods p n rate b ok s =
-    record {
-      sized = sized-store p (port n rate b) (s .sized);
-      guard = s .guard;
-      clock = s .clock;
-      ports = λ q l. slot q l (ℕ-discrete q (n - 1));
-      extras = s .extras;
-      flows = s .flows;
-      jitters = s .jitters;
-    }
-  where
-    fits : n - 1 < portSlots
-    fits = slot-below portSlots n (ok .number)
+  port-valid : (n rate b : ℕ) → PortOk n rate b → ValidTables rates periods (store p (port n rate b))
+  unfolding store validExtra validIn validJitter
+  port-valid n rate b ok =
+      record { sized = sized-store p (port n rate b) (s .sized); guard = s .guard; clock = s .clock; ports = λ q l. slot q l (ℕ-discrete q (n - 1)); extras = s .extras; flows = s .flows; jitters = s .jitters }
+    where
+      fits : n - 1 < portSlots
+      fits = slot-below portSlots n (ok .number)
 
-    slot : (q : ℕ) → q < portSlots → Dec (q ≡ n - 1) → validRate (store p (port n rate b)) q ≡ true
-    slot q l (yes e) =
-        rate-filled (store p (port n rate b)) q
-        (rw (e, getD-set-same (p .rates) (n - 1) rate 0 (rw (s .sized .rates) fits)) (ok .rate))
-        (rw (e, getD-set-same (p .blockings) (n - 1) b 0 (rw (s .sized .blockings) fits)) (ok .blocking))
-    slot q l (no ne) =
-        rate-kept p (store p (port n rate b)) q
-        (getD-set-other (p .rates) (n - 1) q rate 0 ne)
-        (getD-set-other (p .blockings) (n - 1) q b 0 ne)
-        (s .ports q l)
+      slot : (q : ℕ) → q < portSlots → Dec (q ≡ n - 1) → validRate (store p (port n rate b)) q ≡ true
+      slot q l (yes e) =
+          rate-filled (store p (port n rate b)) q
+          (rw (e, getD-set-same (p .rates) (n - 1) rate 0 (rw (s .sized .rates) fits)) (ok .rate))
+          (rw (e, getD-set-same (p .blockings) (n - 1) b 0 (rw (s .sized .blockings) fits)) (ok .blocking))
+      slot q l (no ne) =
+          rate-kept p (store p (port n rate b)) q
+          (getD-set-other (p .rates) (n - 1) q rate 0 ne)
+          (getD-set-other (p .blockings) (n - 1) q b 0 ne)
+          (s .ports q l)
 
--- and a flow over distinct ports of the plan
-flow-valid
-    : (rates periods : List ℕ) (p : Plan) (n t c l : ℕ) (r : List ℕ)
-    → FlowOk n t c l (length r)
-    → distinct r ≡ true
-    → every (portIn rates) r ≡ true
-    → ValidTables rates periods p
-    → ValidTables rates periods (store p (flow n t c l r))
-unfolding store validRate validExtra validJitter
-flow-valid rates periods p n t c l r ok once named s =
-    record {
-      sized = sized-store p (flow n t c l r) (s .sized);
-      guard = s .guard;
-      clock = s .clock;
-      ports = s .ports;
-      extras = s .extras;
-      flows = λ f less. slot f less (ℕ-discrete f (n - 1));
-      jitters = s .jitters;
-    }
-  where
-    o : Plan
-    o = store p (flow n t c l r)
+  -- a flow over distinct ports of the plan
+  flow-valid
+      : (n t c l : ℕ) (r : List ℕ)
+      → FlowOk n t c l (length r)
+      → distinct r ≡ true
+      → every (portIn rates) r ≡ true
+      → ValidTables rates periods (store p (flow n t c l r))
+  unfolding store validRate validExtra validJitter
+  flow-valid n t c l r ok once named =
+      record { sized = sized-store p (flow n t c l r) (s .sized); guard = s .guard; clock = s .clock; ports = s .ports; extras = s .extras; flows = λ f less. slot f less (ℕ-discrete f (n - 1)); jitters = s .jitters }
+    where
+      o : Plan
+      o = store p (flow n t c l r)
 
-    fits : n - 1 < flowSlots
-    fits = slot-below flowSlots n (ok .number)
+      fits : n - 1 < flowSlots
+      fits = slot-below flowSlots n (ok .number)
 
-    short : length r ≤ maxHops
-    short = within-high _ _ (length r) (ok .hops)
+      short : length r ≤ maxHops
+      short = within-high _ _ (length r) (ok .hops)
 
-    period : periodOf o (n - 1) ≡ t
-    period = Tables.stored-period p (s .sized) n t c l r fits
+      route : routeOf o (n - 1) ≡ r
+      route = Tables.stored-route p (s .sized) n t c l r fits short
 
-    route : routeOf o (n - 1) ≡ r
-    route = Tables.stored-route p (s .sized) n t c l r fits short
+      new : validIn rates o (n - 1) ≡ true
+      new =
+          flow-filled rates o (n - 1)
+          (rw (Tables.stored-period p (s .sized) n t c l r fits) (ok .period))
+          (rw (Tables.stored-count p (s .sized) n t c l r fits) (ok .count))
+          (rw (Tables.stored-bytes p (s .sized) n t c l r fits) (ok .length))
+          (rw (Tables.stored-hops p (s .sized) n t c l r fits) (ok .hops))
+          (rw route named)
+          (rw route once)
 
-    new : validIn rates o (n - 1) ≡ true
-    new =
-        flow-filled rates o (n - 1)
-        (rw period (ok .period))
-        (rw (Tables.stored-count p (s .sized) n t c l r fits) (ok .count))
-        (rw (Tables.stored-bytes p (s .sized) n t c l r fits) (ok .length))
-        (rw (Tables.stored-hops p (s .sized) n t c l r fits) (ok .hops))
-        (rw route named)
-        (rw route once)
+      slot : (f : ℕ) → f < flowSlots → Dec (f ≡ n - 1) → validIn rates o f ≡ true
+      slot f less (yes e) = rw e new
+      slot f less (no ne) =
+          flow-kept rates p o f
+          (Tables.kept-period p n t c l r f ne)
+          (Tables.kept-count p n t c l r f ne)
+          (Tables.kept-bytes p n t c l r f ne)
+          (Tables.kept-hops p n t c l r f ne)
+          (Tables.kept-route p n t c l r f ne short (valid-hops rates p f (s .flows f less)))
+          (s .flows f less)
 
-    slot : (f : ℕ) → f < flowSlots → Dec (f ≡ n - 1) → validIn rates o f ≡ true
-    slot f less (yes e) = rw e new
-    slot f less (no ne) =
-        flow-kept rates p o f
-        (Tables.kept-period p n t c l r f ne)
-        (Tables.kept-count p n t c l r f ne)
-        (Tables.kept-bytes p n t c l r f ne)
-        (Tables.kept-hops p n t c l r f ne)
-        (Tables.kept-route p n t c l r f ne short (valid-hops rates p f (s .flows f less)))
-        (s .flows f less)
+  -- extra bytes of a port of the plan
+  extra-valid : (n b : ℕ) → ExtraOk n b → portIn rates n ≡ true → ValidTables rates periods (store p (extra n b))
+  unfolding store validRate validIn validJitter
+  extra-valid n b ok named =
+      record { sized = sized-store p (extra n b) (s .sized); guard = s .guard; clock = s .clock; ports = s .ports; extras = λ q l. slot q l (ℕ-discrete q (n - 1)); flows = s .flows; jitters = s .jitters }
+    where
+      o : Plan
+      o = store p (extra n b)
 
--- extra bytes of a port of the plan
-extra-valid
-    : (rates periods : List ℕ) (p : Plan) (n b : ℕ)
-    → ExtraOk n b
-    → portIn rates n ≡ true
-    → ValidTables rates periods p
-    → ValidTables rates periods (store p (extra n b))
-unfolding store validRate validIn validJitter
-extra-valid rates periods p n b ok named s =
-    record {
-      sized = sized-store p (extra n b) (s .sized);
-      guard = s .guard;
-      clock = s .clock;
-      ports = s .ports;
-      extras = λ q l. slot q l (ℕ-discrete q (n - 1));
-      flows = s .flows;
-      jitters = s .jitters;
-    }
-  where
-    o : Plan
-    o = store p (extra n b)
+      new : validExtra rates o (n - 1) ≡ true
+      new =
+          let fits : n - 1 < portSlots = slot-below portSlots n (ok .number) in
+          let own : suc (n - 1) ≡ n = omega (arith, within-low 1 portSlots n (ok .number)) in
+          extra-filled rates o (n - 1)
+          (rw (getD-set-same (p .extras) (n - 1) b 0 (rw (s .sized .extras) fits)) (ok .bytes))
+          (ap (portIn rates) own ∙ named)
 
-    new : validExtra rates o (n - 1) ≡ true
-    new =
-        let fits : n - 1 < portSlots = slot-below portSlots n (ok .number) in
-        let own : suc (n - 1) ≡ n = omega (arith, within-low 1 portSlots n (ok .number)) in
-        extra-filled rates o (n - 1)
-        (rw (getD-set-same (p .extras) (n - 1) b 0 (rw (s .sized .extras) fits)) (ok .bytes))
-        (ap (portIn rates) own ∙ named)
+      slot : (q : ℕ) → q < portSlots → Dec (q ≡ n - 1) → validExtra rates o q ≡ true
+      slot q l (yes e) = rw e new
+      slot q l (no ne) = extra-kept rates p o q (getD-set-other (p .extras) (n - 1) q b 0 ne) (s .extras q l)
 
-    slot : (q : ℕ) → q < portSlots → Dec (q ≡ n - 1) → validExtra rates o q ≡ true
-    slot q l (yes e) = rw e new
-    slot q l (no ne) = extra-kept rates p o q (getD-set-other (p .extras) (n - 1) q b 0 ne) (s .extras q l)
+  -- the jitter of a flow of the plan
+  jitter-valid : (n j : ℕ) → JitterOk n j → hasFlow periods n ≡ true → ValidTables rates periods (store p (jitter n j))
+  unfolding store validRate validExtra validIn
+  jitter-valid n j ok named =
+      record { sized = sized-store p (jitter n j) (s .sized); guard = s .guard; clock = s .clock; ports = s .ports; extras = s .extras; flows = s .flows; jitters = λ f l. slot f l (ℕ-discrete f (n - 1)) }
+    where
+      o : Plan
+      o = store p (jitter n j)
 
--- the jitter of a flow of the plan
-jitter-valid
-    : (rates periods : List ℕ) (p : Plan) (n j : ℕ)
-    → JitterOk n j
-    → hasFlow periods n ≡ true
-    → ValidTables rates periods p
-    → ValidTables rates periods (store p (jitter n j))
-unfolding store validRate validExtra validIn
-jitter-valid rates periods p n j ok named s =
-    record {
-      sized = sized-store p (jitter n j) (s .sized);
-      guard = s .guard;
-      clock = s .clock;
-      ports = s .ports;
-      extras = s .extras;
-      flows = s .flows;
-      jitters = λ f l. slot f l (ℕ-discrete f (n - 1));
-    }
-  where
-    o : Plan
-    o = store p (jitter n j)
+      new : validJitter periods o (n - 1) ≡ true
+      new =
+          let fits : n - 1 < flowSlots = slot-below flowSlots n (ok .number) in
+          let own : suc (n - 1) ≡ n = omega (arith, within-low 1 flowSlots n (ok .number)) in
+          jitter-filled periods o (n - 1)
+          (rw (getD-set-same (p .jitters) (n - 1) j 0 (rw (s .sized .jitters) fits)) (ok .ns))
+          (ap (hasFlow periods) own ∙ named)
 
-    new : validJitter periods o (n - 1) ≡ true
-    new =
-        let fits : n - 1 < flowSlots = slot-below flowSlots n (ok .number) in
-        let own : suc (n - 1) ≡ n = omega (arith, within-low 1 flowSlots n (ok .number)) in
-        jitter-filled periods o (n - 1)
-        (rw (getD-set-same (p .jitters) (n - 1) j 0 (rw (s .sized .jitters) fits)) (ok .ns))
-        (ap (hasFlow periods) own ∙ named)
+      slot : (f : ℕ) → f < flowSlots → Dec (f ≡ n - 1) → validJitter periods o f ≡ true
+      slot f l (yes e) = rw e new
+      slot f l (no ne) = jitter-kept periods p o f (getD-set-other (p .jitters) (n - 1) f j 0 ne) (s .jitters f l)
 
-    slot : (f : ℕ) → f < flowSlots → Dec (f ≡ n - 1) → validJitter periods o f ≡ true
-    slot f l (yes e) = rw e new
-    slot f l (no ne) = jitter-kept periods p o f (getD-set-other (p .jitters) (n - 1) f j 0 ne) (s .jitters f l)
-
--- the clock
-clock-valid
-    : (rates periods : List ℕ) (p : Plan) (k : Clock)
-    → clockOk k ≡ true
-    → ValidTables rates periods p
-    → ValidTables rates periods (store p (clock k))
-unfolding store validRate validExtra validIn validJitter
-clock-valid rates periods p k ok s =
-    record {
-      sized = sized-store p (clock k) (s .sized);
-      guard = s .guard;
-      clock = ok;
-      ports = s .ports;
-      extras = s .extras;
-      flows = s .flows;
-      jitters = s .jitters;
-    }
+  clock-valid : (k : Clock) → clockOk k ≡ true → ValidTables rates periods (store p (clock k))
+  unfolding store validRate validExtra validIn validJitter
+  clock-valid k ok =
+      record { sized = sized-store p (clock k) (s .sized); guard = s .guard; clock = ok; ports = s .ports; extras = s .extras; flows = s .flows; jitters = s .jitters }
 
 -- a route holds no port twice
 abbrev pub Once : Part → Type 0
@@ -250,12 +175,12 @@ Once (clock k) = Unit {0}
 -- each part, and so several
 module _ (rates periods : List ℕ) where
   part-valid : (p : Plan) (x : Part) → PartOk x → Once x → NamesPresent rates periods x → ValidTables rates periods p → ValidTables rates periods (store p x)
-  part-valid p (header g t) ok once named h = header-valid rates periods p g t ok h
-  part-valid p (port n r b) ok once named h = port-valid rates periods p n r b ok h
-  part-valid p (flow n t c l r) ok once named h = flow-valid rates periods p n t c l r ok once named h
-  part-valid p (extra n b) ok once named h = extra-valid rates periods p n b ok named h
-  part-valid p (jitter n j) ok once named h = jitter-valid rates periods p n j ok named h
-  part-valid p (clock k) ok once named h = clock-valid rates periods p k ok h
+  part-valid p (header g t) ok once named h = header-valid rates periods p h g t ok
+  part-valid p (port n r b) ok once named h = port-valid rates periods p h n r b ok
+  part-valid p (flow n t c l r) ok once named h = flow-valid rates periods p h n t c l r ok once named
+  part-valid p (extra n b) ok once named h = extra-valid rates periods p h n b ok named
+  part-valid p (jitter n j) ok once named h = jitter-valid rates periods p h n j ok named
+  part-valid p (clock k) ok once named h = clock-valid rates periods p h k ok
 
   pub parts-valid
       : (p : Plan) (xs : List Part)
