@@ -1,4 +1,9 @@
-// The wire format: tags, where each number stands in the value of its field, and sizes.
+// The wire format: tags, where each number stands in the value of its field, and sizes; and where the route of a field starts.
+
+use crate::Field;
+ghost use mathlib.Core.Path.{_≡_};
+ghost use Rattle.plan.specs.Layout.{numbersSize};
+ghost use Rattle.plan.specs.Answer.{fieldOf};
 
 // Tag (1 byte) and length (2 bytes).
 pub const SIZE_AT: usize = 1;
@@ -67,3 +72,17 @@ pub const TIMING_JITTER_AT: usize = DRIFT_AT + 4;
 pub const SYNC_ERROR_AT: usize = TIMING_JITTER_AT + 4;
 
 pub const CLOCK_SIZE: usize = SYNC_ERROR_AT + 4;
+
+// Where the route of a field starts in its value: behind its other numbers.
+pub fn route_start(field: Field) -> usize
+    ensures { λ r. ⌜ r ≡ numbersSize (fieldOf field .kind) ⌝ }
+{
+    match field {
+        Field::Header(_) => HEADER_SIZE,
+        Field::Port(_) => PORT_SIZE,
+        Field::Flow(_) => FLOW_SIZE,
+        Field::Extra(_) => EXTRA_SIZE,
+        Field::Jitter(_) => JITTER_SIZE,
+        Field::Clock(_) => CLOCK_SIZE,
+    }
+}

@@ -9,12 +9,13 @@ pub mod number; // number.rt: numbers of several bytes, high byte first
 pub mod forms; // forms.rt: the form of a plan
 pub mod split; // split.rt: a field's head, and its value as a part of the plan
 pub mod route; // route.rt: a flow's route
-pub mod ranges; // ranges.rt: the numbers of a field in their ranges, test 5
+pub mod required; // required.rt: the header, ports and flows
 pub mod optional; // optional.rt: fields that a plan may leave out
 pub mod read; // read.rt: a whole field, tests 2 to 5
 
 pub use forms::form_by;
 pub use forms::form_number;
+pub use layout::route_start;
 pub use number::first_number;
 pub use read::field_at;
 pub use read::read_field;
@@ -23,7 +24,6 @@ pub use route::route_bytes;
 pub use route::route_len;
 pub use route::route_port;
 pub use route::route_repeats;
-pub use route::route_start;
 pub use split::field_value;
 pub use split::split_head;
 

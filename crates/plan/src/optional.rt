@@ -17,14 +17,26 @@ use crate::layout::SYNC_ERROR_AT;
 use crate::layout::TIMING_JITTER_AT;
 use crate::number::be16;
 use crate::number::be32;
-use crate::ranges::clock_in_range;
-use crate::ranges::extra_in_range;
-use crate::ranges::jitter_in_range;
 use numbers::clock::Clock;
+use numbers::clock::clock_ok;
+use numbers::limits::extra_ok;
+use numbers::limits::flow_ok;
+use numbers::limits::jitter_ok;
+use numbers::limits::port_ok;
 ghost use mathlib.Core.Path.{_≡_};
-ghost use Rattle.plan.specs.Layout.{Kind};
-ghost use Rattle.plan.specs.Field.{valueIn};
+ghost use mathlib.Core.List.{[], _∷_};
+ghost use Rattle.plan.specs.Layout.{Kind, layout};
+ghost use Rattle.plan.specs.Field.{inRanges, valueIn};
 ghost use Rattle.plan.specs.Answer.{fieldReadOf};
+
+fn extra_in_range(x: Extra) -> bool
+    ensures { λ r. ⌜ r ≡ inRanges (layout Kind.extra .numbers) (x .number ∷ x .extra ∷ []) ⌝ }
+{
+    if !port_ok(x.number) {
+        return false;
+    }
+    extra_ok(x.extra)
+}
 
 pub(crate) fn extra_of(value: &[u8], at: usize, next: usize) -> FieldRead
     ensures { λ r. ⌜ fieldReadOf r ≡ valueIn Kind.extra (now (value .entry)) at next ⌝ }
@@ -51,6 +63,15 @@ pub(crate) fn extra_of(value: &[u8], at: usize, next: usize) -> FieldRead
     }
 }
 
+fn jitter_in_range(x: Jitter) -> bool
+    ensures { λ r. ⌜ r ≡ inRanges (layout Kind.jitter .numbers) (x .number ∷ x .jitter ∷ []) ⌝ }
+{
+    if !flow_ok(x.number) {
+        return false;
+    }
+    jitter_ok(x.jitter)
+}
+
 pub(crate) fn jitter_of(value: &[u8], at: usize, next: usize) -> FieldRead
     ensures { λ r. ⌜ fieldReadOf r ≡ valueIn Kind.jitter (now (value .entry)) at next ⌝ }
 {
@@ -74,6 +95,12 @@ pub(crate) fn jitter_of(value: &[u8], at: usize, next: usize) -> FieldRead
         field: Field::Jitter(x),
         next,
     }
+}
+
+fn clock_in_range(x: Clock) -> bool
+    ensures { λ r. ⌜ r ≡ inRanges (layout Kind.clock .numbers) (x .drift ∷ x .«timing_jitter» ∷ x .«sync_error» ∷ []) ⌝ }
+{
+    clock_ok(x)
 }
 
 pub(crate) fn clock_of(value: &[u8], at: usize, next: usize) -> FieldRead

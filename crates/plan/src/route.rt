@@ -1,13 +1,7 @@
 // A flow's route: the bytes behind the other numbers of its field's value, two for each port.
 
-use crate::Field;
-use crate::layout::CLOCK_SIZE;
-use crate::layout::EXTRA_SIZE;
 use crate::layout::FLOW_SIZE;
-use crate::layout::HEADER_SIZE;
 use crate::layout::HOP_SIZE;
-use crate::layout::JITTER_SIZE;
-use crate::layout::PORT_SIZE;
 use crate::number::be16;
 use numbers::limits::port_ok;
 ghost use mathlib.Core.Path.{_≡_};
@@ -15,9 +9,8 @@ ghost use mathlib.Core.Bool.{cond, not};
 ghost use lib.ListN.{drop};
 ghost use Rattle.cqf.specs.Bounded.{elem, every, distinct};
 ghost use Rattle.cqf.specs.Limits.{portOk};
-ghost use Rattle.plan.specs.Layout.{Kind, numbersSize};
+ghost use Rattle.plan.specs.Layout.{Kind};
 ghost use Rattle.plan.specs.Field.{hopsIn, sizeOk, routeLength, routePorts, routePort, repeats};
-ghost use Rattle.plan.specs.Answer.{fieldOf};
 
 // How many ports a flow field names, by the length of its value: one case for each length that it may have, and 0 for any other.
 pub(crate) fn hops_by_length(size: usize) -> u8
@@ -41,20 +34,6 @@ pub(crate) fn hops_by_length(size: usize) -> u8
         40 => 15,
         42 => 16,
         _ => 0,
-    }
-}
-
-// Where the route of a field starts in its value: behind its other numbers.
-pub fn route_start(field: Field) -> usize
-    ensures { λ r. ⌜ r ≡ numbersSize (fieldOf field .kind) ⌝ }
-{
-    match field {
-        Field::Header(_) => HEADER_SIZE,
-        Field::Port(_) => PORT_SIZE,
-        Field::Flow(_) => FLOW_SIZE,
-        Field::Extra(_) => EXTRA_SIZE,
-        Field::Jitter(_) => JITTER_SIZE,
-        Field::Clock(_) => CLOCK_SIZE,
     }
 }
 

@@ -6,8 +6,8 @@ use denote.Ref.{now}
 use Rattle.plan.specs.Layout.{Kind, layout}
 use Rattle.plan.specs.Field.{numbersAt, inRanges}
 use Rattle.plan.specs.laws.Tested.{plain-length, plain-range, plain-read}
-use Rattle.plan.proofs.read.header_of.Statement.{statement}
-use Rattle.plan.proofs.read.header_of.Tie as tie
+use Rattle.plan.proofs.required.header_of.Statement.{statement}
+use Rattle.plan.proofs.required.header_of.Tie as tie
 
 -- the numbers that were tested are those in the value
 tested : (c : tie.After-header-in-range) →

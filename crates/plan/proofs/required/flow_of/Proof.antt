@@ -13,8 +13,8 @@ use Rattle.plan.specs.Layout.{Kind, layout, numbersSize}
 use Rattle.plan.specs.Field.{numbersAt, inRanges, hopsIn, routeIn, sizeOk}
 use Rattle.plan.specs.laws.Lengths.{refused-length, allowed-length, allowed-long}
 use Rattle.plan.specs.laws.Tested.{value-length, value-range, value-read}
-use Rattle.plan.proofs.read.flow_of.Statement.{statement}
-use Rattle.plan.proofs.read.flow_of.Tie as tie
+use Rattle.plan.proofs.required.flow_of.Statement.{statement}
+use Rattle.plan.proofs.required.flow_of.Tie as tie
 
 -- the length is that of a route, and this is how many ports it has
 sized : (c : tie.Else1) →

@@ -2,8 +2,8 @@
 use mathlib.Core.Path.{sym, ap, _∙_}
 use mathlib.Core.Bool.{and-true, and-assoc}
 use borrow.Author.Needs.{needs}
-use Rattle.plan.proofs.ranges.clock_in_range.Statement.{statement}
-use Rattle.plan.proofs.ranges.clock_in_range.Tie as tie
+use Rattle.plan.proofs.optional.clock_in_range.Statement.{statement}
+use Rattle.plan.proofs.optional.clock_in_range.Tie as tie
 
 returns : tie.Need-returns
 returns c = c .clock-ok .ensures ∙ sym (simp (and-true, and-assoc))

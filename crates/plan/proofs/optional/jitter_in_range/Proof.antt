@@ -3,8 +3,8 @@ use mathlib.Core.Path.{sym, _∙_}
 use mathlib.Core.Bool.{and-true}
 use borrow.Author.Needs.{needs}
 use borrow.Author.Tests.{not-true, not-false}
-use Rattle.plan.proofs.ranges.jitter_in_range.Statement.{statement}
-use Rattle.plan.proofs.ranges.jitter_in_range.Tie as tie
+use Rattle.plan.proofs.optional.jitter_in_range.Statement.{statement}
+use Rattle.plan.proofs.optional.jitter_in_range.Tie as tie
 
 returns : tie.Need-returns
 returns c = sym (rw (sym (c .before .flow-ok .ensures) ∙ not-true _ (c .if1 .taken)))

@@ -4,8 +4,8 @@ use mathlib.Core.Bool.{true, and-true}
 use borrow.Author.Needs.{needs}
 use borrow.Author.Tests.{not-true, not-false}
 use Rattle.cqf.specs.Limits.{flowOk, periodOk, countOk}
-use Rattle.plan.proofs.ranges.flow_in_range.Statement.{statement}
-use Rattle.plan.proofs.ranges.flow_in_range.Tie as tie
+use Rattle.plan.proofs.required.flow_in_range.Statement.{statement}
+use Rattle.plan.proofs.required.flow_in_range.Tie as tie
 
 -- the tests that were passed
 number : (c : tie.Else1) → flowOk (c .before .before .args .x .number) ≡ true
