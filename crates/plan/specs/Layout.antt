@@ -5,7 +5,7 @@ use mathlib.Core.List.{List, [], _∷_}
 use mathlib.Core.Bool.{Bool, true, false}
 use lib.Dec.{eqb}
 use Rattle.cqf.specs.Bounded.{within}
-use Rattle.cqf.specs.Limits.{guardOk, topOk, driftOk, timingJitterOk, syncErrorOk, portOk, rateOk, lengthOk, blockingOk, extraOk, flowOk, periodOk, countOk, jitterOk}
+use Rattle.cqf.specs.Limits.{portSlots, flowSlots, guardOk, topOk, driftOk, timingJitterOk, syncErrorOk, portOk, rateOk, lengthOk, blockingOk, extraOk, flowOk, periodOk, countOk, jitterOk}
 
 -- a number stands in 2 bytes or in 4
 pub data Width : Type 0 where
@@ -27,10 +27,12 @@ in2 range = record { width = two; ok = range }
 abbrev in4 : (ℕ → Bool) → Number
 in4 range = record { width = four; ok = range }
 
--- a kind of field: its tag, its numbers in their order, whether the first of them is the field's own number (a plan has one field
--- of a kind without), and the most ports of the route that follows them, 0 where none does
+-- a kind of field: its tag; the key before the first of its fields, or that of the one field that a plan may have of it; its numbers
+-- in their order; whether the first of them is the field's own number (a plan has one field of a kind without); and the most ports of
+-- the route that follows them, 0 where none does
 pub record Layout : Type 0 where
   pub tag : ℕ
+  pub key : ℕ
   pub numbers : List Number
   pub numbered : Bool
   pub mostHops : ℕ
@@ -44,14 +46,14 @@ pub data Kind : Type 0 where
   clock : Kind
 
 abbrev pub layout : Kind → Layout
-layout Kind.header = record { tag = 1; numbers = in4 guardOk ∷ in4 topOk ∷ []; numbered = false; mostHops = 0 }
-layout Kind.port = record { tag = 2; numbers = in2 portOk ∷ in4 rateOk ∷ in2 blockingOk ∷ []; numbered = true; mostHops = 0 }
+layout Kind.header = record { tag = 1; key = 0; numbers = in4 guardOk ∷ in4 topOk ∷ []; numbered = false; mostHops = 0 }
+layout Kind.port = record { tag = 2; key = 0; numbers = in2 portOk ∷ in4 rateOk ∷ in2 blockingOk ∷ []; numbered = true; mostHops = 0 }
 layout Kind.flow =
-    record { tag = 3; numbers = in2 flowOk ∷ in4 periodOk ∷ in2 countOk ∷ in2 lengthOk ∷ []; numbered = true; mostHops = 16 }
-layout Kind.extra = record { tag = 4; numbers = in2 portOk ∷ in2 extraOk ∷ []; numbered = true; mostHops = 0 }
-layout Kind.jitter = record { tag = 5; numbers = in2 flowOk ∷ in4 jitterOk ∷ []; numbered = true; mostHops = 0 }
+    record { tag = 3; key = portSlots; numbers = in2 flowOk ∷ in4 periodOk ∷ in2 countOk ∷ in2 lengthOk ∷ []; numbered = true; mostHops = 16 }
+layout Kind.extra = record { tag = 4; key = portSlots + flowSlots; numbers = in2 portOk ∷ in2 extraOk ∷ []; numbered = true; mostHops = 0 }
+layout Kind.jitter = record { tag = 5; key = portSlots + flowSlots + portSlots; numbers = in2 flowOk ∷ in4 jitterOk ∷ []; numbered = true; mostHops = 0 }
 layout Kind.clock =
-    record { tag = 6; numbers = in4 driftOk ∷ in4 timingJitterOk ∷ in4 syncErrorOk ∷ []; numbered = false; mostHops = 0 }
+    record { tag = 6; key = portSlots + flowSlots + portSlots + flowSlots + 1; numbers = in4 driftOk ∷ in4 timingJitterOk ∷ in4 syncErrorOk ∷ []; numbered = false; mostHops = 0 }
 
 -- every kind
 abbrev pub everyKind : List Kind

@@ -4,7 +4,7 @@
 -- after those, the clock the one after these; a later kind goes on from there.
 use Prim.Native.Nat.{ℕ, _+_}
 use Rattle.cqf.specs.Limits.{portSlots, flowSlots}
-use Rattle.plan.specs.Layout.{Kind}
+use Rattle.plan.specs.Layout.{layout}
 use Rattle.plan.specs.Field.{Field}
 use Rattle.plan_reading.specs.Rank.{numberOf}
 
@@ -31,13 +31,5 @@ abbrev pub keySlots : ℕ
 keySlots = clockKey + 1
 
 -- the key of a field is its kind's and its number, which is from 1 on, or 0 where a plan has one field of the kind only
-abbrev pub kindKey : Kind → ℕ
-kindKey Kind.header = headerKey
-kindKey Kind.port = headerKey
-kindKey Kind.flow = portSlots
-kindKey Kind.extra = portSlots + flowSlots
-kindKey Kind.jitter = portSlots + flowSlots + portSlots
-kindKey Kind.clock = clockKey
-
 abbrev pub keyOf : Field → ℕ
-keyOf x = kindKey (x .kind) + numberOf x
+keyOf x = layout (x .kind) .key + numberOf x

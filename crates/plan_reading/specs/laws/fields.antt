@@ -2,6 +2,7 @@
 pub mod Within
 pub mod Passes
 pub mod Ranged
+pub mod ByPart
 pub mod Kinds
 pub mod Found
 pub mod Encoded

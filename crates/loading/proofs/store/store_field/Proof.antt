@@ -18,8 +18,8 @@ use Rattle.plan_reading.specs.Key.{keyOf}
 use Rattle.plan_reading.specs.Store.{store, storeAll}
 use Rattle.plan_reading.specs.Draft.{Draft, added}
 use Rattle.plan.specs.Answer.{fieldOf}
-use Rattle.plan_reading.specs.laws.fields.Kinds.{key-below}
-use Rattle.plan_reading.specs.laws.fields.Ranged.{in-range, All, parts-ok}
+use Rattle.plan_reading.specs.laws.fields.Kinds.{key-below, parts-ok}
+use Rattle.plan_reading.specs.laws.fields.Ranged.{in-range, All}
 use Rattle.loading.specs.Loading.{draftOf}
 use borrow.Author.Needs.{needs}
 use Rattle.loading.proofs.store.store_field.Statement.{statement}
@@ -76,7 +76,7 @@ element-write-seen c = omega (arith, c .key-of .ensures, key-below (fieldOf (c .
 store-port-requires : tie.Need-store-port-requires
 store-port-requires c κs =
     let s = c .before .before .before .before .before .before .before in
-    let ok : All PartOk (partsOf (fieldOf (s .args .field)) (routePorts (now (s .args .route)))) = parts-ok _ _ (s .pre .2) (s .pre .3) in
+    let ok : All PartOk (partsOf (fieldOf (s .args .field)) (routePorts (now (s .args .route)))) = parts-ok _ (s .pre .2) _ (s .pre .3) in
     let own = rw (c .before .before .before .field2 .given .1) at ok in
     own .0
 
@@ -89,14 +89,14 @@ store-flow-requires c κs =
 store-extra-requires : tie.Need-store-extra-requires
 store-extra-requires c κs =
     let s = c .before .before .before .before .before .before in
-    let ok : All PartOk (partsOf (fieldOf (s .args .field)) (routePorts (now (s .args .route)))) = parts-ok _ _ (s .pre .2) (s .pre .3) in
+    let ok : All PartOk (partsOf (fieldOf (s .args .field)) (routePorts (now (s .args .route)))) = parts-ok _ (s .pre .2) _ (s .pre .3) in
     let own = rw (c .before .before .field4 .given .1) at ok in
     own .0
 
 store-jitter-requires : tie.Need-store-jitter-requires
 store-jitter-requires c κs =
     let s = c .before .before .before .before .before .before in
-    let ok : All PartOk (partsOf (fieldOf (s .args .field)) (routePorts (now (s .args .route)))) = parts-ok _ _ (s .pre .2) (s .pre .3) in
+    let ok : All PartOk (partsOf (fieldOf (s .args .field)) (routePorts (now (s .args .route)))) = parts-ok _ (s .pre .2) _ (s .pre .3) in
     let own = rw (c .before .before .field5 .given .1) at ok in
     own .0
 

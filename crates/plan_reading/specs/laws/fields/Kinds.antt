@@ -1,129 +1,190 @@
--- What holds of what a part gives, by its key: shown of the kind that gives it, with its numbers in range, and of what any
--- other kind gives. And the keys of fields and of their parts.
-use Prim.Native.Nat.{ℕ, _+_, _<_}
-use mathlib.Core.Path.{_≡_, refl}
-use mathlib.Core.List.{List}
-use mathlib.Core.Bool.{true, cond}
-use lib.ListN.{length, getD}
+-- What goes by the kind of a field, kind by kind: what its parts are, its key among those of its tag, and what it names. A new kind
+-- has a case in each.
+use Prim.Native.Nat.{ℕ, zero, suc, _+_, _≤_, _<_}
+use mathlib.Core.Path.{_≡_, refl, sym, subst}
+use mathlib.Core.List.{List, [], _∷_}
+use mathlib.Core.Bool.{Bool, true, false, cond, _||_}
+use lib.Dec.{eqb}
+use lib.ListN.{getD}
 use native.Mathlib.Omega.{arith}
-use Rattle.cqf.specs.Limits.{portSlots, flowSlots}
-use Rattle.cqf.specs.Plan.{Clock, clockOk}
-use Rattle.plan.specs.Layout.{Kind, layout}
-use Rattle.plan.specs.Field.{Field}
-use Rattle.plan_reading.specs.Part.{Part, header, port, flow, extra, jitter, clock, partsBy, partsOf, ofHeader, ofPort, ofFlow, ofExtra, ofJitter, ofClock}
-use Rattle.plan_reading.specs.Key.{headerKey, clockKey, keySlots, kindKey, keyOf}
-use Rattle.plan_reading.specs.Ranges.{HeaderOk, PortOk, FlowOk, ExtraOk, JitterOk, NumbersOk, PartOk}
-use Rattle.plan_reading.specs.laws.fields.Within.{within-high}
+use borrow.Author.Tests.{not-false}
+use Rattle.cqf.specs.Limits.{portSlots, flowSlots, topOk}
+use Rattle.cqf.specs.Plan.{Plan}
+use Rattle.plan.specs.Bytes.{tagAt, valueAt}
+use Rattle.plan.specs.Layout.{Kind, layout, hopsAllowed}
+use Rattle.plan.specs.Field.{Field, fieldBy}
+use Rattle.plan_reading.specs.Part.{partsBy, partsOf}
+use Rattle.plan_reading.specs.Key.{headerKey, keySlots, keyOf}
+use Rattle.plan_reading.specs.Rank.{tagOf, numberOf}
+use Rattle.plan_reading.specs.Store.{store, storeAll}
+use Rattle.plan_reading.specs.Draft.{fieldRepeats, portsIn, flowsIn, sumOf}
+use Rattle.plan_reading.specs.FieldOrder.{SaysNothing, AllNothing}
+use Rattle.plan_reading.specs.Ranges.{NumbersOk, RouteOk, RouteFits, PartOk}
+use Rattle.plan_reading.specs.Reading.{routeAt, namesAbsent, jitterAbsent, extraAbsent}
+use Rattle.plan_reading.specs.laws.fields.Within.{within-low, within-high}
 use Rattle.plan_reading.specs.laws.fields.Ranged.{InRange, in-range, All}
+use Rattle.plan_reading.specs.laws.fields.ByPart.{partKey, Separate, Once}
+use Rattle.plan_reading.specs.laws.fields.Passes.{Passes}
+use Rattle.plan_reading.specs.laws.reading.Absent.{NamedThere, NamesPresent, there-route, there-jitter, there-extra}
 
--- one number for each thing that parts say
-abbrev pub partKey : Part → ℕ
-partKey (header g t) = headerKey
-partKey (port n r b) = headerKey + n
-partKey (flow n p c l r) = portSlots + n
-partKey (extra n b) = portSlots + flowSlots + n
-partKey (jitter n j) = portSlots + flowSlots + portSlots + n
-partKey (clock k) = clockKey
+-- the key of a field of this kind with these numbers
+abbrev keyBy : Kind → List ℕ → ℕ
+keyBy k ns = layout k .key + cond (layout k .numbered) (getD ns 0 0) 0
 
-module _ {A : Type 0} (P : ℕ → A → Type 0) (other : A) (rest : (key : ℕ) → P key other) where
-  pub of-header
-      : (gives : (guard top : ℕ) → A)
-      → ((g t : ℕ) → HeaderOk g t → P headerKey (gives g t))
-      → (x : Part)
-      → PartOk x
-      → P (partKey x) (ofHeader other gives x)
-  of-header gives own (header g t) k = own g t k
-  of-header gives own (port n r b) k = rest (headerKey + n)
-  of-header gives own (flow n p c l r) k = rest (portSlots + n)
-  of-header gives own (extra n b) k = rest (portSlots + flowSlots + n)
-  of-header gives own (jitter n j) k = rest (portSlots + flowSlots + portSlots + n)
-  of-header gives own (clock c) k = rest clockKey
+-- the parts of a field: each has its key and differs from the others, one is a port at the most and one a flow, the only route is the
+-- field's, and they are in range where the field is
+record Said (k : Kind) (ns r : List ℕ) : Type 0 where
+  keyed : All (λ u. partKey u ≡ keyBy k ns) (partsBy k ns r)
+  separate : Separate (partsBy k ns r)
+  ports : sumOf portsIn (partsBy k ns r) ≤ 1
+  flows : sumOf flowsIn (partsBy k ns r) ≤ 1
+  once : fieldRepeats r ≡ false → All Once (partsBy k ns r)
+  nothing : AllNothing (partsBy k ns []) → AllNothing (partsBy k ns r)
 
-  pub of-port
-      : (gives : (number rate blocking : ℕ) → A)
-      → ((n r b : ℕ) → PortOk n r b → P (headerKey + n) (gives n r b))
-      → (x : Part)
-      → PartOk x
-      → P (partKey x) (ofPort other gives x)
-  of-port gives own (header g t) k = rest headerKey
-  of-port gives own (port n r b) k = own n r b k
-  of-port gives own (flow n p c l r) k = rest (portSlots + n)
-  of-port gives own (extra n b) k = rest (portSlots + flowSlots + n)
-  of-port gives own (jitter n j) k = rest (portSlots + flowSlots + portSlots + n)
-  of-port gives own (clock c) k = rest clockKey
+said : (k : Kind) (ns r : List ℕ) → Said k ns r
+said Kind.header ns r = record { keyed = (refl, tt); separate = (tt, tt); ports = omega arith; flows = omega arith; once = λ e. (tt, tt); nothing = λ h. h }
+said Kind.port ns r = record { keyed = (refl, tt); separate = (tt, tt); ports = omega arith; flows = omega arith; once = λ e. (tt, tt); nothing = λ h. h }
+said Kind.flow ns r = record { keyed = (refl, tt); separate = (tt, tt); ports = omega arith; flows = omega arith; once = λ e. (not-false _ e, tt); nothing = λ h. h }
+said Kind.extra ns r = record { keyed = (refl, tt); separate = (tt, tt); ports = omega arith; flows = omega arith; once = λ e. (tt, tt); nothing = λ h. h }
+said Kind.jitter ns r = record { keyed = (refl, tt); separate = (tt, tt); ports = omega arith; flows = omega arith; once = λ e. (tt, tt); nothing = λ h. h }
+said Kind.clock ns r = record { keyed = (refl, tt); separate = (tt, tt); ports = omega arith; flows = omega arith; once = λ e. (tt, tt); nothing = λ h. h }
 
-  pub of-flow
-      : (gives : (number period count bytes : ℕ) (route : List ℕ) → A)
-      → ((n p c l : ℕ) (r : List ℕ) → FlowOk n p c l (length r) → P (portSlots + n) (gives n p c l r))
-      → (x : Part)
-      → PartOk x
-      → P (partKey x) (ofFlow other gives x)
-  of-flow gives own (header g t) k = rest headerKey
-  of-flow gives own (port n r b) k = rest (headerKey + n)
-  of-flow gives own (flow n p c l r) k = own n p c l r k
-  of-flow gives own (extra n b) k = rest (portSlots + flowSlots + n)
-  of-flow gives own (jitter n j) k = rest (portSlots + flowSlots + portSlots + n)
-  of-flow gives own (clock c) k = rest clockKey
+parts-in
+    : (k : Kind) (ns : List ℕ) (h : ℕ) (r : List ℕ)
+    → InRange (layout k .numbers) 0 ns
+    → hopsAllowed (layout k .mostHops) h ≡ true
+    → RouteOk h r
+    → All PartOk (partsBy k ns r)
+parts-in Kind.header ns h r t m on = (record { guard = t .0; top = t .1 .0 }, tt)
+parts-in Kind.port ns h r t m on = (record { number = t .0; rate = t .1 .0; blocking = t .1 .1 .0 }, tt)
+parts-in Kind.flow ns h r t m on = (record { number = t .0; period = t .1 .0; count = t .1 .1 .0; length = t .1 .1 .1 .0; hops = rw (on .hops) m }, tt)
+parts-in Kind.extra ns h r t m on = (record { number = t .0; bytes = t .1 .0 }, tt)
+parts-in Kind.jitter ns h r t m on = (record { number = t .0; ns = t .1 .0 }, tt)
+parts-in Kind.clock ns h r t m on = (rw (t .0, t .1 .0, t .1 .1 .0), tt)
 
-  pub of-extra
-      : (gives : (number bytes : ℕ) → A)
-      → ((n b : ℕ) → ExtraOk n b → P (portSlots + flowSlots + n) (gives n b))
-      → (x : Part)
-      → PartOk x
-      → P (partKey x) (ofExtra other gives x)
-  of-extra gives own (header g t) k = rest headerKey
-  of-extra gives own (port n r b) k = rest (headerKey + n)
-  of-extra gives own (flow n p c l r) k = rest (portSlots + n)
-  of-extra gives own (extra n b) k = own n b k
-  of-extra gives own (jitter n j) k = rest (portSlots + flowSlots + portSlots + n)
-  of-extra gives own (clock c) k = rest clockKey
+-- a header brings a top in range
+top-in : (k : Kind) (ns r : List ℕ) (p : Plan) → InRange (layout k .numbers) 0 ns → keyBy k ns ≡ headerKey → topOk (storeAll p (partsBy k ns r) .top) ≡ true
+unfolding storeAll store
+top-in Kind.header ns r p t e = t .1 .0
+top-in Kind.port ns r p t e = absurd (omega (arith, within-low _ _ (getD ns 0 0) (t .0)))
+top-in Kind.flow ns r p t e = absurd (omega arith)
+top-in Kind.extra ns r p t e = absurd (omega arith)
+top-in Kind.jitter ns r p t e = absurd (omega arith)
+top-in Kind.clock ns r p t e = absurd (omega arith)
 
-  pub of-jitter
-      : (gives : (number ns : ℕ) → A)
-      → ((n j : ℕ) → JitterOk n j → P (portSlots + flowSlots + portSlots + n) (gives n j))
-      → (x : Part)
-      → PartOk x
-      → P (partKey x) (ofJitter other gives x)
-  of-jitter gives own (header g t) k = rest headerKey
-  of-jitter gives own (port n r b) k = rest (headerKey + n)
-  of-jitter gives own (flow n p c l r) k = rest (portSlots + n)
-  of-jitter gives own (extra n b) k = rest (portSlots + flowSlots + n)
-  of-jitter gives own (jitter n j) k = own n j k
-  of-jitter gives own (clock c) k = rest clockKey
+-- the first number that a tag has, and how many it has
+unfoldable pub firstNumber : ℕ → ℕ
+firstNumber tag = cond (eqb tag (layout Kind.header .tag) || eqb tag (layout Kind.clock .tag)) 0 1
 
-  pub of-clock
-      : (gives : Clock → A)
-      → ((c : Clock) → clockOk c ≡ true → P clockKey (gives c))
-      → (x : Part)
-      → PartOk x
-      → P (partKey x) (ofClock other gives x)
-  of-clock gives own (header g t) k = rest headerKey
-  of-clock gives own (port n r b) k = rest (headerKey + n)
-  of-clock gives own (flow n p c l r) k = rest (portSlots + n)
-  of-clock gives own (extra n b) k = rest (portSlots + flowSlots + n)
-  of-clock gives own (jitter n j) k = rest (portSlots + flowSlots + portSlots + n)
-  of-clock gives own (clock c) k = own c k
+unfoldable pub numbers : ℕ → ℕ
+numbers tag =
+    cond (eqb tag (layout Kind.header .tag)) 1
+    (cond (eqb tag (layout Kind.port .tag)) portSlots
+    (cond (eqb tag (layout Kind.flow .tag)) flowSlots
+    (cond (eqb tag (layout Kind.extra .tag)) portSlots
+    (cond (eqb tag (layout Kind.jitter .tag)) flowSlots
+    (cond (eqb tag (layout Kind.clock .tag)) 1
+    0)))))
 
--- a field in range has its flag
-pub key-below : (x : Field) → NumbersOk x → keyOf x < keySlots
-key-below x ok = go (x .kind) (in-range (layout (x .kind) .numbers) (x .numbers) (ok .ranges))
-  where
-    go : (k : Kind) → InRange (layout k .numbers) 0 (x .numbers) → kindKey k + cond (layout k .numbered) (getD (x .numbers) 0 0) 0 < keySlots
-    go Kind.header t = omega arith
-    go Kind.port t = omega (arith, within-high _ _ (getD (x .numbers) 0 0) (t .0))
-    go Kind.flow t = omega (arith, within-high _ _ (getD (x .numbers) 0 0) (t .0))
-    go Kind.extra t = omega (arith, within-high _ _ (getD (x .numbers) 0 0) (t .0))
-    go Kind.jitter t = omega (arith, within-high _ _ (getD (x .numbers) 0 0) (t .0))
-    go Kind.clock t = omega arith
+-- the first key of a tag
+unfoldable pub firstKey : ℕ → ℕ
+unfolding numbers
+firstKey zero = 0
+firstKey (suc tag) = firstKey tag + numbers tag
 
--- each part has the key of its field
-pub parts-keyed : (x : Field) (r : List ℕ) → All (λ u. partKey u ≡ keyOf x) (partsOf x r)
-parts-keyed x r = go (x .kind)
-  where
-    go : (k : Kind) → All (λ u. partKey u ≡ kindKey k + cond (layout k .numbered) (getD (x .numbers) 0 0) 0) (partsBy k (x .numbers) r)
-    go Kind.header = (refl, tt)
-    go Kind.port = (refl, tt)
-    go Kind.flow = (refl, tt)
-    go Kind.extra = (refl, tt)
-    go Kind.jitter = (refl, tt)
-    go Kind.clock = (refl, tt)
+-- a field has the key of its number among those of its tag
+pub record Keyed (tag number key : ℕ) : Type 0 where
+  pub numbered : firstNumber tag ≤ number
+  pub placed : key + firstNumber tag ≡ firstKey tag + number
+  pub fits : key < firstKey (suc tag)
+  pub below : key < keySlots
+
+keyed-in : (k : Kind) (ns : List ℕ) → InRange (layout k .numbers) 0 ns → Keyed (layout k .tag) (cond (layout k .numbered) (getD ns 0 0) 0) (keyBy k ns)
+unfolding firstNumber numbers firstKey
+keyed-in Kind.header ns t = record { numbered = omega arith; placed = refl; fits = omega arith; below = omega arith }
+keyed-in Kind.port ns t =
+    let low = within-low _ _ (getD ns 0 0) (t .0) in
+    let high = within-high _ _ (getD ns 0 0) (t .0) in
+    record { numbered = low; placed = omega arith; fits = omega arith; below = omega arith }
+keyed-in Kind.flow ns t =
+    let low = within-low _ _ (getD ns 0 0) (t .0) in
+    let high = within-high _ _ (getD ns 0 0) (t .0) in
+    record { numbered = low; placed = omega arith; fits = omega arith; below = omega arith }
+keyed-in Kind.extra ns t =
+    let low = within-low _ _ (getD ns 0 0) (t .0) in
+    let high = within-high _ _ (getD ns 0 0) (t .0) in
+    record { numbered = low; placed = omega arith; fits = omega arith; below = omega arith }
+keyed-in Kind.jitter ns t =
+    let low = within-low _ _ (getD ns 0 0) (t .0) in
+    let high = within-high _ _ (getD ns 0 0) (t .0) in
+    record { numbered = low; placed = omega arith; fits = omega arith; below = omega arith }
+keyed-in Kind.clock ns t = record { numbered = omega arith; placed = refl; fits = omega arith; below = omega arith }
+
+-- of a field
+module _ (x : Field) (k : NumbersOk x) where
+  in-rows : InRange (layout (x .kind) .numbers) 0 (x .numbers)
+  in-rows = in-range (layout (x .kind) .numbers) (x .numbers) (k .ranges)
+
+  pub keyed : Keyed (tagOf x) (numberOf x) (keyOf x)
+  keyed = keyed-in (x .kind) (x .numbers) in-rows
+
+  -- it has its flag
+  pub key-below : keyOf x < keySlots
+  key-below = keyed .below
+
+  pub header-top : (r : List ℕ) (p : Plan) → keyOf x ≡ headerKey → topOk (storeAll p (partsOf x r) .top) ≡ true
+  header-top r p = top-in (x .kind) (x .numbers) r p in-rows
+
+  pub parts-ok : (r : List ℕ) → RouteFits x r → All PartOk (partsOf x r)
+  parts-ok r on = parts-in (x .kind) (x .numbers) (x .hops) r in-rows (k .hops) on
+
+module _ (x : Field) (r : List ℕ) where
+  pub parts-keyed : All (λ u. partKey u ≡ keyOf x) (partsOf x r)
+  parts-keyed = said (x .kind) (x .numbers) r .keyed
+
+  pub own-separate : Separate (partsOf x r)
+  own-separate = said (x .kind) (x .numbers) r .separate
+
+  pub ports-one : sumOf portsIn (partsOf x r) ≤ 1
+  ports-one = said (x .kind) (x .numbers) r .ports
+
+  pub flows-one : sumOf flowsIn (partsOf x r) ≤ 1
+  flows-one = said (x .kind) (x .numbers) r .flows
+
+  pub parts-once : fieldRepeats r ≡ false → All Once (partsOf x r)
+  parts-once = said (x .kind) (x .numbers) r .once
+
+  pub routeless : SaysNothing x → AllNothing (partsOf x r)
+  routeless = said (x .kind) (x .numbers) r .nothing
+
+-- so test 9 finds the field at this offset just where its parts name what is absent
+module _ (rates periods s : List ℕ) (at : ℕ) where
+  abbrev Present : Kind → Type 0
+  Present k = All (NamesPresent rates periods) (partsOf (fieldBy k (valueAt s at)) (routeAt k s at))
+
+  there-present : (k : Kind) → tagAt s at ≡ layout k .tag → NamedThere rates periods s at → Present k
+  there-present Kind.header e h = (tt, tt)
+  there-present Kind.port e h = (tt, tt)
+  there-present Kind.flow e h = (there-route rates periods s at e h, tt)
+  there-present Kind.extra e h = (there-extra rates periods s at e h, tt)
+  there-present Kind.jitter e h = (there-jitter rates periods s at e h, tt)
+  there-present Kind.clock e h = (tt, tt)
+
+  present-there : (k : Kind) → tagAt s at ≡ layout k .tag → Present k → NamedThere rates periods s at
+  unfolding namesAbsent jitterAbsent extraAbsent
+  present-there Kind.header e h = record { routes = rw e; jitters = rw e; extras = rw e }
+  present-there Kind.port e h = record { routes = rw e; jitters = rw e; extras = rw e }
+  present-there Kind.flow e h = record { routes = rw (e, h .0); jitters = rw e; extras = rw e }
+  present-there Kind.extra e h = record { routes = rw e; jitters = rw e; extras = rw (e, h .0) }
+  present-there Kind.jitter e h = record { routes = rw e; jitters = rw (e, h .0); extras = rw e }
+  present-there Kind.clock e h = record { routes = rw e; jitters = rw e; extras = rw e }
+
+  module _ (x : Field) (k : Passes (tagAt s at) (valueAt s at) x) where
+    abbrev Names : Field → Type 0
+    Names y = All (NamesPresent rates periods) (partsOf y (routeAt (x .kind) s at))
+
+    pub parts-present : NamedThere rates periods s at → Names x
+    parts-present h = subst Names (k .numbers) (there-present (x .kind) (k .kind) h)
+
+    pub names-there : Names x → NamedThere rates periods s at
+    names-there h = present-there (x .kind) (k .kind) (subst Names (sym (k .numbers)) h)

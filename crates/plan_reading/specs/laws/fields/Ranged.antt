@@ -1,13 +1,12 @@
--- Numbers in range, each by its place; and so the parts of a field in range are.
+-- Numbers in range, each by its place, and what holds of each part of several.
 use Prim.Native.Nat.{ℕ, suc}
 use mathlib.Core.Path.{_≡_, sym}
 use mathlib.Core.List.{List, [], _∷_, _++_, List·Memᴰ, List·Memᴰ·head, List·Memᴰ·tail, List·Memᴰ·not-nil}
 use mathlib.Core.Bool.{true, false, true≢false, and-eq-true-iff}
 use lib.ListN.{getD}
-use Rattle.plan.specs.Layout.{Number, Kind, layout, hopsAllowed}
-use Rattle.plan.specs.Field.{Field, inRanges}
-use Rattle.plan_reading.specs.Part.{Part, partsBy, partsOf}
-use Rattle.plan_reading.specs.Ranges.{NumbersOk, RouteOk, RouteFits, PartOk}
+use Rattle.plan.specs.Layout.{Number}
+use Rattle.plan.specs.Field.{inRanges}
+use Rattle.plan_reading.specs.Part.{Part}
 
 -- the numbers from place i on are in these ranges
 abbrev pub InRange : List Number → ℕ → List ℕ → Type 0
@@ -43,19 +42,3 @@ module _ (P : Part → Type 0) where
   pub all-map : (Q : Part → Type 0) (xs : List Part) → ((x : Part) → P x → Q x) → All P xs → All Q xs
   all-map Q [] f h = tt
   all-map Q (x ∷ xs) f h = (f x (h .0), all-map Q xs f (h .1))
-
-parts-in
-    : (k : Kind) (ns : List ℕ) (h : ℕ) (r : List ℕ)
-    → InRange (layout k .numbers) 0 ns
-    → hopsAllowed (layout k .mostHops) h ≡ true
-    → RouteOk h r
-    → All PartOk (partsBy k ns r)
-parts-in Kind.header ns h r t m on = (record { guard = t .0; top = t .1 .0 }, tt)
-parts-in Kind.port ns h r t m on = (record { number = t .0; rate = t .1 .0; blocking = t .1 .1 .0 }, tt)
-parts-in Kind.flow ns h r t m on = (record { number = t .0; period = t .1 .0; count = t .1 .1 .0; length = t .1 .1 .1 .0; hops = rw (on .hops) m }, tt)
-parts-in Kind.extra ns h r t m on = (record { number = t .0; bytes = t .1 .0 }, tt)
-parts-in Kind.jitter ns h r t m on = (record { number = t .0; ns = t .1 .0 }, tt)
-parts-in Kind.clock ns h r t m on = (rw (t .0, t .1 .0, t .1 .1 .0), tt)
-
-pub parts-ok : (x : Field) (r : List ℕ) → NumbersOk x → RouteFits x r → All PartOk (partsOf x r)
-parts-ok x r k on = parts-in (x .kind) (x .numbers) (x .hops) r (in-range (layout (x .kind) .numbers) (x .numbers) (k .ranges)) (k .hops) on

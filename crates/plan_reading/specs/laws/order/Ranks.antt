@@ -1,39 +1,15 @@
 -- Keys rise with tags and numbers. They are given out tag after tag, to each as many as it has numbers.
 use Prim.Native.Nat.{ℕ, zero, suc, _+_, _≤_, _<_}
 use mathlib.Core.Path.{_≡_, refl, sym}
-use mathlib.Core.Bool.{Bool, true, false, cond, _&&_, _||_}
+use mathlib.Core.Bool.{Bool, true, false, _&&_, _||_}
 use native.Mathlib.Omega.{arith}
 use borrow.Author.Tests.{lt-ltb, le-ltb, ltb-true, ltb-false, eqb-true, eqb-false}
 use lib.Dec.{ltb, eqb}
-use lib.ListN.{getD}
-use Rattle.cqf.specs.Limits.{portSlots, flowSlots}
-use Rattle.plan.specs.Layout.{Kind, layout}
 use Rattle.plan.specs.Field.{Field}
 use Rattle.plan_reading.specs.Key.{keyOf}
 use Rattle.plan_reading.specs.Rank.{tagOf, numberOf, before}
 use Rattle.plan_reading.specs.Ranges.{NumbersOk}
-use Rattle.plan_reading.specs.laws.fields.Within.{within-low, within-high}
-use Rattle.plan_reading.specs.laws.fields.Ranged.{InRange, in-range}
-
--- the first number that a tag has, and how many it has
-unfoldable firstNumber : ℕ → ℕ
-firstNumber tag = cond (eqb tag (layout Kind.header .tag) || eqb tag (layout Kind.clock .tag)) 0 1
-
-unfoldable numbers : ℕ → ℕ
-numbers tag =
-    cond (eqb tag (layout Kind.header .tag)) 1
-    (cond (eqb tag (layout Kind.port .tag)) portSlots
-    (cond (eqb tag (layout Kind.flow .tag)) flowSlots
-    (cond (eqb tag (layout Kind.extra .tag)) portSlots
-    (cond (eqb tag (layout Kind.jitter .tag)) flowSlots
-    (cond (eqb tag (layout Kind.clock .tag)) 1
-    0)))))
-
--- the first key of a tag
-unfoldable firstKey : ℕ → ℕ
-unfolding numbers
-firstKey zero = 0
-firstKey (suc tag) = firstKey tag + numbers tag
+use Rattle.plan_reading.specs.laws.fields.Kinds.{firstNumber, firstKey, Keyed, keyed}
 
 -- the keys of a tag come after those of the tags before it
 keys-rise : (low high : ℕ) → low ≤ high → firstKey low ≤ firstKey high
@@ -45,43 +21,14 @@ keys-rise low (suc high) h = go (keys-rise low high) (ltb high low) refl
     go rest true e = let same : low ≡ suc high = omega (arith, ltb-true high low e) in rw same (omega arith)
     go rest false e = omega (arith, rest (ltb-false high low e))
 
--- a field has the key of its number among those of its tag
-record Keyed (x : Field) : Type 0 where
-  numbered : firstNumber (tagOf x) ≤ numberOf x
-  placed : keyOf x + firstNumber (tagOf x) ≡ firstKey (tagOf x) + numberOf x
-  fits : keyOf x < firstKey (suc (tagOf x))
-
-keyed : (x : Field) → NumbersOk x → Keyed x
-unfolding firstNumber numbers firstKey
-keyed x ok = go (x .kind) refl (in-range (layout (x .kind) .numbers) (x .numbers) (ok .ranges))
-  where
-    n : ℕ
-    n = getD (x .numbers) 0 0
-
-    go : (k : Kind) → x .kind ≡ k → InRange (layout k .numbers) 0 (x .numbers) → Keyed x
-    go Kind.header e t = record { numbered = rw e (omega arith); placed = rw e; fits = rw e (omega arith) }
-    go Kind.port e t =
-        let low = within-low _ _ n (t .0) in
-        record { numbered = rw e low; placed = rw e (omega arith); fits = rw e (omega (arith, within-high _ _ n (t .0))) }
-    go Kind.flow e t =
-        let low = within-low _ _ n (t .0) in
-        record { numbered = rw e low; placed = rw e (omega arith); fits = rw e (omega (arith, within-high _ _ n (t .0))) }
-    go Kind.extra e t =
-        let low = within-low _ _ n (t .0) in
-        record { numbered = rw e low; placed = rw e (omega arith); fits = rw e (omega (arith, within-high _ _ n (t .0))) }
-    go Kind.jitter e t =
-        let low = within-low _ _ n (t .0) in
-        record { numbered = rw e low; placed = rw e (omega arith); fits = rw e (omega (arith, within-high _ _ n (t .0))) }
-    go Kind.clock e t = record { numbered = rw e (omega arith); placed = rw e; fits = rw e (omega arith) }
-
 -- x is due before y exactly when its key is the lower
 pub before-key : (x y : Field) → NumbersOk x → NumbersOk y → before x y ≡ ltb (keyOf x) (keyOf y)
 before-key x y k m = tags (ltb (tagOf x) (tagOf y)) refl (eqb (tagOf x) (tagOf y)) refl
   where
-    a : Keyed x
+    a : Keyed (tagOf x) (numberOf x) (keyOf x)
     a = keyed x k
 
-    b : Keyed y
+    b : Keyed (tagOf y) (numberOf y) (keyOf y)
     b = keyed y m
 
     -- the key of a field is none before the first of its tag

@@ -1,6 +1,6 @@
 -- Laws of what test 9 seeks: fields that name a port or a flow not in the plan.
 use Prim.Native.Nat.{ℕ, _+_, _≤_, _<_}
-use mathlib.Core.Path.{_≡_, refl, sym, _∙_, subst}
+use mathlib.Core.Path.{_≡_, refl, sym, _∙_}
 use mathlib.Core.List.{List}
 use mathlib.Core.Bool.{Bool, true, false, not}
 use native.Mathlib.Omega.{arith}
@@ -11,12 +11,9 @@ use Rattle.cqf.specs.Bounded.{every}
 use Rattle.cqf.specs.Plan.{portIn}
 use Rattle.plan.specs.Bytes.{number2, headSize, tagAt, sizeAt, wholeAt, valueAt}
 use Rattle.plan.specs.Layout.{Kind, layout}
-use Rattle.plan.specs.Field.{Field, fieldBy}
-use Rattle.plan_reading.specs.Part.{Part, header, port, flow, extra, jitter, clock, partsOf}
+use Rattle.plan_reading.specs.Part.{Part, header, port, flow, extra, jitter, clock}
 use Rattle.plan_reading.specs.Reading.{routeAt, hasFlow, namesAbsent, jitterAbsent, extraAbsent, orElse, firstField, firstAbsent}
 use Rattle.plan_reading.specs.laws.reading.First.{NoneFrom, none-front}
-use Rattle.plan_reading.specs.laws.fields.Passes.{Passes}
-use Rattle.plan_reading.specs.laws.fields.Ranged.{All}
 
 module _ (rates s : List ℕ) (at : ℕ) where
   -- only a flow has a route
@@ -138,35 +135,3 @@ NamesPresent rates periods (flow n period count bytes route) = every (portIn rat
 NamesPresent rates periods (extra n bytes) = portIn rates n ≡ true
 NamesPresent rates periods (jitter n ns) = hasFlow periods n ≡ true
 NamesPresent rates periods (clock k) = Unit {0}
-
--- so test 9 finds the field at this offset just where its parts name what is absent
-module _ (rates periods s : List ℕ) (at : ℕ) where
-  abbrev Present : Kind → Type 0
-  Present k = All (NamesPresent rates periods) (partsOf (fieldBy k (valueAt s at)) (routeAt k s at))
-
-  there-present : (k : Kind) → tagAt s at ≡ layout k .tag → NamedThere rates periods s at → Present k
-  there-present Kind.header e h = (tt, tt)
-  there-present Kind.port e h = (tt, tt)
-  there-present Kind.flow e h = (there-route rates periods s at e h, tt)
-  there-present Kind.extra e h = (there-extra rates periods s at e h, tt)
-  there-present Kind.jitter e h = (there-jitter rates periods s at e h, tt)
-  there-present Kind.clock e h = (tt, tt)
-
-  present-there : (k : Kind) → tagAt s at ≡ layout k .tag → Present k → NamedThere rates periods s at
-  unfolding namesAbsent jitterAbsent extraAbsent
-  present-there Kind.header e h = record { routes = rw e; jitters = rw e; extras = rw e }
-  present-there Kind.port e h = record { routes = rw e; jitters = rw e; extras = rw e }
-  present-there Kind.flow e h = record { routes = rw (e, h .0); jitters = rw e; extras = rw e }
-  present-there Kind.extra e h = record { routes = rw e; jitters = rw e; extras = rw (e, h .0) }
-  present-there Kind.jitter e h = record { routes = rw e; jitters = rw (e, h .0); extras = rw e }
-  present-there Kind.clock e h = record { routes = rw e; jitters = rw e; extras = rw e }
-
-  module _ (x : Field) (k : Passes (tagAt s at) (valueAt s at) x) where
-    abbrev Names : Field → Type 0
-    Names y = All (NamesPresent rates periods) (partsOf y (routeAt (x .kind) s at))
-
-    pub parts-present : NamedThere rates periods s at → Names x
-    parts-present h = subst Names (k .numbers) (there-present (x .kind) (k .kind) h)
-
-    pub names-there : Names x → NamedThere rates periods s at
-    names-there h = present-there (x .kind) (k .kind) (subst Names (sym (k .numbers)) h)

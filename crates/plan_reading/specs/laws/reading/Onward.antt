@@ -8,11 +8,11 @@ use borrow.Author.Tests.{lt-ltb, le-ltb, ltb-true, ltb-false}
 use lib.Dec.{ltb}
 use lib.ListN.{length}
 use Rattle.plan.specs.Bytes.{headSize}
-use Rattle.plan.specs.Layout.{Form, Kind}
-use Rattle.plan.specs.Field.{Field}
-use Rattle.plan_reading.specs.Part.{partsBy, partsOf}
+use Rattle.plan.specs.Layout.{Form}
+use Rattle.plan_reading.specs.Part.{partsOf}
 use Rattle.plan_reading.specs.Draft.{Draft, added, portsIn, flowsIn, sumOf}
 use Rattle.plan_reading.specs.Reading.{rejected, Mode, routeAt, Step, stop, more, stepAt, closing, readFrom}
+use Rattle.plan_reading.specs.laws.fields.Kinds.{ports-one, flows-one}
 use Rattle.plan_reading.specs.laws.fields.Found.{found-forward, found-within}
 use Rattle.plan_reading.specs.laws.reading.Steps.{step-more}
 
@@ -22,18 +22,6 @@ pub record Onward (s : List ℕ) (at : ℕ) (d : Draft) (next : ℕ) (d′ : Dra
   pub inside : next ≤ length s
   pub ports : d′ .ports ≤ d .ports + 1
   pub flows : d′ .flows ≤ d .flows + 1
-
--- a field adds one of a kind at the most
-field-one : (x : Field) (r : List ℕ) → (sumOf portsIn (partsOf x r) ≤ 1) × (sumOf flowsIn (partsOf x r) ≤ 1)
-field-one x r = go (x .kind)
-  where
-    go : (k : Kind) → (sumOf portsIn (partsBy k (x .numbers) r) ≤ 1) × (sumOf flowsIn (partsBy k (x .numbers) r) ≤ 1)
-    go Kind.header = (omega arith, omega arith)
-    go Kind.port = (omega arith, omega arith)
-    go Kind.flow = (omega arith, omega arith)
-    go Kind.extra = (omega arith, omega arith)
-    go Kind.jitter = (omega arith, omega arith)
-    go Kind.clock = (omega arith, omega arith)
 
 pub onward
     : (form : Form) (mode : Mode) (s : List ℕ) (at last : ℕ) (d : Draft) (next key : ℕ) (d′ : Draft)
@@ -48,8 +36,8 @@ onward form mode s at last d next key d′ e =
     record {
       forward = found-forward form s at (t .part) next (t .stands);
       inside = found-within form s at (t .part) next (t .stands);
-      ports = omega (arith, field-one (t .part) r .0);
-      flows = omega (arith, field-one (t .part) r .1);
+      ports = omega (arith, ports-one (t .part) r);
+      flows = omega (arith, flows-one (t .part) r);
     }
 
 module _ (form : Form) (mode : Mode) (s : List ℕ) (at last : ℕ) (d : Draft) where

@@ -14,10 +14,11 @@ use Rattle.plan_reading.specs.Strict.{Entry, entryOf, fieldsFrom, fields
 use Rattle.plan.specs.laws.Whole.{not-whole}
 use Rattle.plan_reading.specs.laws.fields.Passes.{field-is-whole, field-passes}
 use Rattle.plan_reading.specs.laws.fields.Ranged.{All}
+use Rattle.plan_reading.specs.laws.fields.Kinds.{names-there}
 use Rattle.plan_reading.specs.laws.fields.Found.{found-forward}
 use Rattle.plan_reading.specs.laws.reading.Walk.{Reads, done, one}
 use Rattle.plan_reading.specs.laws.reading.First.{NoneFrom, first-cut, first-past}
-use Rattle.plan_reading.specs.laws.reading.Absent.{first-extra, AllThere, NamesPresent, names-there}
+use Rattle.plan_reading.specs.laws.reading.Absent.{first-extra, AllThere, NamesPresent}
 use Rattle.plan_reading.specs.laws.order.Rows.{row-field}
 
 -- what each part of each field names is in the plan with these rates and periods

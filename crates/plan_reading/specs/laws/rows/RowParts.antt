@@ -6,19 +6,18 @@ use mathlib.Core.Logic.{_≢_}
 use mathlib.Core.List.{List, [], _∷_, _++_}
 use mathlib.Core.Bool.{true, false, true≢false}
 use Rattle.cqf.specs.Plan.{Plan}
-use Rattle.plan.specs.Layout.{Kind}
-use Rattle.plan.specs.Field.{Field}
-use Rattle.plan_reading.specs.Part.{Part, partsBy, partsOf}
+use Rattle.plan_reading.specs.Part.{Part, partsOf}
 use Rattle.plan_reading.specs.Key.{keyOf}
 use Rattle.plan_reading.specs.Store.{store, storeAll}
 use Rattle.plan_reading.specs.Draft.{Draft, hasKey, taken, added}
 use Rattle.plan_reading.specs.Ranges.{PartOk}
 use Rattle.plan_reading.specs.Strict.{Entry}
-use Rattle.plan_reading.specs.laws.fields.Ranged.{All, all-append, all-map, parts-ok}
-use Rattle.plan_reading.specs.laws.fields.Kinds.{partKey, parts-keyed}
-use Rattle.plan_reading.specs.laws.stores.Commute.{Apart, apart-parts}
+use Rattle.plan_reading.specs.laws.fields.Ranged.{All, all-append, all-map}
+use Rattle.plan_reading.specs.laws.fields.ByPart.{partKey, Apart, Separate}
+use Rattle.plan_reading.specs.laws.fields.Kinds.{parts-ok, parts-keyed, own-separate}
+use Rattle.plan_reading.specs.laws.stores.Commute.{apart-parts}
 use Rattle.plan_reading.specs.laws.stores.Stored.{Flagged, added-flagged, key-taken, key-stays}
-use Rattle.plan_reading.specs.laws.stores.Fresh.{Separate, Fresh}
+use Rattle.plan_reading.specs.laws.stores.Fresh.{Fresh}
 use Rattle.plan_reading.specs.laws.rows.SavedRow.{EntryOk, AllOk, none, more, addedAll}
 
 abbrev pub partsRow : List Entry → List Part
@@ -66,17 +65,6 @@ apart-row x key is (e ∷ es) h =
     (apart-parts x key (keyOf (e .field)) (h .0) is (partsOf (e .field) (e .route)) (parts-keyed (e .field) (e .route)))
     (apart-row x key is es (h .1))
 
-own-separate : (x : Field) (r : List ℕ) → Separate (partsOf x r)
-own-separate x r = go (x .kind)
-  where
-    go : (k : Kind) → Separate (partsBy k (x .numbers) r)
-    go Kind.header = (tt, tt)
-    go Kind.port = (tt, tt)
-    go Kind.flow = (tt, tt)
-    go Kind.extra = (tt, tt)
-    go Kind.jitter = (tt, tt)
-    go Kind.clock = (tt, tt)
-
 separate-append : (xs ys : List Part) → Separate xs → Separate ys → All (λ x. Apart x ys) xs → Separate (xs ++ ys)
 separate-append [] ys a b c = b
 separate-append (x ∷ xs) ys a b c = (all-append (λ y. partKey x ≢ partKey y) xs ys (a .0) (c .0), separate-append xs ys (a .1) b (c .1))
@@ -89,7 +77,7 @@ free-fresh d flags (then {e = e} {es = es} ok free rest) =
     let after = free-fresh (added d x r) (added-flagged d x r flags) rest in
     let others = free-other (added d x r) (keyOf x) (added-flagged d x r flags) (key-taken d x r flags (ok .numbers)) rest in
     record {
-      ok = all-append PartOk (partsOf x r) (partsRow es) (parts-ok x r (ok .numbers) (ok .fits)) (after .ok);
+      ok = all-append PartOk (partsOf x r) (partsRow es) (parts-ok x (ok .numbers) r (ok .fits)) (after .ok);
       separate =
           separate-append (partsOf x r) (partsRow es) (own-separate x r) (after .separate)
           (all-map (λ u. partKey u ≡ keyOf x) (λ u. Apart u (partsRow es)) (partsOf x r) (λ u is. apart-row u (keyOf x) is es others) (parts-keyed x r));

@@ -19,8 +19,9 @@ use Rattle.plan_reading.specs.Store.{headerNumber, portNumber, flowNumbe
 use Rattle.plan_reading.specs.Draft.{Draft, taken, added, portsIn, flowsIn, sumOf}
 use Rattle.plan_reading.specs.Ranges.{NumbersOk, RouteFits, PartOk}
 use Rattle.plan_reading.specs.laws.fields.Within.{within-low, within-high}
-use Rattle.plan_reading.specs.laws.fields.Kinds.{of-header, of-port, of-flow, of-extra, of-jitter, of-clock, partKey, key-below, parts-keyed}
-use Rattle.plan_reading.specs.laws.fields.Ranged.{All, all-map, parts-ok}
+use Rattle.plan_reading.specs.laws.fields.ByPart.{of-header, of-port, of-flow, of-extra, of-jitter, of-clock, partKey, Apart}
+use Rattle.plan_reading.specs.laws.fields.Kinds.{key-below, parts-ok, parts-keyed}
+use Rattle.plan_reading.specs.laws.fields.Ranged.{All, all-map}
 use Rattle.plan_reading.specs.laws.stores.Puts.{Block, Placed, put-comm, Owned, given-comm}
 
 -- test 6 of one does not see another of a different key
@@ -159,10 +160,6 @@ module _ (x y : Part) (k : PartOk x) (m : PartOk y) (differ : partKey x ≢ part
     routes = route-comm (p .routes) i;
   }
 
--- parts of which each differs from this one
-abbrev pub Apart : Part → List Part → Type 0
-Apart x = All (λ y. partKey x ≢ partKey y)
-
 -- one part and several, and several and several
 pub one-all
     : (x : Part) (ys : List Part) (p : Plan)
@@ -209,7 +206,7 @@ pub added-comm
     → added (added d x v) y w ≡ added (added d y w) x v
 unfolding added
 added-comm x y v w k m a b differ d =
-    let tables = stores-comm (partsOf x v) (partsOf y w) (d .tables) (parts-ok x v k a) (parts-ok y w m b) (parts-apart x y v w differ) in
+    let tables = stores-comm (partsOf x v) (partsOf y w) (d .tables) (parts-ok x k v a) (parts-ok y m w b) (parts-apart x y v w differ) in
     let seen = set-comm (d .seen) (keyOf x) (keyOf y) 1 1 differ in
     let ports : d .ports + sumOf portsIn (partsOf x v) + sumOf portsIn (partsOf y w) ≡ d .ports + sumOf portsIn (partsOf y w) + sumOf portsIn (partsOf x v) = omega arith in
     let flows : d .flows + sumOf flowsIn (partsOf x v) + sumOf flowsIn (partsOf y w) ≡ d .flows + sumOf flowsIn (partsOf y w) + sumOf flowsIn (partsOf x v) = omega arith in

@@ -12,16 +12,12 @@ use Rattle.plan_reading.specs.Ranges.{PartOk}
 use Rattle.plan_reading.specs.Sized.{Sized}
 use Rattle.plan_reading.specs.laws.fields.Within.{within-high, slot-below}
 use Rattle.plan_reading.specs.laws.fields.Ranged.{All, all-at}
+use Rattle.plan_reading.specs.laws.fields.ByPart.{Separate}
 use Rattle.plan_reading.specs.laws.stores.Tables
 use Rattle.plan_reading.specs.laws.stores.Tables.{sized-none, sized-store, sized-all}
-use Rattle.plan_reading.specs.laws.stores.Commute.{Apart, one-all}
+use Rattle.plan_reading.specs.laws.stores.Commute.{one-all}
 use Rattle.plan_reading.specs.laws.stores.Sources.{tablesOf}
 use Rattle.plan_reading.specs.laws.saved.Entries.{Stands}
-
--- none of the parts has the key of another
-abbrev pub Separate : List Part → Type 0
-Separate [] = Unit {0}
-Separate (x ∷ xs) = Apart x xs × Separate xs
 
 -- parts in range, of which none has the key of another
 pub record Fresh (xs : List Part) : Type 0 where

@@ -8,16 +8,17 @@ use lib.Seq.{set-getD}
 use Rattle.cqf.specs.Limits.{portSlots, flowSlots}
 use Rattle.cqf.specs.Plan.{Clock, Plan, noPlan, equalClocks}
 use Rattle.plan.specs.Bytes.{tagAt, valueAt}
-use Rattle.plan.specs.Layout.{formBy, Kind}
+use Rattle.plan.specs.Layout.{formBy}
 use Rattle.plan.specs.Field.{Field, routeIn}
-use Rattle.plan_reading.specs.Part.{Part, header, port, flow, extra, jitter, clock, partsBy, partsOf}
+use Rattle.plan_reading.specs.Part.{Part, header, port, flow, extra, jitter, clock, partsOf}
 use Rattle.plan_reading.specs.Store.{store, storeAll}
 use Rattle.plan_reading.specs.Draft.{Draft, blank, added, portsIn, flowsIn, sumOf}
 use Rattle.plan_reading.specs.Ranges.{ExtraOk, JitterOk, NumbersOk, RouteFits, PartOk}
 use Rattle.plan_reading.specs.Reading.{accepted, readPlan}
 use Rattle.plan_reading.specs.FieldOrder.{AllFields, more, Nothing, AllNothing, SaysNothing, ZeroMore}
 use Rattle.plan_reading.specs.laws.fields.Within.{slot-below}
-use Rattle.plan_reading.specs.laws.fields.Ranged.{All, parts-ok}
+use Rattle.plan_reading.specs.laws.fields.Ranged.{All}
+use Rattle.plan_reading.specs.laws.fields.Kinds.{parts-ok, routeless}
 use Rattle.plan_reading.specs.laws.fields.Passes.{Passes, field-passes, passes-once}
 use Rattle.plan_reading.specs.laws.reading.Walk.{accepted-reads, closing-accepted}
 use Rattle.plan_reading.specs.laws.stores.Stored.{Stored, nothing, next, stored-permuted}
@@ -108,23 +109,11 @@ parts-nothing (x ∷ xs) ok void =
     let u = parts-nothing xs (ok .1) (void .1) in
     (ap (λ (p : Plan). storeAll p xs) (t .0) ∙ u .0, omega (arith, t .1, u .1), omega (arith, t .2, u .2))
 
--- such a field has no route
-routeless : (x : Field) (r : List ℕ) → SaysNothing x → AllNothing (partsOf x r)
-routeless x r = go (x .kind)
-  where
-    go : (k : Kind) → AllNothing (partsBy k (x .numbers) []) → AllNothing (partsBy k (x .numbers) r)
-    go Kind.header h = h
-    go Kind.port h = h
-    go Kind.flow h = h
-    go Kind.extra h = h
-    go Kind.jitter h = h
-    go Kind.clock h = h
-
 -- it in a draft that nothing was read into
 blank-alike : (x : Field) (r : List ℕ) → NumbersOk x → RouteFits x r → SaysNothing x → Alike (added blank x r) blank
 unfolding added blank
 blank-alike x r ok fits void =
-    let t = parts-nothing (partsOf x r) (parts-ok x r ok fits) (routeless x r void) in
+    let t = parts-nothing (partsOf x r) (parts-ok x ok r fits) (routeless x r void) in
     let ports : 0 + sumOf portsIn (partsOf x r) ≡ 0 = omega (arith, t .1) in
     let flows : 0 + sumOf flowsIn (partsOf x r) ≡ 0 = omega (arith, t .2) in
     record { tables = t .0; ports = ports; flows = flows }

@@ -17,6 +17,7 @@ use Rattle.plan_reading.specs.Ranges.{HeaderOk, PortOk, FlowOk, ExtraOk,
 use Rattle.plan_reading.specs.Sized.{Sized}
 use Rattle.plan_reading.specs.laws.fields.Within.{within-low, within-high, slot-below}
 use Rattle.plan_reading.specs.laws.fields.Ranged.{All}
+use Rattle.plan_reading.specs.laws.fields.ByPart.{Once}
 use Rattle.plan_reading.specs.laws.validity.Slots.{validRate, validExtra, validIn, validJitter, valid-hops, rate-kept, extra-kept, jitter-kept, flow-kept, rate-filled, extra-filled, jitter-filled, flow-filled}
 use Rattle.plan_reading.specs.laws.stores.Tables
 use Rattle.plan_reading.specs.laws.stores.Tables.{sized-none, sized-store}
@@ -162,15 +163,6 @@ module _ (rates periods : List ℕ) (p : Plan) (s : ValidTables rates periods p)
   unfolding store validRate validExtra validIn validJitter
   clock-valid k ok =
       record { sized = sized-store p (clock k) (s .sized); guard = s .guard; clock = ok; ports = s .ports; extras = s .extras; flows = s .flows; jitters = s .jitters }
-
--- a route holds no port twice
-abbrev pub Once : Part → Type 0
-Once (header g t) = Unit {0}
-Once (port n r b) = Unit {0}
-Once (flow n p c l r) = distinct r ≡ true
-Once (extra n b) = Unit {0}
-Once (jitter n j) = Unit {0}
-Once (clock k) = Unit {0}
 
 -- each part, and so several
 module _ (rates periods : List ℕ) where

@@ -8,17 +8,16 @@ use native.Mathlib.Nat.{add-zero}
 use native.Mathlib.Omega.{arith}
 use native.Mathlib.Decide.{ℕ-discrete}
 use lib.Dec.{eqb}
-use lib.ListN.{getD}
 use lib.Seq.{getD-set-other}
-use borrow.Author.Tests.{eq-eqb, lt-ltb, not-false}
+use borrow.Author.Tests.{eq-eqb, lt-ltb}
 use Rattle.cqf.specs.Bounded.{anyTo}
 use Rattle.cqf.specs.Limits.{portSlots, flowSlots, topOk}
 use Rattle.cqf.specs.Plan.{Plan, present, validPort, validFlow, validPlan}
 use Rattle.cqf.specs.laws.Bounded.{allTo-every, anyTo-some}
 use Rattle.plan.specs.Bytes.{tagAt, valueAt}
-use Rattle.plan.specs.Layout.{Form, Kind, layout}
+use Rattle.plan.specs.Layout.{Form}
 use Rattle.plan.specs.Field.{Field}
-use Rattle.plan_reading.specs.Part.{Part, header, port, flow, extra, jitter, clock, partsBy, partsOf}
+use Rattle.plan_reading.specs.Part.{Part, header, port, flow, extra, jitter, clock, partsOf}
 use Rattle.plan_reading.specs.Key.{headerKey, keyOf}
 use Rattle.plan_reading.specs.Store.{store, storeAll}
 use Rattle.plan_reading.specs.Draft.{Draft, blank, hasKey, fieldRepeats, flowsIn, sumOf, added}
@@ -26,13 +25,14 @@ use Rattle.plan_reading.specs.Ranges.{NumbersOk, PartOk}
 use Rattle.plan_reading.specs.Reading.{accepted, routeAt, readPlan}
 use Rattle.plan_reading.specs.laws.fields.Within.{within-low, slot-below}
 use Rattle.plan_reading.specs.laws.fields.Passes.{Passes, field-is-whole, field-passes}
-use Rattle.plan_reading.specs.laws.fields.Ranged.{All, InRange, in-range, parts-ok}
+use Rattle.plan_reading.specs.laws.fields.Ranged.{All}
+use Rattle.plan_reading.specs.laws.fields.Kinds.{header-top, parts-ok, parts-once, parts-present}
 use Rattle.plan_reading.specs.laws.stores.Tables.{sized-all, stored-period}
 use Rattle.plan_reading.specs.Sized.{Sized}
 use Rattle.plan_reading.specs.laws.validity.Slots.{port-whole, flow-whole}
-use Rattle.plan_reading.specs.laws.validity.Parts.{ValidTables, none-valid, Once, parts-valid}
+use Rattle.plan_reading.specs.laws.validity.Parts.{ValidTables, none-valid, parts-valid}
 use Rattle.plan_reading.specs.laws.reading.Walk.{Reads, done, one, accepted-reads, closing-accepted}
-use Rattle.plan_reading.specs.laws.reading.Absent.{NamedThere, AllThere, all-there, there-front, parts-present}
+use Rattle.plan_reading.specs.laws.reading.Absent.{NamedThere, AllThere, all-there, there-front}
 
 -- a flow that has been counted is in the tables
 abbrev Flowing : ℕ → Plan → Type 0
@@ -72,21 +72,6 @@ unfolding storeAll
 parts-top p [] ok h = h
 parts-top p (x ∷ xs) ok h = parts-top (store p x) xs (ok .1) (part-top p x (ok .0) h)
 
-header-top : (p : Plan) (x : Field) (r : List ℕ) → NumbersOk x → All PartOk (partsOf x r) → keyOf x ≡ headerKey → topOk (storeAll p (partsOf x r) .top) ≡ true
-unfolding storeAll store
-header-top p x r k ok e = go (x .kind) refl (in-range (layout (x .kind) .numbers) (x .numbers) (k .ranges))
-  where
-    n : ℕ
-    n = getD (x .numbers) 0 0
-
-    go : (kind : Kind) → x .kind ≡ kind → InRange (layout kind .numbers) 0 (x .numbers) → topOk (storeAll p (partsOf x r) .top) ≡ true
-    go Kind.header same t = rw same (t .1 .0)
-    go Kind.port same t = absurd (omega (arith, rw same at e, within-low _ _ n (t .0)))
-    go Kind.flow same t = absurd (omega (arith, rw same at e))
-    go Kind.extra same t = absurd (omega (arith, rw same at e))
-    go Kind.jitter same t = absurd (omega (arith, rw same at e))
-    go Kind.clock same t = absurd (omega (arith, rw same at e))
-
 -- the draft's tables are valid, with a top where it has a header, and a flow where it counted one
 record ValidDraft (rates periods : List ℕ) (d : Draft) : Type 0 where
   tables : ValidTables rates periods (d .tables)
@@ -96,18 +81,6 @@ record ValidDraft (rates periods : List ℕ) (d : Draft) : Type 0 where
 blank-valid : (rates periods : List ℕ) → ValidDraft rates periods blank
 unfolding blank
 blank-valid rates periods = record { tables = none-valid rates periods; top = λ e. absurd (true≢false (sym e)); some = inl refl }
-
--- only routes hold ports
-parts-once : (x : Field) (r : List ℕ) → fieldRepeats r ≡ false → All Once (partsOf x r)
-parts-once x r once = go (x .kind)
-  where
-    go : (k : Kind) → All Once (partsBy k (x .numbers) r)
-    go Kind.header = (tt, tt)
-    go Kind.port = (tt, tt)
-    go Kind.flow = (not-false _ once, tt)
-    go Kind.extra = (tt, tt)
-    go Kind.jitter = (tt, tt)
-    go Kind.clock = (tt, tt)
 
 -- a field of the walk keeps the draft valid
 field-valid
@@ -130,10 +103,10 @@ field-valid rates periods s at d x k once named h =
     r = routeAt (x .kind) s at
 
     ok : All PartOk (partsOf x r)
-    ok = parts-ok x r (k .ok) (k .route)
+    ok = parts-ok x (k .ok) r (k .route)
 
     by-key : hasKey (added d x r) headerKey ≡ true → Dec (keyOf x ≡ headerKey) → topOk (storeAll (d .tables) (partsOf x r) .top) ≡ true
-    by-key e (yes same) = header-top (d .tables) x r (k .ok) ok same
+    by-key e (yes same) = header-top x (k .ok) r (d .tables) same
     by-key e (no apart) =
         parts-top (d .tables) (partsOf x r) ok
         (h .top (rw (getD-set-other (d .seen) (keyOf x) headerKey 1 0 (λ same. apart (sym same))) at e))
