@@ -102,5 +102,5 @@ pub unmade-saved
 unmade-saved p valid sized = (
   saved-as p (tidied p) (countTo portSlots (λ q. ltb 0 (rateOf p q))) (countTo flowSlots (λ f. ltb 0 (periodOf p f))) valid
       (λ mode. saved-read p valid sized (saved-length p valid) mode),
-  λ f l. tidied-route p f l (valid-hops p valid f l),
+  λ f l. tidied-route p f l (omega (arith, valid-hops p valid f l)),
 )

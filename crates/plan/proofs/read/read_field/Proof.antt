@@ -9,7 +9,7 @@ use Rattle.plan.proofs.read.read_field.Tie as tie
 
 returns : tie.Need-returns
 returns c =
-    let s = c .before .before in
+    let s = c .before .before .before in
     c .field-at .ensures ∙ ap (λ (f : Form). fieldAt f (now (s .args .plan)) (s .args .at)) (c .before .form-by .ensures)
 
 pub read-field-spec : {M : Type 1} → statement M
