@@ -13,8 +13,8 @@ use Rattle.cqf.specs.Condition.{begun, frames, demand, crossed, fails, failing,
 use Rattle.cqf.specs.Need.{need, largestNeed}
 use Rattle.cqf.specs.FixedPoint.{stepsFrom, none, iterate}
 use Rattle.plan.specs.Bytes.{number2, number4, sizeAt, wholeAt, valueAt, numbers2}
-use Rattle.plan.specs.Field.{routePorts, routeIn, headerIn, portInValue, flowIn, extraIn, jitterIn, clockIn, fieldIn, fieldAt, repeats}
-use Rattle.plan_reading.specs.Store.{store}
+use Rattle.plan.specs.Field.{routePorts, routeIn, valueIn, kindBy, fieldIn, fieldAt, repeats}
+use Rattle.plan_reading.specs.Store.{store, storeAll}
 use Rattle.plan_reading.specs.Draft.{blank, added}
 use Rattle.plan_reading.specs.Reading.{stepAt, namesAbsent, jitterAbsent, extraAbsent, firstFrom, firstAbsent, closing, readFrom, readAs, loose, accepted}
 use Rattle.plan_reading.specs.results.StrictTheorem.{read-loosely}
@@ -55,7 +55,7 @@ bytesFull =
     ∷ []
 
 readsFull : readAs loose bytesFull ≡ accepted full 1 1
-unfolding bytesFull full noPlan readAs readFrom blank stepAt fieldAt fieldIn headerIn portInValue flowIn extraIn jitterIn clockIn number2 number4 sizeAt wholeAt valueAt numbers2 routePorts routeIn repeats every distinct elem store added closing firstFrom firstAbsent namesAbsent jitterAbsent extraAbsent
+unfolding bytesFull full noPlan readAs readFrom blank stepAt fieldAt fieldIn valueIn kindBy number2 number4 sizeAt wholeAt valueAt numbers2 routePorts routeIn repeats every distinct elem storeAll store added closing firstFrom firstAbsent namesAbsent jitterAbsent extraAbsent
 readsFull = refl
 
 outcomeFull : iterate full 1 40 ≡ none 40

@@ -52,6 +52,7 @@ past =
       count = 0;
       planner =
           record {
+            form = 0;
             guard = 0;
             top = 0;
             clock = record { drift = 0; «timing_jitter» = 0; «sync_error» = 0 };
@@ -157,7 +158,7 @@ module _ (b : Batch) (s : ℕ) (x : Slot) (there : slotAt (batchOf b) s ≡ slot
         unfolding loadLeaves
         is-left held = refl
 
-        module _ (held : Plan) (outcome : LoadOutcome) (loads : Loads loose held bytes outcome) where
+        module _ (held : Plan) {form : ℕ} (outcome : LoadOutcome) (loads : Loads loose held form bytes outcome) where
           pub place-held
               : (ports flows : ℕ) (y : Slot)
               → outcome .answer ≡ LoadAnswer.Held ports flows
