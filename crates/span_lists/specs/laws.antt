@@ -1,0 +1,6 @@
+-- Laws of the spans.
+pub mod Runs
+pub mod SpanList
+pub mod Ending
+pub mod Pieces
+pub mod Certified

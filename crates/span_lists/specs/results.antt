@@ -1,0 +1,2 @@
+-- What is claimed of the spans of a plan.
+pub mod Theorem

@@ -1,0 +1,1 @@
+// The spans of a plan, as definitions, in specs/.
