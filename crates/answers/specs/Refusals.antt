@@ -49,7 +49,7 @@ shortScratch = 11
 abbrev pub outOfOrder : ℕ
 outOfOrder = 12
 
--- document 02: a buffer too short for what is written
+-- document 02: a buffer or a list too short for what is written
 abbrev pub shortBuffer : ℕ
 shortBuffer = 13
 
@@ -84,6 +84,10 @@ noMarginSafe = 23
 -- slack asked for a port that no flow crosses, or that is not in the plan
 abbrev pub notCrossed : ℕ
 notCrossed = 24
+
+-- document 02: no span ends at the duration or later
+abbrev pub noSpanFrom : ℕ
+noSpanFrom = 25
 
 -- document 02: the steps did not suffice
 abbrev pub notFinished : ℕ

@@ -10,3 +10,7 @@ pub mod FlowSet
 pub mod PortSearch
 pub mod Lean
 pub mod Iterate
+pub mod Run
+pub mod Spans
+pub mod SpanList
+pub mod SpanAnswer

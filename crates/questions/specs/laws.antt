@@ -20,3 +20,6 @@ pub mod Descent
 pub mod Searched
 pub mod Reprice
 pub mod RepriceRoute
+pub mod Spans
+pub mod SpanList
+pub mod Counted

@@ -3,6 +3,7 @@ mod ascend;
 mod check;
 mod demand;
 mod descend;
+mod downward;
 mod failing;
 mod flow_set;
 mod highest;
@@ -11,22 +12,34 @@ mod iteration;
 mod lean;
 mod lean_seek;
 mod need;
+mod need_at;
 mod neediest;
+mod one_span;
 mod port_demand;
 mod port_search;
 mod port_slack;
 mod reprice;
+mod rise;
+mod run_end;
 mod search;
 mod seek;
 mod set_demand;
+mod span_count;
+mod span_list;
+mod upward;
 
 pub use check::check_tables;
 pub use iteration::fixed_point_tables;
 pub use lean::lean_tables;
+pub use one_span::SpanAnswer;
+pub use one_span::SpanRecord;
+pub use one_span::span_tables;
 pub use port_slack::slack_tables;
 pub use reprice::reprice_tables;
 pub use search::search_tables;
 pub use seek::Goal;
+pub use span_list::SpansAnswer;
+pub use span_list::spans;
 
 pub enum CheckAnswer {
     Admissible,
