@@ -10,3 +10,4 @@ pub mod Saved
 pub mod Gates
 pub mod FixedPoint
 pub mod Reprice
+pub mod Spans

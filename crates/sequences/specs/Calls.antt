@@ -6,9 +6,10 @@ use lib.IntN.{ℤ}
 use Rattle.cqf.specs.Plan.{Plan, noPlan}
 use Rattle.plan_reading.specs.Reading.{PlanRead, accepted, rejected, Mode, readAs}
 use Rattle.loading.specs.Outcome.{loadLeaves}
+use Rattle.questions.specs.declared.one_span.SpanRecord.{SpanRecord}
 
 -- a question, with what it is given; the searches are lent a scratch, the lean ones of one number at least, those that write fields
--- a buffer, and the question of another frame length a list of signed numbers
+-- a buffer, the question of another frame length a list of signed numbers, and that for all spans a list of records
 pub data Question : Type 0 where
   check : (duration : ℕ) → Question
   slack : (port duration : ℕ) → Question
@@ -20,6 +21,8 @@ pub data Question : Type 0 where
   save : (buffer : List ℕ) → Question
   gates : (duration even odd : ℕ) (buffer : List ℕ) → Question
   reprice : (duration flow bytes : ℕ) (out : List ℤ) → Question
+  span : (duration : ℕ) → Question
+  spans : (list : List SpanRecord) → Question
 
 -- a load says in which reading
 pub data Call : Type 0 where

@@ -10,5 +10,6 @@ pub mod FixedPointMeaning
 pub mod GatesMeaning
 pub mod Repriced
 pub mod Lean
+pub mod SpansMeaning
 pub mod laws
 pub mod results

@@ -3,16 +3,20 @@ use mathlib.Core.Path.{_≡_}
 use mathlib.Core.List.{List, [], _∷_}
 use Prim.Native.Nat.{ℕ}
 use lib.IntN.{ℤ}
+use lib.ListN.{length}
 use Rattle.cqf.specs.Plan.{Plan}
+use Rattle.span_lists.specs.Span.{Span}
 use Rattle.answers.specs.Answer.{Answer, refusal}
 use Rattle.answers.specs.Refusals.{noPlanHeld}
 use Rattle.questions.specs.Outcome.{checkAnswer, slackAnswer, leastAnswer, leastLeaves, marginSafeAnswer, marginSafeLeaves}
 use Rattle.questions.specs.Lean.{leanLeastAnswer, leanLeastLeaves, leanMarginSafeAnswer, leanMarginSafeLeaves}
 use Rattle.questions.specs.FixedPoint.{FixedPoint, fixedPointAnswer}
 use Rattle.questions.specs.Reprice.{repriceAnswer, repriceLeaves}
+use Rattle.questions.specs.Spans.{spanAnswer, spansAnswer, spansLeaves}
+use Rattle.questions.specs.declared.one_span.SpanRecord.{SpanRecord}
 use Rattle.saving.specs.Save.{saveAnswer, saveLeaves}
 use Rattle.gate_writing.specs.Gates.{gatesAnswer, gatesLeaves}
-use Rattle.sequences.specs.Calls.{Question, check, slack, least, marginSafe, leanLeast, leanMarginSafe, fixedPoint, save, gates, reprice}
+use Rattle.sequences.specs.Calls.{Question, check, slack, least, marginSafe, leanLeast, leanMarginSafe, fixedPoint, save, gates, reprice, span, spans}
 
 pub data Reply : Type 0 where
   ofCheck : Answer (Unit {0}) → Reply
@@ -21,6 +25,8 @@ pub data Reply : Type 0 where
   ofFixedPoint : Answer FixedPoint → Reply
   ofWriting : Answer ℕ → (buffer : List ℕ) → Reply
   ofReprice : Answer (Unit {0}) → (out : List ℤ) → Reply
+  ofSpan : Answer Span → Reply
+  ofSpans : Answer ℕ → (list : List SpanRecord) → Reply
 
 abbrev pub reply : Plan → Question → Reply
 reply p (check T) = ofCheck (checkAnswer p T)
@@ -33,6 +39,8 @@ reply p (fixedPoint start steps) = ofFixedPoint (fixedPointAnswer p start steps)
 reply p (save buffer) = ofWriting (saveAnswer p buffer) (saveLeaves p buffer)
 reply p (gates T even odd buffer) = ofWriting (gatesAnswer p T even odd buffer) (gatesLeaves p T even odd buffer)
 reply p (reprice T n bytes out) = ofReprice (repriceAnswer p T n bytes out) (repriceLeaves p T n bytes out)
+reply p (span T) = ofSpan (spanAnswer p T)
+reply p (spans list) = ofSpans (spansAnswer p (length list)) (spansLeaves p list)
 
 -- 20 with 0, and lent memory as it was
 abbrev pub noPlanReply : Question → Reply
@@ -46,6 +54,8 @@ noPlanReply (fixedPoint start steps) = ofFixedPoint (refusal noPlanHeld (0 ∷ [
 noPlanReply (save buffer) = ofWriting (refusal noPlanHeld (0 ∷ [])) buffer
 noPlanReply (gates T even odd buffer) = ofWriting (refusal noPlanHeld (0 ∷ [])) buffer
 noPlanReply (reprice T n bytes out) = ofReprice (refusal noPlanHeld (0 ∷ [])) out
+noPlanReply (span T) = ofSpan (refusal noPlanHeld (0 ∷ []))
+noPlanReply (spans list) = ofSpans (refusal noPlanHeld (0 ∷ [])) list
 
 -- two planners that answer every question alike
 abbrev pub SameAnswers : Plan → Plan → Type 0

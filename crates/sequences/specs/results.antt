@@ -7,3 +7,4 @@ pub mod GatesTheorem
 pub mod LighterTheorem
 pub mod RepricedTheorem
 pub mod LeanTheorem
+pub mod SpansTheorem

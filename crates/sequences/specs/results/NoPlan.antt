@@ -18,13 +18,15 @@ use Rattle.answers.specs.Refusals.{noPlanHeld, notAdmissible, noLeast, noMargin
 use Rattle.questions.specs.Outcome.{failingAt}
 use Rattle.sequences.specs.Calls as Calls
 use Rattle.sequences.specs.Calls.{Call, Question, after, heldBytes}
-use Rattle.sequences.specs.Reply.{Reply, ofCheck, ofSlack, ofSearch, ofFixedPoint, ofWriting, ofReprice, reply, noPlanReply}
+use Rattle.sequences.specs.Reply.{Reply, ofCheck, ofSlack, ofSearch, ofFixedPoint, ofWriting, ofReprice, ofSpan, ofSpans, reply, noPlanReply}
 use Rattle.questions.specs.laws.Answers
 use Rattle.questions.specs.laws.Answers.{check-none, slack-none, fixed-point-none, check-within}
 use Rattle.sequences.specs.laws.Calls.{after-none, after-loaded}
 use Rattle.saving.specs.laws.Saved.{save-none, save-keeps}
 use Rattle.gate_writing.specs.laws.Gates.{gates-none, gates-keeps}
 use Rattle.questions.specs.laws.Reprice.{reprice-none}
+use Rattle.questions.specs.laws.Spans.{span-none}
+use Rattle.questions.specs.laws.Counted.{spans-none, spans-keeps}
 use Rattle.questions.specs.laws.Searched.{ends-no-plan, least-ends, margin-safe-ends}
 use Rattle.questions.specs.laws.Leanly.{lean-no-plan, lean-least-ends, lean-margin-safe-ends}
 
@@ -51,6 +53,8 @@ answers-none p e (Calls.gates T even odd buffer) =
 answers-none p e (Calls.reprice T n bytes out) =
     let h = reprice-none p T n bytes out e in
     ap₂ ofReprice (sym (h .0)) (sym (h .1))
+answers-none p e (Calls.span T) = ap ofSpan (span-none p T e)
+answers-none p e (Calls.spans list) = ap₂ ofSpans (spans-none p _ e) (spans-keeps p list e)
 
 -- a valid plan is not refused 20 at 1 ns
 verdictNumber : Reply → ℕ
@@ -60,6 +64,8 @@ verdictNumber (ofSearch answer scratch) = 0
 verdictNumber (ofFixedPoint answer) = 0
 verdictNumber (ofWriting answer buffer) = 0
 verdictNumber (ofReprice answer out) = 0
+verdictNumber (ofSpan answer) = 0
+verdictNumber (ofSpans answer list) = 0
 
 answers-some : (p : Plan) → validPlan p ≡ true → reply p (Calls.check 1) ≡ noPlanReply (Calls.check 1) → ⊥
 unfolding verdictNumber
