@@ -2,18 +2,20 @@
  * answers any planner value, any number and any slice, an empty one too. A slice is a pointer and a length; a pointer that does not hold as many elements as its length says is
  * outside what is proved. An empty slice wants a pointer that is not null, aligned for its elements. A mutable slice overlaps nothing else.
  * Document 01's refusal number is in `refusal`, 0 where there is a result:
- *   1 a plan of no byte, or of more than 16,384     11 a scratch of fewer than 64 numbers
- *   2 a field is cut short                          12 a field should have stood earlier (strict reading)
- *   3 an unknown tag                                13 a buffer is too short
+ *   1 a plan of no byte, or of more than 16,384     12 a field should have stood earlier (strict reading)
+ *   2 a field is cut short                          13 a buffer or a list of spans is too short
+ *   3 an unknown tag                                17 a frame length outside 64 to 2,000
  *   4 a length that the tag does not have           18 a queue above 7, or the same queue twice
  *   5 a number out of its range                     20 no plan is held
  *   6 something is given twice                      21 the duration is not admissible: some port fails
  *   7 a route names a port twice                    22 no duration up to top is admissible
  *   8 no header, or no flow                         23 top is not admissible
  *   9 a port or a flow is named that is not given   24 no flow crosses the port, or there is no such port
- *  10 a duration or start of 0 or above top         26 the steps ended before the search did
+ *  10 a duration or start of 0 or above top         25 no span ends at the duration or later
+ *  11 a scratch of fewer than 64 numbers            26 the steps ended before the search did
+ *                                                   29 a flow that is not in the plan
  * Durations, intervals, guard band, jitter and synchronization error are in ns, rates in Mbit/s, lengths in bytes. Stack of a call, beside the planner and the answer that the
- * caller holds: a load 33 KB, a question 8.8 KB. No heap. */
+ * caller holds: a load 33 KB, cp_spans 17 KB, another question 9.4 KB. No heap. */
 #ifndef CYCLE_PLANNER_H
 #define CYCLE_PLANNER_H
 #include <stddef.h>
@@ -90,6 +92,18 @@ cp_fixed_point_answer cp_fixed_point(cp_planner planner, uint64_t start, uint64_
  * list untouched. The held plan remains. Where the list held the spare of each crossed port at that duration, it now holds those of
  * the plan with that length. */
 cp_answer cp_reprice(cp_planner planner, uint64_t duration, uint64_t flow, uint64_t length, int64_t *list, size_t size);
+
+/* A span: a run of admissible durations from 1 to top that can grow at neither end, given by its first and its last, in ns. */
+typedef struct { uint64_t first, last; } cp_span_record;
+
+/* The first span that ends at a duration or later; it may begin before that duration. Result: first and second = the span's first
+ * and last duration. Refusal 20, 10 (a duration outside 1 to top), 25 (no span ends there or later): 0, 0. */
+cp_answer cp_span(cp_planner planner, uint64_t duration);
+
+/* All spans, rising, into the first records of the list; those behind them remain. Result: first = how many there are, second = 0;
+ * 0 where no duration is admissible, also with an empty list. Refusal 20: 0, 0. 13, the list is shorter: first = how many there
+ * are, second = 0. Neither writes a record. */
+cp_answer cp_spans(cp_planner planner, cp_span_record *list, size_t size);
 
 /* The held plan written into the buffer: its fields in strict order, without those that say what their absence says (extra bytes
  * or a jitter of 0, clocks that are all 0). Result: first = the length written, at most 15,002 bytes, second = 0; the bytes behind

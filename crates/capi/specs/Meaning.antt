@@ -7,9 +7,11 @@ use mathlib.Core.List.{List}
 use Rattle.cqf.specs.Plan.{Plan}
 use Rattle.sequences.specs.FixedPointMeaning.{StepsMeanHeld}
 use Rattle.sequences.specs.Scheduled.{Schedules}
+use Rattle.sequences.specs.SpansMeaning.{SpanMeansHeld, SpansMeanHeld}
+use Rattle.questions.specs.declared.one_span.SpanRecord.{SpanRecord}
 use Rattle.capi.specs.declared.AnswerNumbers.{AnswerNumbers}
 use Rattle.capi.specs.declared.FixedPointAnswerNumbers.{FixedPointAnswerNumbers}
-use Rattle.capi.specs.Numbers.{stepsNumbers}
+use Rattle.capi.specs.Numbers.{searchNumbers, spanNumbers, stepsNumbers}
 
 -- 21 refuses the duration, 0 accepts it (document 01, demand 3)
 abbrev pub CheckNumbersMean : Plan → ℕ → AnswerNumbers → Type 0
@@ -23,3 +25,10 @@ StepsNumbersMean tables start steps numbers = StepsMeanHeld tables start steps (
 abbrev pub GatesNumbersMean : Plan → (T even odd : ℕ) → (buffer exit : List ℕ) → AnswerNumbers → Type 0
 GatesNumbersMean tables T even odd buffer exit numbers =
     OfHeld tables (λ p. numbers .refusal ≡ 0 → Schedules p T even odd buffer exit (numbers .first))
+
+-- the numbers of an answer that names spans mean what the answer means
+abbrev pub SpanNumbersMean : Plan → (T : ℕ) → AnswerNumbers → Type 0
+SpanNumbersMean tables T numbers = SpanMeansHeld tables T (λ a. numbers ≡ spanNumbers a)
+
+abbrev pub SpansNumbersMean : Plan → (list exit : List SpanRecord) → AnswerNumbers → Type 0
+SpansNumbersMean tables list exit numbers = SpansMeanHeld tables list exit (λ a. numbers ≡ searchNumbers a)

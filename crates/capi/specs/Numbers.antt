@@ -10,6 +10,7 @@ use Rattle.plan.specs.Layout.{layout}
 use Rattle.plan.specs.Field.{FieldRead, field, refused}
 use Rattle.questions.specs.FixedPoint.{FixedPoint}
 use Rattle.batches.specs.Batch.{slotCount}
+use Rattle.span_lists.specs.Span.{Span}
 use Rattle.capi.specs.declared.AnswerNumbers.{AnswerNumbers}
 use Rattle.capi.specs.declared.SlackAnswerNumbers.{SlackAnswerNumbers}
 use Rattle.capi.specs.declared.FixedPointAnswerNumbers.{FixedPointAnswerNumbers}
@@ -35,6 +36,11 @@ checkNumbers (refusal number values) = refusedWith number values
 abbrev pub searchNumbers : Answer ℕ → AnswerNumbers
 searchNumbers (result duration) = answerNumbers 0 duration 0
 searchNumbers (refusal number values) = refusedWith number values
+
+-- the first and the last duration
+abbrev pub spanNumbers : Answer Span → AnswerNumbers
+spanNumbers (result span) = answerNumbers 0 (span .first) (span .last)
+spanNumbers (refusal number values) = refusedWith number values
 
 -- the length written; 13 has the length needed, 21 the lowest failing port and how many
 abbrev pub writtenNumbers : Answer ℕ → AnswerNumbers

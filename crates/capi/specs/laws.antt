@@ -3,4 +3,5 @@ pub mod Numbers
 pub mod Meaning
 pub mod StepsMeaning
 pub mod GatesMeaning
+pub mod SpansMeaning
 pub mod Reprice

@@ -10,11 +10,15 @@ use crate::answer_numbers::slack_in_c;
 use crate::batch_numbers::collect_outcome_in_c;
 use crate::batch_numbers::place_outcome_in_c;
 use crate::batch_numbers::serve_outcome_in_c;
+use crate::usable::span_in_c;
+use crate::usable::spans_in_c;
 use crate::written::gates_in_c;
 use crate::written::save_in_c;
 use planner::Batch;
 use planner::Planner;
+use planner::SpanRecord;
 ghost use mathlib.Core.Path.{_≡_};
+ghost use lib.ListN.{length};
 ghost use Rattle.cqf.specs.Plan.{noPlan};
 ghost use Rattle.plan.specs.Layout.{formBy};
 ghost use Rattle.plan.specs.Field.{fieldAt, repeats};
@@ -25,15 +29,17 @@ ghost use Rattle.questions.specs.Outcome.{checkAnswer, slackAnswer, leastAnswer
 ghost use Rattle.questions.specs.Lean.{leanLeastAnswer, leanLeastLeaves, leanMarginSafeAnswer, leanMarginSafeLeaves};
 ghost use Rattle.questions.specs.FixedPoint.{fixedPointAnswer};
 ghost use Rattle.questions.specs.Reprice.{repriceAnswer, repriceLeaves};
+ghost use Rattle.questions.specs.Spans.{spanAnswer, spansAnswer, spansLeaves};
 ghost use Rattle.saving.specs.Save.{saveAnswer, saveLeaves};
 ghost use Rattle.gate_writing.specs.Gates.{gatesAnswer, gatesLeaves};
 ghost use Rattle.batches.specs.Batch.{emptyBatch, placeAnswer, placeLeaves, serveAnswer, serveLeaves, collectAnswer, collectLeaves};
 ghost use Rattle.batching.specs.Slots.{batchOf};
-ghost use Rattle.capi.specs.Meaning.{CheckNumbersMean, StepsNumbersMean, GatesNumbersMean};
-ghost use Rattle.capi.specs.Numbers.{loadNumbers, checkNumbers, slackNumbers, searchNumbers, stepsNumbers, writtenNumbers, servedNumber, fieldNumbers};
+ghost use Rattle.capi.specs.Meaning.{CheckNumbersMean, StepsNumbersMean, GatesNumbersMean, SpanNumbersMean, SpansNumbersMean};
+ghost use Rattle.capi.specs.Numbers.{loadNumbers, checkNumbers, slackNumbers, searchNumbers, spanNumbers, stepsNumbers, writtenNumbers, servedNumber, fieldNumbers};
 
 mod answer_numbers; // answer_numbers.rt: each answer as numbers
 mod batch_numbers; // batch_numbers.rt: those of the calls of a batch
+mod usable; // usable.rt: those of the calls that name spans
 mod written; // written.rt: those of the calls that write bytes
 
 #[repr(C)]
@@ -169,7 +175,6 @@ pub extern "C" fn cp_margin_safe(planner: Planner, scratch: &mut [u64]) -> Answe
     margin_safe_in_c(planner::margin_safe(planner, scratch))
 }
 
-// The numbers mean what the answer of `planner::fixed_point` means.
 #[no_mangle]
 pub extern "C" fn cp_lean_least(planner: Planner, scratch: &mut [u64]) -> AnswerNumbers
     ensures { λ r. ⌜
@@ -190,6 +195,7 @@ pub extern "C" fn cp_lean_margin_safe(planner: Planner, scratch: &mut [u64]) -> 
     margin_safe_in_c(planner::lean_margin_safe(planner, scratch))
 }
 
+// The numbers mean what the answer of `planner::fixed_point` means.
 #[no_mangle]
 pub extern "C" fn cp_fixed_point(
     planner: Planner,
@@ -213,6 +219,27 @@ pub extern "C" fn cp_reprice(
     ensures { λ r. ⌜ (r ≡ checkNumbers (repriceAnswer (planOf planner) duration flow length (now (out .entry)))) × (now (out .exit) ≡ repriceLeaves (planOf planner) duration flow length (now (out .entry))) ⌝ }
 {
     reprice_in_c(planner::reprice(planner, duration, flow, length, out))
+}
+
+// The numbers mean what the answer of `planner::span` means.
+#[no_mangle]
+pub extern "C" fn cp_span(planner: Planner, duration: u64) -> AnswerNumbers
+    ensures answers { λ r. ⌜ r ≡ spanNumbers (spanAnswer (planOf planner) duration) ⌝ }
+    ensures means { λ r. ⌜ SpanNumbersMean (planOf planner) duration r ⌝ }
+{
+    span_in_c(planner::span(planner, duration))
+}
+
+// The numbers mean what the answer of `planner::spans` means.
+#[no_mangle]
+pub extern "C" fn cp_spans(planner: Planner, list: &mut [SpanRecord]) -> AnswerNumbers
+    ensures answers { λ r. ⌜
+        (r ≡ searchNumbers (spansAnswer (planOf planner) (length (now (list .entry)))))
+        × (now (list .exit) ≡ spansLeaves (planOf planner) (now (list .entry)))
+        ⌝ }
+    ensures means { λ r. ⌜ SpansNumbersMean (planOf planner) (now (list .entry)) (now (list .exit)) r ⌝ }
+{
+    spans_in_c(planner::spans(planner, list))
 }
 
 #[no_mangle]

@@ -2,6 +2,7 @@
 mod calls;
 mod lean;
 mod number;
+mod usable;
 
 pub use batching::Batch;
 pub use batching::CollectAnswer;
@@ -41,6 +42,8 @@ pub use number::place_number;
 pub use number::reprice_number;
 pub use number::save_number;
 pub use number::slack_number;
+pub use number::span_number;
+pub use number::spans_number;
 pub use plan::Fault;
 pub use plan::fault_number;
 pub use questions::CheckAnswer;
@@ -48,6 +51,11 @@ pub use questions::FixedPointAnswer;
 pub use questions::RepriceAnswer;
 pub use questions::SearchAnswer;
 pub use questions::SlackAnswer;
+pub use questions::SpanAnswer;
+pub use questions::SpanRecord;
+pub use questions::SpansAnswer;
 pub use saving::SaveAnswer;
 pub use tables::Planner;
 pub use tables::empty;
+pub use usable::span;
+pub use usable::spans;

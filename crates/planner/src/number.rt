@@ -9,11 +9,14 @@ use questions::FixedPointAnswer;
 use questions::RepriceAnswer;
 use questions::SearchAnswer;
 use questions::SlackAnswer;
+use questions::SpanAnswer;
+use questions::SpansAnswer;
 use saving::SaveAnswer;
 ghost use mathlib.Core.Path.{_≡_};
 ghost use Rattle.answers.specs.Answer.{refusalNumber};
 ghost use Rattle.loading.specs.Answer.{loadOf};
 ghost use Rattle.questions.specs.Answer.{checkOf, slackOf, searchOf, leastOf, marginSafeOf, fixedPointOf, repriceOf};
+ghost use Rattle.questions.specs.SpanAnswer.{spanAnswerOf, spansAnswerOf};
 ghost use Rattle.saving.specs.Answer.{saveOf};
 ghost use Rattle.gate_writing.specs.Answer.{gatesOf};
 ghost use Rattle.batching.specs.Answer.{placeOf, collectOf};
@@ -39,6 +42,8 @@ const NO_LEAST: u32 = 22;
 const NO_MARGIN_SAFE: u32 = 23;
 
 const NOT_CROSSED: u32 = 24;
+
+const NO_SPAN: u32 = 25;
 
 const UNFINISHED: u32 = 26;
 
@@ -189,5 +194,26 @@ pub fn collect_number(answer: CollectAnswer) -> u32
         CollectAnswer::BadStart => BAD_DURATION,
         CollectAnswer::NoSlot => BAD_SLOT,
         CollectAnswer::Unanswered => UNANSWERED,
+    }
+}
+
+pub fn span_number(answer: SpanAnswer) -> u32
+    ensures { λ r. ⌜ r ≡ refusalNumber (spanAnswerOf answer) ⌝ }
+{
+    match answer {
+        SpanAnswer::Span(_) => 0,
+        SpanAnswer::NoPlan => NO_PLAN,
+        SpanAnswer::BadDuration => BAD_DURATION,
+        SpanAnswer::NoSpan => NO_SPAN,
+    }
+}
+
+pub fn spans_number(answer: SpansAnswer) -> u32
+    ensures { λ r. ⌜ r ≡ refusalNumber (spansAnswerOf answer) ⌝ }
+{
+    match answer {
+        SpansAnswer::Count(_) => 0,
+        SpansAnswer::NoPlan => NO_PLAN,
+        SpansAnswer::ShortList { count: _ } => SHORT_BUFFER,
     }
 }
