@@ -9,16 +9,18 @@
 #include "gates.h"
 #include "reprice.h"
 #include "batch.h"
+#include "spans.h"
 
 _Static_assert(sizeof(cp_planner) == 9944, "a planner has 9,944 bytes");
-_Static_assert(offsetof(cp_planner, clock) == 8, "clocks come after top");
-_Static_assert(offsetof(cp_planner, extras) == 404, "extra bytes come after the blockers");
-_Static_assert(offsetof(cp_planner, jitters) == 2516, "jitters come after the frame lengths");
-_Static_assert(offsetof(cp_load_outcome, answer) == 7896, "a load's answer comes after the planner, at a multiple of 8 bytes");
+_Static_assert(offsetof(cp_planner, clock) == 12, "clocks come after top");
+_Static_assert(offsetof(cp_planner, extras) == 408, "extra bytes come after the blockers");
+_Static_assert(offsetof(cp_planner, jitters) == 2520, "jitters come after the frame lengths");
+_Static_assert(sizeof(cp_span_record) == 16, "a span is two numbers");
+_Static_assert(offsetof(cp_load_outcome, answer) == 9944, "a load's answer comes after the planner, at a multiple of 8 bytes");
 
-_Static_assert(sizeof(cp_batch) == 63368, "a batch has 63,368 bytes");
+_Static_assert(sizeof(cp_batch) == 79816, "a batch has 79,816 bytes");
 _Static_assert(offsetof(cp_slot, planner) == 28, "a slot's tables come after its numbers");
-_Static_assert(offsetof(cp_batch, next) == 63360, "the next slot comes after the slots");
+_Static_assert(offsetof(cp_batch, next) == 79808, "the next slot comes after the slots");
 
 static void searches(cp_planner empty, cp_planner k) {
   searched("cp_least of K", cp_least, k, SCRATCH, answer(0, 72000, 0), 7000);
@@ -130,6 +132,7 @@ int main(void) {
   gate_lists(cp_empty(), k);
   repricing(cp_empty(), k);
   batches();
+  spans(cp_empty(), k);
   fields();
   printf("header: %u passed, %u failed\n", passed, failed);
   return failed != 0;

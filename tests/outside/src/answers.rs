@@ -24,6 +24,14 @@ pub struct StepsAnswer {
     pub steps: u64,
 }
 
+/// A run of admissible durations, by its ends.
+#[repr(C)]
+#[derive(Clone, Copy, PartialEq, Eq, Debug)]
+pub struct SpanRecord {
+    pub first: u64,
+    pub last: u64,
+}
+
 #[repr(C)]
 #[derive(Clone, Copy, PartialEq, Eq, Debug)]
 pub struct FieldRead {

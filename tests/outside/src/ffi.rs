@@ -1,6 +1,6 @@
 //! The C interface of the planner. A Rust slice is never null, an empty one neither.
 
-use crate::answers::{Answer, Batch, FieldRead, Planner, SlackAnswer, StepsAnswer};
+use crate::answers::{Answer, Batch, FieldRead, Planner, SlackAnswer, SpanRecord, StepsAnswer};
 
 #[repr(C)]
 struct LoadOutcome {
@@ -38,6 +38,8 @@ extern "C" {
     fn cp_lean_margin_safe(planner: Planner, scratch: *mut u64, length: usize) -> Answer;
     fn cp_fixed_point(planner: Planner, start: u64, steps: u64) -> StepsAnswer;
     fn cp_reprice(planner: Planner, duration: u64, flow: u64, length: u64, list: *mut i64, size: usize) -> Answer;
+    fn cp_span(planner: Planner, duration: u64) -> Answer;
+    fn cp_spans(planner: Planner, list: *mut SpanRecord, size: usize) -> Answer;
     fn cp_save(planner: Planner, buffer: *mut u8, length: usize) -> Answer;
     fn cp_gates(planner: Planner, duration: u64, even: u64, odd: u64, buffer: *mut u8, length: usize) -> Answer;
     fn cp_batch_empty() -> Batch;
@@ -92,6 +94,14 @@ pub fn fixed_point(planner: &Planner, start: u64, steps: u64) -> StepsAnswer {
 
 pub fn reprice(planner: &Planner, duration: u64, flow: u64, length: u64, list: &mut [i64]) -> Answer {
     unsafe { cp_reprice(planner.clone(), duration, flow, length, list.as_mut_ptr(), list.len()) }
+}
+
+pub fn span(planner: &Planner, duration: u64) -> Answer {
+    unsafe { cp_span(planner.clone(), duration) }
+}
+
+pub fn spans(planner: &Planner, list: &mut [SpanRecord]) -> Answer {
+    unsafe { cp_spans(planner.clone(), list.as_mut_ptr(), list.len()) }
 }
 
 pub fn save(planner: &Planner, buffer: &mut [u8]) -> Answer {

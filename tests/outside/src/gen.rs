@@ -1,5 +1,6 @@
 //! Plans by chance, from a seed: good ones of several kinds.
 
+pub mod comb;
 pub mod damage;
 pub mod few;
 pub mod fit;

@@ -26,6 +26,8 @@ pub mod runs;
 pub mod save;
 mod save_k;
 pub mod searches;
+pub mod spans;
+mod spans_k;
 pub mod steps;
 mod steps_k;
 pub mod strict;
@@ -36,13 +38,14 @@ use crate::answers::{Answer, Planner};
 use crate::ffi;
 use crate::model::fixed_point::fixed_point;
 use crate::model::save::written;
-use crate::model::spans::{first_past, lean_search, search, spans, Search, Span};
+use crate::model::spans::{first_past, lean_search, search, spans as found_spans, Search, Span};
 use crate::model::{self as judge, Flow, Plan};
 use crate::report::Tally;
 use crate::rng::Rng;
 use gates::{ask_gates, QUEUES};
 use reprice::{ask_reprice, some_flow, FRAMES};
 use save::ask_save;
+use spans::{ask_span, ask_spans};
 
 pub const LENGTHS: [usize; 5] = [0, 63, 64, 65, 100];
 pub const LEAN_LENGTHS: [usize; 4] = [0, 1, 2, 64];
@@ -132,7 +135,7 @@ pub fn ask_fixed_point(tally: &mut Tally, planner: &Planner, plan: Option<&Plan>
 
 /// Every kind of question, some of each.
 pub fn ask_all(tally: &mut Tally, planner: &Planner, plan: Option<&Plan>, rng: &mut Rng) {
-    let found = plan.map(spans);
+    let found = plan.map(found_spans);
     let mut asked = vec![0, 1, 1_000, 100_000_000, u64::MAX];
     let mut ports = vec![0, 1, 2, 64, 65, u64::MAX];
     if let Some(plan) = plan {
@@ -168,4 +171,11 @@ pub fn ask_all(tally: &mut Tally, planner: &Planner, plan: Option<&Plan>, rng: &
     }
     let length = rng.pick(&LEAN_LENGTHS);
     ask_lean(tally, planner, plan.zip(found.as_deref()), length, rng);
+    for duration in [1, rng.pick(&asked), rng.pick(&asked)] {
+        ask_span(tally, planner, plan.zip(found.as_deref()), duration);
+    }
+    let count = found.as_ref().map_or(2, Vec::len);
+    let sizes = spans::sizes(count, rng);
+    let size = rng.pick(&sizes);
+    ask_spans(tally, planner, plan.zip(found.as_deref()), size, rng);
 }

@@ -19,7 +19,7 @@ const SEED: u64 = 20_261_115;
 const CASES: u64 = 1_500;
 
 /// A group's name, its share of the cases in hundredths, and its body.
-const GROUPS: [(&str, u64, fn(&mut Tally)); 17] = [
+const GROUPS: [(&str, u64, fn(&mut Tally)); 18] = [
     ("known", 100, groups::known::run),
     ("model", 20, groups::model::run),
     ("fields", 100, groups::fields::run),
@@ -30,6 +30,7 @@ const GROUPS: [(&str, u64, fn(&mut Tally)); 17] = [
     ("questions", 60, groups::questions::run),
     ("searches", 100, groups::searches::run),
     ("steps", 100, groups::steps::run),
+    ("spans", 40, groups::spans::run),
     ("gates", 60, groups::gates::run),
     ("reprice", 60, groups::reprice::run),
     ("batch", 20, groups::batch::run),

@@ -10,6 +10,7 @@ pub mod reprice;
 pub mod save;
 pub mod spans;
 pub mod tables;
+pub mod usable;
 
 use crate::answers::{Answer, SlackAnswer};
 use std::collections::BTreeMap;

@@ -43,6 +43,12 @@ pub fn with_port_2() -> Vec<u8> {
     bytes
 }
 
+pub fn with_top(top: u32) -> Vec<u8> {
+    let mut bytes = K.to_vec();
+    bytes[7..11].copy_from_slice(&top.to_be_bytes());
+    bytes
+}
+
 /// Rows, whoever answers them.
 pub fn rows(tally: &mut Tally, rows: &[Row], check: impl Fn(u64) -> Answer, slack: impl Fn(u64) -> SlackAnswer) {
     for (duration, refusal, spare) in rows.iter().copied() {

@@ -43,6 +43,8 @@ pub fn run(tally: &mut Tally) {
     tally.must_have_seen("least", &[0, 11, 20, 22]);
     tally.must_have_seen("margin_safe", &[0, 11, 20, 23]);
     tally.must_have_seen("fixed_point", &[0, 10, 20, 22, 26]);
+    tally.must_have_seen("span", &[0, 10, 20, 25]);
+    tally.must_have_seen("spans", &[0, 13, 20]);
     tally.must_have_seen("save", &[0, 13, 20]);
     tally.must_have_seen("gates", &[0, 10, 13, 18, 20, 21]);
     tally.must_have_seen("reprice", &[0, 10, 11, 17, 20, 29]);

@@ -1,7 +1,7 @@
 //! K and its neighbours from several starts, with the steps worked out by hand.
 
 use super::jitter::with_jitter;
-use super::known::{with_blocker, with_port_2, K};
+use super::known::{with_blocker, with_port_2, with_top, K};
 use crate::answers::{Answer, StepsAnswer};
 use crate::ffi;
 use crate::model::fixed_point::{fixed_point, most_steps};
@@ -63,12 +63,6 @@ const TOP_120_000: &[Row] = &[
     (110_001, 0, 26, [110_001, 0], 0),
     (120_000, ALL, 22, [1, 1], 1),
 ];
-
-fn with_top(top: u32) -> Vec<u8> {
-    let mut bytes = K.to_vec();
-    bytes[7..11].copy_from_slice(&top.to_be_bytes());
-    bytes
-}
 
 pub fn run(tally: &mut Tally) {
     for (bytes, rows) in [
