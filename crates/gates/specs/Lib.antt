@@ -1,3 +1,2 @@
--- Arguments in decimal digits.
-pub mod Decimal
+-- The fields of a gate control list, as the program reads them back.
 pub mod laws

@@ -1,3 +1,2 @@
--- Laws of numbers in decimal digits, and of a field's interval.
-pub mod Decimal
+-- Laws of a field's interval.
 pub mod Entry

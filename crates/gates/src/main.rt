@@ -1,15 +1,13 @@
 // Reads a plan from standard input and prints the gate control list of a duration for two queues, as lines in the form that Linux's
 // tc takes; duration, even queue and odd queue are the arguments. What is no list stands on standard error.
-mod decimal; // decimal.rt: a number written in decimal digits
 mod entry; // entry.rt: the fields of a written list
 mod shortest; // shortest.rt: whether taprio may refuse it
 
+use arguments::Parsed;
 use console::say;
 use console::say_number;
 use console::say_refused;
 use console::say_refused_plan;
-use decimal::Parsed;
-use decimal::decimal;
 use entry::say_list;
 use gate_writing::MOST_BYTES;
 use planner::GatesAnswer;
@@ -19,13 +17,6 @@ use shortest::warn;
 
 // The program's name, and its three arguments.
 const WORDS: usize = 4;
-
-// An argument that is missing, empty, or longer than 4,096 bytes counts as no number.
-fn argument(i: usize) -> Parsed {
-    let mut text = io::buffer();
-    let n = os::arg(i, &mut text);
-    decimal(&text[..n])
-}
 
 fn report_answer(answer: GatesAnswer) {
     let out = say_refused(console::standard_error(), planner::gates_number(answer));
@@ -79,19 +70,19 @@ fn report_usage() {
 }
 
 fn main() {
-    if os::arg_count() != WORDS {
+    if arguments::count() != WORDS {
         report_usage();
         return;
     }
-    let Parsed::Number(duration) = argument(1) else {
+    let Parsed::Number(duration) = arguments::number(1) else {
         report_usage();
         return;
     };
-    let Parsed::Number(even) = argument(2) else {
+    let Parsed::Number(even) = arguments::number(2) else {
         report_usage();
         return;
     };
-    let Parsed::Number(odd) = argument(3) else {
+    let Parsed::Number(odd) = arguments::number(3) else {
         report_usage();
         return;
     };

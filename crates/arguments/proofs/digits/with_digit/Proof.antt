@@ -3,9 +3,9 @@ use mathlib.Core.Path.{sym}
 use Prim.Native.Nat.{_+_, _*_}
 use native.Mathlib.Omega.{arith}
 use borrow.Author.Needs.{needs}
-use Rattle.gates.specs.laws.Decimal.{capped-same, capped-above}
-use Rattle.gates.proofs.decimal.with_digit.Statement.{statement}
-use Rattle.gates.proofs.decimal.with_digit.Tie as tie
+use Rattle.arguments.specs.laws.Decimal.{capped-same, capped-above}
+use Rattle.arguments.proofs.digits.with_digit.Statement.{statement}
+use Rattle.arguments.proofs.digits.with_digit.Tie as tie
 
 returns : tie.Need-returns
 returns c =

@@ -10,7 +10,7 @@ use borrow.Author.Tests.{leb-true, leb-false, le-leb, lt-leb}
 use lib.Dec.{leb}
 use lib.ListN.{length, getD, drop, drop-of-length-le}
 use lib.Seq.{drop-cons}
-use Rattle.gates.specs.Decimal.{zeroDigit, isDigit, valueFrom, largest, capped, cappedOption, decimalValue}
+use Rattle.arguments.specs.Decimal.{zeroDigit, isDigit, valueFrom, largest, capped, cappedOption, decimalValue}
 
 pub capped-same : (n : ℕ) → n ≤ largest → capped n ≡ n
 unfolding capped

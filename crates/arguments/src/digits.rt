@@ -1,9 +1,9 @@
 // A number written in decimal digits. One that is too large for 64 bits counts as the largest: no duration and no queue is that.
 ghost use mathlib.Core.Path.{_≡_};
 ghost use Prim.Native.Nat.{_+_, _*_, _≤_};
-ghost use Rattle.gates.specs.Decimal.{capped, decimalValue, parsedOf};
+ghost use Rattle.arguments.specs.Decimal.{capped, decimalValue, parsedOf};
 
-pub(crate) enum Parsed {
+pub enum Parsed {
     Number(u64),
     Malformed,
 }
@@ -22,7 +22,7 @@ fn with_digit(value: u64, digit: u8) -> u64
     10 * value + (digit as u64)
 }
 
-pub(crate) fn decimal(text: &[u8]) -> Parsed
+pub fn decimal(text: &[u8]) -> Parsed
     ensures { λ r. ⌜ parsedOf r ≡ decimalValue (now (text .entry)) ⌝ }
 {
     if text.len() == 0 {

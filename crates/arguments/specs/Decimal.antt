@@ -4,7 +4,7 @@ use mathlib.Core.Bool.{Bool, cond, _&&_}
 use mathlib.Core.List.{List, [], _∷_}
 use mathlib.Core.Option.{Option, some, none}
 use lib.Dec.{leb}
-use Rattle.gates.specs.declared.decimal.Parsed.{Parsed}
+use Rattle.arguments.specs.declared.digits.Parsed.{Parsed}
 
 abbrev pub zeroDigit : ℕ
 zeroDigit = 48

@@ -4,10 +4,10 @@ use mathlib.Core.Path.{_≡_, sym, _∙_}
 use native.Mathlib.Omega.{arith}
 use denote.Ref.{now}
 use lib.ListN.{length, getD, drop}
-use Rattle.gates.specs.Decimal.{zeroDigit, largest, valueFrom, cappedOption, decimalValue}
-use Rattle.gates.specs.laws.Decimal.{value-empty, value-whole, not-digit, next-digit, low-byte, high-byte, digit-byte, capped-most, value-end}
-use Rattle.gates.proofs.decimal.decimal.Statement.{statement}
-use Rattle.gates.proofs.decimal.decimal.Tie as tie
+use Rattle.arguments.specs.Decimal.{zeroDigit, largest, valueFrom, cappedOption, decimalValue}
+use Rattle.arguments.specs.laws.Decimal.{value-empty, value-whole, not-digit, next-digit, low-byte, high-byte, digit-byte, capped-most, value-end}
+use Rattle.arguments.proofs.digits.decimal.Statement.{statement}
+use Rattle.arguments.proofs.digits.decimal.Tie as tie
 
 abbrev Inv-loop : tie.InvT-loop
 Inv-loop text value₀ i₀ value i = (i ≤ length text) × (value ≤ largest) × (cappedOption (valueFrom value (drop i text)) ≡ decimalValue text)

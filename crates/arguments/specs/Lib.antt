@@ -1,0 +1,3 @@
+-- Numbers in decimal digits.
+pub mod Decimal
+pub mod laws
