@@ -1,8 +1,10 @@
 // The arguments that a program is started with: words, and numbers in decimal digits. The program's own name is the one at 0.
 mod digits; // digits.rt: a number written in decimal digits
+mod word; // word.rt: whether a text is a word
 
 pub use digits::Parsed;
 pub use digits::decimal;
+pub use word::same;
 
 pub fn count() -> usize {
     os::arg_count()
@@ -18,5 +20,5 @@ pub fn number(i: usize) -> Parsed {
 pub fn is_word(i: usize, word: &[u8]) -> bool {
     let mut text = io::buffer();
     let n = os::arg(i, &mut text);
-    check::same(&text[..n], word)
+    same(&text[..n], word)
 }
