@@ -41,7 +41,7 @@ pub(crate) fn flow_bits(
     flow_frames(period, count, jitter, widened) * wire_bits(bytes, extra)
 }
 
-// Whether a route holds the port in slot q.
+// Whether a route holds the port in slot q. Two ports at a time, and the last one of an odd number.
 pub(crate) fn route_holds<'a>(
     routes: &'a columns::Routes,
     base: usize,
@@ -52,12 +52,22 @@ pub(crate) fn route_holds<'a>(
     ensures { λ r. ⌜ r ≡ elem (suc q) (sublist (now (routes .entry)) base hops) ⌝ }
 {
     let port = (q + 1) as u8;
+    let even = hops - hops % 2;
     let mut i: usize = 0;
-    while i < hops {
+    while i < even {
         if routes[base + i] == port {
             return true;
         }
-        i += 1;
+        if routes[base + i + 1] == port {
+            return true;
+        }
+        i += 2;
+    }
+    if i == hops {
+        return false;
+    }
+    if routes[base + i] == port {
+        return true;
     }
     false
 }
