@@ -3,6 +3,7 @@ pub mod Within
 pub mod Passes
 pub mod Ranged
 pub mod ByPart
+pub mod Counted
 pub mod Kinds
 pub mod Found
 pub mod Encoded

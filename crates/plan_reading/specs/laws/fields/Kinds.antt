@@ -1,11 +1,11 @@
 -- What goes by the kind of a field, kind by kind: what its parts are, its key among those of its tag, and what it names. A new kind
 -- has a case in each.
-use Prim.Native.Nat.{ℕ, zero, suc, _+_, _≤_, _<_}
+use Prim.Native.Nat.{ℕ, zero, suc, _+_, _-_, _≤_, _<_}
 use mathlib.Core.Path.{_≡_, refl, sym, subst}
 use mathlib.Core.List.{List, [], _∷_}
 use mathlib.Core.Bool.{Bool, true, false, cond, _||_}
-use lib.Dec.{eqb}
-use lib.ListN.{getD}
+use lib.Dec.{eqb, ltb}
+use lib.ListN.{length, getD, set}
 use native.Mathlib.Omega.{arith}
 use borrow.Author.Tests.{not-false}
 use Rattle.cqf.specs.Limits.{portSlots, flowSlots, topOk}
@@ -21,9 +21,10 @@ use Rattle.plan_reading.specs.Draft.{fieldRepeats, portsIn, flowsIn, sum
 use Rattle.plan_reading.specs.FieldOrder.{SaysNothing, AllNothing}
 use Rattle.plan_reading.specs.Ranges.{NumbersOk, RouteOk, RouteFits, PartOk}
 use Rattle.plan_reading.specs.Reading.{routeAt, namesAbsent, jitterAbsent, extraAbsent}
-use Rattle.plan_reading.specs.laws.fields.Within.{within-low, within-high}
+use Rattle.plan_reading.specs.laws.fields.Within.{within-low, within-high, slot-below}
 use Rattle.plan_reading.specs.laws.fields.Ranged.{InRange, in-range, All}
 use Rattle.plan_reading.specs.laws.fields.ByPart.{partKey, Separate, Once}
+use Rattle.plan_reading.specs.laws.fields.Counted.{Counted, counted-other, counted-own}
 use Rattle.plan_reading.specs.laws.fields.Passes.{Passes}
 use Rattle.plan_reading.specs.laws.reading.Absent.{NamedThere, NamesPresent, there-route, there-jitter, there-extra}
 
@@ -71,6 +72,38 @@ top-in Kind.flow ns r p t e = absurd (omega arith)
 top-in Kind.extra ns r p t e = absurd (omega arith)
 top-in Kind.jitter ns r p t e = absurd (omega arith)
 top-in Kind.clock ns r p t e = absurd (omega arith)
+
+-- what it brings to the rates and to the periods: nothing, or one number above 0 at the place of its key
+module _ (p : Plan) (seen r : List ℕ) (ports flows : ℕ) where
+  abbrev Ports : Kind → List ℕ → Type 0
+  Ports k ns = Counted (storeAll p (partsBy k ns r) .rates) (set seen (keyBy k ns) 1) 1 portSlots (ports + sumOf portsIn (partsBy k ns r))
+
+  abbrev Flows : Kind → List ℕ → Type 0
+  Flows k ns = Counted (storeAll p (partsBy k ns r) .periods) (set seen (keyBy k ns) 1) (portSlots + 1) flowSlots (flows + sumOf flowsIn (partsBy k ns r))
+
+  counted-in
+      : (k : Kind) (ns : List ℕ)
+      → InRange (layout k .numbers) 0 ns
+      → keyBy k ns < length seen
+      → ltb 0 (getD seen (keyBy k ns) 0) ≡ false
+      → Counted (p .rates) seen 1 portSlots ports
+      → Counted (p .periods) seen (portSlots + 1) flowSlots flows
+      → Ports k ns × Flows k ns
+  unfolding storeAll store
+  counted-in Kind.header ns t fits fresh rates periods = (counted-other rates fits, counted-other periods fits)
+  counted-in Kind.port ns t fits fresh rates periods =
+      let low = within-low 1 portSlots (getD ns 0 0) (t .0) in (
+        counted-own rates fits (getD ns 0 0 - 1) (getD ns 1 0) (omega arith) (slot-below portSlots (getD ns 0 0) (t .0)) (within-low 1 _ (getD ns 1 0) (t .1 .0)) fresh,
+        counted-other periods fits,
+      )
+  counted-in Kind.flow ns t fits fresh rates periods =
+      let low = within-low 1 flowSlots (getD ns 0 0) (t .0) in (
+        counted-other rates fits,
+        counted-own periods fits (getD ns 0 0 - 1) (getD ns 1 0) (omega arith) (slot-below flowSlots (getD ns 0 0) (t .0)) (omega (arith, within-low _ _ (getD ns 1 0) (t .1 .0))) fresh,
+      )
+  counted-in Kind.extra ns t fits fresh rates periods = (counted-other rates fits, counted-other periods fits)
+  counted-in Kind.jitter ns t fits fresh rates periods = (counted-other rates fits, counted-other periods fits)
+  counted-in Kind.clock ns t fits fresh rates periods = (counted-other rates fits, counted-other periods fits)
 
 -- the first number that a tag has, and how many it has
 unfoldable pub firstNumber : ℕ → ℕ
@@ -134,6 +167,15 @@ module _ (x : Field) (k : NumbersOk x) where
 
   pub header-top : (r : List ℕ) (p : Plan) → keyOf x ≡ headerKey → topOk (storeAll p (partsOf x r) .top) ≡ true
   header-top r p = top-in (x .kind) (x .numbers) r p in-rows
+
+  pub counted
+      : (r : List ℕ) (p : Plan) (seen : List ℕ) {ports flows : ℕ}
+      → keyOf x < length seen
+      → ltb 0 (getD seen (keyOf x) 0) ≡ false
+      → Counted (p .rates) seen 1 portSlots ports
+      → Counted (p .periods) seen (portSlots + 1) flowSlots flows
+      → Ports p seen r ports flows (x .kind) (x .numbers) × Flows p seen r ports flows (x .kind) (x .numbers)
+  counted r p seen {ports} {flows} = counted-in p seen r ports flows (x .kind) (x .numbers) in-rows
 
   pub parts-ok : (r : List ℕ) → RouteFits x r → All PartOk (partsOf x r)
   parts-ok r on = parts-in (x .kind) (x .numbers) (x .hops) r in-rows (k .hops) on
