@@ -7,7 +7,7 @@
 #include <stdio.h>
 #include <stdlib.h>
 
-enum { PAINTED = 1 << 20, PORTS = 64, MAX_BYTES = 16384 };
+enum { PAINTED = 1 << 20, PORTS = 64, MAX_BYTES = 16384, RECORDS = 4096 };
 #define PAINT 0xa5c3965a0ff0695aULL
 
 typedef struct { uint8_t bytes[MAX_BYTES]; size_t length; } plan_bytes;
@@ -22,6 +22,7 @@ static cp_field_read field;
 static uint64_t scratch[PORTS];
 static int64_t list[PORTS];
 static uint8_t buffer[MAX_BYTES];
+static cp_span_record records[RECORDS];
 static uint8_t repeats;
 static cp_batch batch;
 static cp_place_outcome placed;
@@ -40,6 +41,7 @@ static cp_fixed_point_answer see_steps(cp_planner p, uint64_t d, uint64_t n) { S
 static cp_answer see_reprice(cp_planner p, uint64_t d, uint64_t f, uint64_t l, int64_t *s, size_t n) {
   SEEN; (void)p, (void)d, (void)f, (void)l, (void)s, (void)n; return answer;
 }
+static cp_answer see_spans(cp_planner p, cp_span_record *l, size_t n) { SEEN; (void)p, (void)l, (void)n; return answer; }
 static cp_answer see_save(cp_planner p, uint8_t *b, size_t n) { SEEN; (void)p, (void)b, (void)n; return answer; }
 static cp_answer see_gates(cp_planner p, uint64_t d, uint64_t e, uint64_t o, uint8_t *b, size_t n) {
   SEEN; (void)p, (void)d, (void)e, (void)o, (void)b, (void)n; return answer;
@@ -159,6 +161,16 @@ MEASURED(on_reprice) {
   return unused;
 }
 
+MEASURED(on_span) {
+  MEASURE(cp_answer (*volatile call)(cp_planner, uint64_t), see_check, cp_span, answer = call(held, 1));
+  return unused;
+}
+
+MEASURED(on_spans) {
+  MEASURE(cp_answer (*volatile call)(cp_planner, cp_span_record *, size_t), see_spans, cp_spans, answer = call(held, records, RECORDS));
+  return unused;
+}
+
 MEASURED(on_save) {
   MEASURE(cp_answer (*volatile call)(cp_planner, uint8_t *, size_t), see_save, cp_save,
           answer = call(held, buffer, MAX_BYTES));
@@ -272,6 +284,10 @@ int main(int count, char **paths) {
   questions(answered);
   if (answer.refusal != 0) return 1;
   row("cp_reprice", on_reprice, sizeof held, sizeof answer);
+  if (answer.refusal != 0) return 1;
+  row("cp_span", on_span, sizeof held, sizeof answer);
+  if (answer.refusal != 0) return 1;
+  row("cp_spans", on_spans, sizeof held, sizeof answer);
   if (answer.refusal != 0) return 1;
   row("cp_save", on_save, sizeof held, sizeof answer);
   if (answer.refusal != 0) return 1;

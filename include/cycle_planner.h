@@ -13,9 +13,11 @@
  *   9 a port or a flow is named that is not given   24 no flow crosses the port, or there is no such port
  *  10 a duration or start of 0 or above top         25 no span ends at the duration or later
  *  11 a scratch of fewer than 64 numbers            26 the steps ended before the search did
+ *  15 a batch has no such slot                      27 the slot of a batch has a plan
+ *                                                   28 the slot of a batch has no final answer
  *                                                   29 a flow that is not in the plan
  * Durations, intervals, guard band, jitter and synchronization error are in ns, rates in Mbit/s, lengths in bytes. Stack of a call, beside the planner and the answer that the
- * caller holds: a load 33 KB, cp_spans 17 KB, another question 9.4 KB. No heap. */
+ * caller holds: a load 31 KB, cp_spans 21 KB, another question 11.4 KB. No heap. */
 #ifndef CYCLE_PLANNER_H
 #define CYCLE_PLANNER_H
 #include <stddef.h>
@@ -121,8 +123,8 @@ cp_answer cp_save(cp_planner planner, uint8_t *buffer, size_t length);
 cp_answer cp_gates(cp_planner planner, uint64_t duration, uint64_t even, uint64_t odd, uint8_t *buffer, size_t length);
 
 /* A batch: eight plans whose least durations are searched in turn. For an office's computer and not for the cabinet: plain data of
- * 63,368 bytes that goes into each call by value and comes back as the call leaves it; keep it so, and do not look inside. A call of
- * these takes up to 223 KB of stack, beside the batch given and the outcome, 127 KB, that the caller holds, and copies up to 340 KB.
+ * 79,816 bytes that goes into each call by value and comes back as the call leaves it; keep it so, and do not look inside. A call of
+ * these takes up to 270 KB of stack, beside the batch given and the outcome, 160 KB, that the caller holds, and copies up to 429 KB.
  * No call here takes or gives a cp_planner: a plan held elsewhere stays as it is. A slot's state is 0 for no plan, 1 for a plan that
  * is searched, with the duration reached and the steps used, and 2 to 5 for a final answer: found, 22, and 20 and 10 for tables and
  * durations that no call leaves. Any other state, and state 1 with as many steps as its duration or more, is a slot with no plan; next
