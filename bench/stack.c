@@ -7,7 +7,7 @@
 #include <stdio.h>
 #include <stdlib.h>
 
-enum { PAINTED = 1 << 20, PORTS = 64, MAX_BYTES = 16384, RECORDS = 4096 };
+enum { PAINTED = 1 << 20, PORTS = 64, MAX_BYTES = 16384 };
 #define PAINT 0xa5c3965a0ff0695aULL
 
 typedef struct { uint8_t bytes[MAX_BYTES]; size_t length; } plan_bytes;
@@ -21,8 +21,8 @@ static cp_fixed_point_answer stepped;
 static cp_field_read field;
 static uint64_t scratch[PORTS];
 static int64_t list[PORTS];
+static cp_span_record spans[PORTS];
 static uint8_t buffer[MAX_BYTES];
-static cp_span_record records[RECORDS];
 static uint8_t repeats;
 static cp_batch batch;
 static cp_place_outcome placed;
@@ -41,7 +41,7 @@ static cp_fixed_point_answer see_steps(cp_planner p, uint64_t d, uint64_t n) { S
 static cp_answer see_reprice(cp_planner p, uint64_t d, uint64_t f, uint64_t l, int64_t *s, size_t n) {
   SEEN; (void)p, (void)d, (void)f, (void)l, (void)s, (void)n; return answer;
 }
-static cp_answer see_spans(cp_planner p, cp_span_record *l, size_t n) { SEEN; (void)p, (void)l, (void)n; return answer; }
+static cp_answer see_spans(cp_planner p, cp_span_record *s, size_t n) { SEEN; (void)p, (void)s, (void)n; return answer; }
 static cp_answer see_save(cp_planner p, uint8_t *b, size_t n) { SEEN; (void)p, (void)b, (void)n; return answer; }
 static cp_answer see_gates(cp_planner p, uint64_t d, uint64_t e, uint64_t o, uint8_t *b, size_t n) {
   SEEN; (void)p, (void)d, (void)e, (void)o, (void)b, (void)n; return answer;
@@ -167,7 +167,13 @@ MEASURED(on_span) {
 }
 
 MEASURED(on_spans) {
-  MEASURE(cp_answer (*volatile call)(cp_planner, cp_span_record *, size_t), see_spans, cp_spans, answer = call(held, records, RECORDS));
+  MEASURE(cp_answer (*volatile call)(cp_planner, cp_span_record *, size_t), see_spans, cp_spans,
+          answer = call(held, spans, PORTS));
+  return unused;
+}
+
+MEASURED(on_refused_spans) {
+  MEASURE(cp_answer (*volatile call)(cp_planner, cp_span_record *, size_t), see_spans, cp_spans, answer = call(held, spans, 1));
   return unused;
 }
 
@@ -289,6 +295,8 @@ int main(int count, char **paths) {
   if (answer.refusal != 0) return 1;
   row("cp_spans", on_spans, sizeof held, sizeof answer);
   if (answer.refusal != 0) return 1;
+  row("cp_spans, refused", on_refused_spans, sizeof held, sizeof answer);
+  if (answer.refusal != 13) return 1;
   row("cp_save", on_save, sizeof held, sizeof answer);
   if (answer.refusal != 0) return 1;
   row("cp_save, refused", on_refused_save, sizeof held, sizeof answer);
@@ -298,6 +306,8 @@ int main(int count, char **paths) {
   held = overloaded;
   questions(refusing);
   if (answer.refusal == 0 || stepped.refusal != 22) return 1;
+  row("cp_span, refused", on_span, sizeof held, sizeof answer);
+  if (answer.refusal != 25) return 1;
   row("cp_gates, refused", on_gates, sizeof held, sizeof answer);
   if (answer.refusal != 21) return 1;
   row("cp_batch_empty", on_batch, 0, sizeof batch);

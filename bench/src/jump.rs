@@ -95,7 +95,7 @@ pub fn refused_at_top<const CHECKED: bool>(refusal: u32, planner: &Planner, out:
 }
 
 /// The duration that the most needy crossed port needs for its demand; 0 where none is crossed.
-fn largest_need(planner: &Planner, demands: &[u64; PORTS]) -> u64 {
+pub fn largest_need(planner: &Planner, demands: &[u64; PORTS]) -> u64 {
     (0..PORTS).map(|slot| need(planner, slot, demands[slot])).max().unwrap_or(0)
 }
 

@@ -16,6 +16,8 @@ mod paper;
 mod plans;
 mod reader;
 mod scan;
+mod spans;
+mod usable;
 mod valid;
 mod writer;
 
@@ -245,6 +247,21 @@ fn reprice(plan: &[u8], part: &str) {
     println!("{} {longest}", told(answer, list.into_iter().map(|spare| spare as u64)));
 }
 
+/// The spans of a plan: the answer, the evaluations, and the microseconds; or how many evaluations against the fewest pieces.
+fn usable(plan: &[u8], part: &str) {
+    let (planner, loaded) = ffi::load(&ffi::empty(), plan);
+    assert_eq!(loaded.refusal, 0, "the plan is refused: {loaded:?}");
+    if part == "pieces" {
+        println!("{}", usable::against_pieces(&planner));
+        return;
+    }
+    let mut list = if part.ends_with("spans") { usable::room(&planner) } else { Vec::new() };
+    let start = unsafe { clock() };
+    let (answer, evaluations) = usable::measured_spans(part, &planner, &mut list);
+    let microseconds = unsafe { clock() } - start;
+    println!("{} {evaluations} {microseconds}", told(answer, list.iter().flat_map(|span| [span.first, span.last])));
+}
+
 fn main() {
     let arguments: Vec<String> = std::env::args().skip(1).collect();
     let arguments: Vec<&str> = arguments.iter().map(String::as_str).collect();
@@ -257,6 +274,11 @@ fn main() {
                 println!("{} {} {}", case.name, if case.timed { "timed" } else { "counted" }, case.searches.join(" "));
             }
         }
+        ["usable"] => {
+            for case in plans::usable() {
+                println!("{} {}", case.name, if case.timed { "timed" } else { "counted" });
+            }
+        }
         ["paper"] => figures::print(),
         ["loads"] => loads.iter().for_each(|plan| println!("{} {}", plan.0, plan.1.len())),
         ["bytes", name] => {
@@ -266,8 +288,12 @@ fn main() {
         [part @ ("load" | "read" | "read-by-port"), name] => load(loaded(name).expect("no such plan"), part),
         ["turns", name] => turns(&searched(name).bytes),
         [part @ ("save" | "write"), name] => save(loaded(name).expect("no such plan"), part),
+        [part @ ("span-first" | "span-top" | "spans" | "same-span-first" | "same-span-top" | "same-spans" | "pieces"), name] => {
+            let cases = plans::usable();
+            usable(&cases.iter().find(|case| case.name == name).expect("no such plan").bytes, part)
+        }
         [part @ ("reprice" | "slacks"), name] => reprice(&searched(name).bytes, part),
         [part, name] => search(searched(name), part),
-        _ => panic!("searches, loads, paper, bytes PLAN, or PART PLAN"),
+        _ => panic!("searches, usable, loads, paper, bytes PLAN, or PART PLAN"),
     }
 }

@@ -105,6 +105,33 @@ fn late_clocks(load: f64) -> Vec<u8> {
     plan
 }
 
+/// K with extra bytes, jitter and clocks: four spans.
+fn k_with_all() -> Vec<u8> {
+    let mut plan = k();
+    extra(&mut plan, 1, 32);
+    jitter(&mut plan, 1, 30_000);
+    clocks(&mut plan, 100, 2, 1_000);
+    plan
+}
+
+/// One flow behind whose least duration a single one is refused.
+fn one_ns_gap() -> Vec<u8> {
+    let mut plan = Vec::new();
+    header(&mut plan, 433, 10_000);
+    port(&mut plan, 1, 10_000, 0);
+    flow(&mut plan, 1, 1_000, 65, &[1]);
+    plan
+}
+
+/// One flow that all but fills its port: a span in each of thousands of periods.
+fn full_port() -> Vec<u8> {
+    let mut plan = Vec::new();
+    header(&mut plan, 0, 20_000_000);
+    port(&mut plan, 1, 16_161, 0);
+    flow(&mut plan, 1, 1_000, 2_000, &[1]);
+    plan
+}
+
 /// One flow whose frame takes a whole period: every step goes one period further.
 fn one_flow() -> Vec<u8> {
     let mut plan = Vec::new();
@@ -140,6 +167,21 @@ fn spread() -> Vec<u8> {
     let rest = 100.0 * 1.000003 - flows.iter().map(|flow| 672.0 / flow.0 as f64).sum::<f64>();
     flows.push(((672.0 / rest).round() as u32, 64));
     alike_ports(1, &flows)
+}
+
+/// The most spans found: a port whose slack stays around 0 for the last 30 ms.
+fn most_spans() -> Vec<u8> {
+    let mut plan = Vec::new();
+    header(&mut plan, 0, 100_000_000);
+    port(&mut plan, 1, found::SPREAD_RATE, 0);
+    let spread = (0..found::SPREAD).map(|_| found::SPREAD_PERIOD);
+    for (slot, period) in spread.chain(found::SPREAD_LATE).enumerate() {
+        flow(&mut plan, slot as u16 + 1, period, 64, &[1]);
+    }
+    for slot in 0..found::SPREAD {
+        jitter(&mut plan, slot as u16 + 1, slot * found::SPREAD_PERIOD / found::SPREAD);
+    }
+    plan
 }
 
 /// The same flows over each group of 16 ports, with blockers that rise from port to port.
@@ -179,6 +221,18 @@ pub fn searches() -> Vec<Case> {
         Case { timed: true, ..case("down-16-ports", found_ports(16, found::DOWN), 0, &["safe"]) },
         Case { timed: true, ..case("up-64-ports", many_ports(), 0, &["least"]) },
     ]
+}
+
+/// The plans whose spans are measured: those of the searches, and more.
+pub fn usable() -> Vec<Case> {
+    let more = |name, bytes, timed| Case { name, bytes, scanned: 0, timed, searches: &[] };
+    let mut cases = searches();
+    for case in &mut cases {
+        case.timed |= matches!(case.name, "up-one-port" | "down-one-port");
+    }
+    cases.extend([more("K-with-all", k_with_all(), false), more("one-ns-gap", one_ns_gap(), false)]);
+    cases.extend([more("full-port", full_port(), false), more("most-spans", most_spans(), true)]);
+    cases
 }
 
 /// The plans whose load is measured. The second and third differ in the field of port 64, which the third lacks (refusal 9); the
