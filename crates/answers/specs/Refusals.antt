@@ -57,6 +57,10 @@ shortBuffer = 13
 abbrev pub badSlot : ℕ
 badSlot = 15
 
+-- document 02: going back to the older form, a flow of over sixteen ports
+abbrev pub longRoute : ℕ
+longRoute = 16
+
 -- document 02: a frame length outside its range
 abbrev pub badLength : ℕ
 badLength = 17

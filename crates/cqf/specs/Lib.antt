@@ -1,6 +1,7 @@
 -- Document 01 as definitions, one concept a file, in its order.
 pub mod Bounded
 pub mod Limits
+pub mod Form
 pub mod Plan
 pub mod Ceil
 pub mod Port

@@ -4,7 +4,7 @@ use mathlib.Core.Bool.{Bool, _||_}
 use lib.Dec.{eqb}
 use Rattle.cqf.specs.Bounded.{within}
 
--- ports are numbered from 1 to 64, flows from 1 to 256; a field's route has at most 16 ports
+-- ports are numbered from 1 to 64, flows from 1 to 256; a route has at most 24 ports
 abbrev pub portSlots : ℕ
 portSlots = 64
 
@@ -12,7 +12,7 @@ abbrev pub flowSlots : ℕ
 flowSlots = 256
 
 abbrev pub maxHops : ℕ
-maxHops = 16
+maxHops = 24
 
 -- places in the table of routes from one flow's route to the next: no kind of field has a longer route
 abbrev pub routeStride : ℕ

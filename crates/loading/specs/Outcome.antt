@@ -3,7 +3,8 @@ use Prim.Native.Nat.{ℕ}
 use mathlib.Core.List.{List, [], _∷_}
 use Rattle.answers.specs.Answer.{Answer, result, refusal}
 use Rattle.cqf.specs.Plan.{Plan}
-use Rattle.plan.specs.Layout.{formBy, formNumber}
+use Rattle.cqf.specs.Form.{formNumber}
+use Rattle.plan.specs.Layout.{formBy}
 use Rattle.plan_reading.specs.Reading.{PlanRead, accepted, rejected, Mode, readAs}
 
 -- the load: the numbers of port and flow fields, or 1 to 9, or 12, with the offset

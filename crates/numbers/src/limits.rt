@@ -28,7 +28,7 @@ const MAX_COUNT: u64 = 64;
 
 const MAX_JITTER: u64 = 10_000_000;
 
-pub const MAX_HOPS: u64 = 16;
+pub const MAX_HOPS: u64 = 24;
 
 pub fn between(lo: u64, hi: u64, n: u64) -> bool
     ensures { λ r. ⌜ r ≡ within lo hi n ⌝ }

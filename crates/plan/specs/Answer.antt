@@ -9,7 +9,8 @@ use Rattle.plan.specs.declared.Head.{Head}
 use Rattle.plan.specs.declared.Head.the-variants.{Whole, Cut}
 use Rattle.plan.specs.declared.Field as declaredField
 use Rattle.plan.specs.declared.FieldRead as declaredRead
-use Rattle.plan.specs.Layout.{Form, older, Kind}
+use Rattle.cqf.specs.Form.{Form, older, newer}
+use Rattle.plan.specs.Layout.{Kind}
 use Rattle.plan.specs.Field.{HeadRead, head, cut, Field, FieldRead, field, refused}
 
 abbrev pub faultNumber : Fault → ℕ
@@ -26,6 +27,7 @@ faultNumber NotInPlan = notInPlan
 
 abbrev pub formOf : declaredForm.Form → Form
 formOf declaredForm.Form.Older = older
+formOf declaredForm.Form.Newer = newer
 
 abbrev pub headOf : Head → HeadRead
 headOf (Whole tag size) = head tag size
@@ -45,6 +47,12 @@ fieldOf (declaredField.Field.Extra e) = record { kind = Kind.extra; numbers = e 
 fieldOf (declaredField.Field.Jitter j) = record { kind = Kind.jitter; numbers = j .number ∷ j .jitter ∷ []; hops = 0 }
 fieldOf (declaredField.Field.Clock k) =
     record { kind = Kind.clock; numbers = k .drift ∷ k .«timing_jitter» ∷ k .«sync_error» ∷ []; hops = 0 }
+fieldOf (declaredField.Field.Header2 h) =
+    record { kind = Kind.header2; numbers = h .guard ∷ h .top ∷ h .drift ∷ h .«timing_jitter» ∷ h .«sync_error» ∷ []; hops = 0 }
+fieldOf (declaredField.Field.Port2 p) =
+    record { kind = Kind.port2; numbers = p .number ∷ p .rate ∷ p .blocking ∷ p .extra ∷ []; hops = 0 }
+fieldOf (declaredField.Field.Flow2 f) =
+    record { kind = Kind.flow2; numbers = f .number ∷ f .period ∷ f .count ∷ f .length ∷ f .jitter ∷ []; hops = f .hops }
 
 abbrev pub fieldReadOf : declaredRead.FieldRead → FieldRead
 fieldReadOf (declaredRead.FieldRead.Field x next) = field (fieldOf x) next

@@ -9,7 +9,8 @@ use Rattle.answers.specs.Refusals.{truncated, unknownTag, wrongLength, outOfRan
 use Rattle.cqf.specs.Bounded.{every, distinct}
 use Rattle.cqf.specs.Limits.{portOk}
 use Rattle.plan.specs.Bytes.{number2, number4, numbers2, headSize, tagAt, sizeAt, wholeAt, valueAt}
-use Rattle.plan.specs.Layout.{Width, two, four, bytesIn, Number, Kind, layout, Form, kinds, numbersSize, hopsAllowed}
+use Rattle.cqf.specs.Form.{Form}
+use Rattle.plan.specs.Layout.{Width, two, four, bytesIn, Number, Kind, layout, kinds, flowKind, numbersSize, hopsAllowed}
 
 -- a field as it is spelled: its kind and its numbers. A route stays in the field's value; hops is how many ports it has.
 pub record Field : Type 0 where
@@ -113,7 +114,7 @@ unfoldable pub fieldAt : Form → List ℕ → ℕ → FieldRead
 unfolding fieldIn wholeAt valueAt sizeAt
 fieldAt form s at = unless truncated at (wholeAt s at) (fieldIn form (tagAt s at) (valueAt s at) at (at + headSize + sizeAt s at))
 
--- test 7: a port twice in the route of a flow's value
-unfoldable pub repeats : List ℕ → Bool
+-- test 7: a port twice in the route of a flow's value, in a plan of this form
+unfoldable pub repeats : Form → List ℕ → Bool
 unfolding routeIn distinct
-repeats v = not (distinct (routeIn Kind.flow v))
+repeats form v = not (distinct (routeIn (flowKind form) v))

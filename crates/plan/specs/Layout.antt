@@ -1,11 +1,13 @@
 -- The wire format: a row for each kind of field (document 01, "The plan's bytes", and document 02). What is read, tested and
 -- written of a field follows from its row.
 use Prim.Native.Nat.{ℕ, zero, suc, _+_}
-use mathlib.Core.List.{List, [], _∷_}
-use mathlib.Core.Bool.{Bool, true, false}
+use mathlib.Core.List.{List, [], _∷_, _++_}
+use mathlib.Core.Bool.{Bool, true, false, cond}
 use lib.Dec.{eqb}
 use Rattle.cqf.specs.Bounded.{within}
+use Rattle.cqf.specs.Form.{Form, older, newer, mostHopsIn}
 use Rattle.cqf.specs.Limits.{portSlots, flowSlots, guardOk, topOk, driftOk, timingJitterOk, syncErrorOk, portOk, rateOk, lengthOk, blockingOk, extraOk, flowOk, periodOk, countOk, jitterOk}
+use Rattle.plan.specs.Bytes.{byteAt}
 
 -- a number stands in 2 bytes or in 4
 pub data Width : Type 0 where
@@ -27,10 +29,11 @@ in2 range = record { width = two; ok = range }
 abbrev in4 : (ℕ → Bool) → Number
 in4 range = record { width = four; ok = range }
 
--- a kind of field: its tag; the key before the first of its fields, or that of the one field that a plan may have of it; its numbers
+-- a kind of field: the form of the plans that may have it; its tag; the key before the first of its fields, or that of the one field that a plan may have of it; its numbers
 -- in their order; whether the first of them is the field's own number (a plan has one field of a kind without); and the most ports of
 -- the route that follows them, 0 where none does
 pub record Layout : Type 0 where
+  pub form : Form
   pub tag : ℕ
   pub key : ℕ
   pub numbers : List Number
@@ -44,34 +47,81 @@ pub data Kind : Type 0 where
   extra : Kind
   jitter : Kind
   clock : Kind
+  header2 : Kind
+  port2 : Kind
+  flow2 : Kind
 
 abbrev pub layout : Kind → Layout
-layout Kind.header = record { tag = 1; key = 0; numbers = in4 guardOk ∷ in4 topOk ∷ []; numbered = false; mostHops = 0 }
-layout Kind.port = record { tag = 2; key = 0; numbers = in2 portOk ∷ in4 rateOk ∷ in2 blockingOk ∷ []; numbered = true; mostHops = 0 }
+layout Kind.header = record { form = older; tag = 1; key = 0; numbers = in4 guardOk ∷ in4 topOk ∷ []; numbered = false; mostHops = 0 }
+layout Kind.port =
+    record { form = older; tag = 2; key = 0; numbers = in2 portOk ∷ in4 rateOk ∷ in2 blockingOk ∷ []; numbered = true; mostHops = 0 }
 layout Kind.flow =
-    record { tag = 3; key = portSlots; numbers = in2 flowOk ∷ in4 periodOk ∷ in2 countOk ∷ in2 lengthOk ∷ []; numbered = true; mostHops = 16 }
-layout Kind.extra = record { tag = 4; key = portSlots + flowSlots; numbers = in2 portOk ∷ in2 extraOk ∷ []; numbered = true; mostHops = 0 }
-layout Kind.jitter = record { tag = 5; key = portSlots + flowSlots + portSlots; numbers = in2 flowOk ∷ in4 jitterOk ∷ []; numbered = true; mostHops = 0 }
+    record {
+      form = older;
+      tag = 3;
+      key = portSlots;
+      numbers = in2 flowOk ∷ in4 periodOk ∷ in2 countOk ∷ in2 lengthOk ∷ [];
+      numbered = true;
+      mostHops = mostHopsIn older;
+    }
+layout Kind.extra =
+    record { form = older; tag = 4; key = portSlots + flowSlots; numbers = in2 portOk ∷ in2 extraOk ∷ []; numbered = true; mostHops = 0 }
+layout Kind.jitter =
+    record { form = older; tag = 5; key = portSlots + flowSlots + portSlots; numbers = in2 flowOk ∷ in4 jitterOk ∷ []; numbered = true; mostHops = 0 }
 layout Kind.clock =
-    record { tag = 6; key = portSlots + flowSlots + portSlots + flowSlots + 1; numbers = in4 driftOk ∷ in4 timingJitterOk ∷ in4 syncErrorOk ∷ []; numbered = false; mostHops = 0 }
+    record {
+      form = older;
+      tag = 6;
+      key = portSlots + flowSlots + portSlots + flowSlots + 1;
+      numbers = in4 driftOk ∷ in4 timingJitterOk ∷ in4 syncErrorOk ∷ [];
+      numbered = false;
+      mostHops = 0;
+    }
+-- tags 11, 12 and 13 (hexadecimal)
+layout Kind.header2 =
+    record {
+      form = newer;
+      tag = 17;
+      key = 0;
+      numbers = in4 guardOk ∷ in4 topOk ∷ in4 driftOk ∷ in4 timingJitterOk ∷ in4 syncErrorOk ∷ [];
+      numbered = false;
+      mostHops = 0;
+    }
+layout Kind.port2 =
+    record {
+      form = newer;
+      tag = 18;
+      key = 0;
+      numbers = in2 portOk ∷ in4 rateOk ∷ in2 blockingOk ∷ in2 extraOk ∷ [];
+      numbered = true;
+      mostHops = 0;
+    }
+layout Kind.flow2 =
+    record {
+      form = newer;
+      tag = 19;
+      key = portSlots;
+      numbers = in2 flowOk ∷ in4 periodOk ∷ in2 countOk ∷ in2 lengthOk ∷ in4 jitterOk ∷ [];
+      numbered = true;
+      mostHops = mostHopsIn newer;
+    }
 
--- every kind
-abbrev pub everyKind : List Kind
-everyKind = Kind.header ∷ Kind.port ∷ Kind.flow ∷ Kind.extra ∷ Kind.jitter ∷ Kind.clock ∷ []
-
--- the form of a plan: the kinds of field that it may have. A plan's bytes tell which it is; there is one yet.
-pub data Form : Type 0 where
-  older : Form
-
+-- the kinds of field that a plan of each form may have; every kind
 abbrev pub kinds : Form → List Kind
-kinds older = everyKind
+kinds older = Kind.header ∷ Kind.port ∷ Kind.flow ∷ Kind.extra ∷ Kind.jitter ∷ Kind.clock ∷ []
+kinds newer = Kind.header2 ∷ Kind.port2 ∷ Kind.flow2 ∷ []
 
--- its number, as a planner holds it
-abbrev pub formNumber : Form → ℕ
-formNumber older = 0
+abbrev pub everyKind : List Kind
+everyKind = kinds older ++ kinds newer
 
-abbrev pub formBy : List ℕ → Form
-formBy s = older
+-- a plan is of the newer form when its first byte is the tag of that form's header
+unfoldable pub formBy : List ℕ → Form
+formBy s = cond (eqb (byteAt s 0) (layout Kind.header2 .tag)) newer older
+
+-- the kind of the flows in a plan of this form
+abbrev pub flowKind : Form → Kind
+flowKind older = Kind.flow
+flowKind newer = Kind.flow2
 
 -- the bytes of these numbers
 abbrev pub widths : List Number → ℕ

@@ -2,7 +2,8 @@
 
 use crate::Form;
 ghost use mathlib.Core.Path.{_≡_};
-ghost use Rattle.plan.specs.Layout.{formBy, formNumber};
+ghost use Rattle.cqf.specs.Form.{formNumber};
+ghost use Rattle.plan.specs.Layout.{formBy};
 ghost use Rattle.plan.specs.Answer.{formOf};
 
 pub fn form_by(plan: &[u8]) -> Form

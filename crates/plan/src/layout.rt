@@ -73,6 +73,32 @@ pub const SYNC_ERROR_AT: usize = TIMING_JITTER_AT + 4;
 
 pub const CLOCK_SIZE: usize = SYNC_ERROR_AT + 4;
 
+// The newer form's fields begin as the older ones of their kind do.
+pub const HEADER2_TAG: u8 = 0x11;
+
+pub const HEADER2_DRIFT_AT: usize = HEADER_SIZE;
+
+pub const HEADER2_TIMING_JITTER_AT: usize = HEADER2_DRIFT_AT + 4;
+
+pub const HEADER2_SYNC_ERROR_AT: usize = HEADER2_TIMING_JITTER_AT + 4;
+
+pub const HEADER2_SIZE: usize = HEADER2_SYNC_ERROR_AT + 4;
+
+pub const PORT2_TAG: u8 = 0x12;
+
+pub const PORT2_EXTRA_AT: usize = PORT_SIZE;
+
+pub const PORT2_SIZE: usize = PORT2_EXTRA_AT + 2;
+
+pub const FLOW2_TAG: u8 = 0x13;
+
+pub const FLOW2_MAX_HOPS: usize = 24;
+
+pub const FLOW2_JITTER_AT: usize = FLOW_SIZE;
+
+// Its value before its route.
+pub const FLOW2_SIZE: usize = FLOW2_JITTER_AT + 4;
+
 // Where the route of a field starts in its value: behind its other numbers.
 pub fn route_start(field: Field) -> usize
     ensures { λ r. ⌜ r ≡ numbersSize (fieldOf field .kind) ⌝ }
@@ -84,5 +110,8 @@ pub fn route_start(field: Field) -> usize
         Field::Extra(_) => EXTRA_SIZE,
         Field::Jitter(_) => JITTER_SIZE,
         Field::Clock(_) => CLOCK_SIZE,
+        Field::Header2(_) => HEADER2_SIZE,
+        Field::Port2(_) => PORT2_SIZE,
+        Field::Flow2(_) => FLOW2_SIZE,
     }
 }

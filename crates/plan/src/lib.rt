@@ -41,9 +41,10 @@ pub enum Fault {
     NotInPlan,
 }
 
-// The form of a plan: the kinds of field that it may have. There is one yet.
+// The form of a plan (document 02: the old and the new one): the kinds of field that it may have.
 pub enum Form {
     Older,
+    Newer,
 }
 
 pub enum Head {
@@ -83,6 +84,33 @@ pub struct Jitter {
     pub jitter: u32,
 }
 
+// The newer form's header: the clocks' numbers stand in it.
+pub struct Header2 {
+    pub guard: u32,
+    pub top: u32,
+    pub drift: u32,
+    pub timing_jitter: u32,
+    pub sync_error: u32,
+}
+
+// The newer form's port, with its extra bytes.
+pub struct Port2 {
+    pub number: u16,
+    pub rate: u32,
+    pub blocking: u16,
+    pub extra: u16,
+}
+
+// The newer form's flow, with its jitter. The route stays in the field's value.
+pub struct Flow2 {
+    pub number: u16,
+    pub period: u32,
+    pub count: u16,
+    pub length: u16,
+    pub jitter: u32,
+    pub hops: u8,
+}
+
 pub enum Field {
     Header(Header),
     Port(Port),
@@ -90,6 +118,9 @@ pub enum Field {
     Extra(Extra),
     Jitter(Jitter),
     Clock(Clock),
+    Header2(Header2),
+    Port2(Port2),
+    Flow2(Flow2),
 }
 
 pub enum FieldRead {

@@ -1,7 +1,8 @@
 -- A field's key: one number for each thing that a plan may say once. Test 6 asks for the key, and so does test 12 of the strict
 -- reading: keys rise with tag and number. In the loose reading fields of different keys may stand in any order. The header has key 0,
 -- port n key n, flow n the n-th key after the ports, the extra bytes of port n the n-th after the flows, the jitter of flow n the n-th
--- after those, the clock the one after these; a later kind goes on from there.
+-- after those, the clock the one after these. A plan has fields of one form only, and those of the newer one have the keys of the
+-- header, the ports and the flows.
 use Prim.Native.Nat.{ℕ, _+_}
 use Rattle.cqf.specs.Limits.{portSlots, flowSlots}
 use Rattle.plan.specs.Layout.{layout}

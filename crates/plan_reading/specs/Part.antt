@@ -22,6 +22,12 @@ partsBy Kind.flow ns r = flow (getD ns 0 0) (getD ns 1 0) (getD ns 2 0) (getD ns
 partsBy Kind.extra ns r = extra (getD ns 0 0) (getD ns 1 0) ∷ []
 partsBy Kind.jitter ns r = jitter (getD ns 0 0) (getD ns 1 0) ∷ []
 partsBy Kind.clock ns r = clock (record { drift = getD ns 0 0; timingJitter = getD ns 1 0; syncError = getD ns 2 0 }) ∷ []
+partsBy Kind.header2 ns r =
+    header (getD ns 0 0) (getD ns 1 0)
+    ∷ clock (record { drift = getD ns 2 0; timingJitter = getD ns 3 0; syncError = getD ns 4 0 })
+    ∷ []
+partsBy Kind.port2 ns r = port (getD ns 0 0) (getD ns 1 0) (getD ns 2 0) ∷ extra (getD ns 0 0) (getD ns 3 0) ∷ []
+partsBy Kind.flow2 ns r = flow (getD ns 0 0) (getD ns 1 0) (getD ns 2 0) (getD ns 3 0) r ∷ jitter (getD ns 0 0) (getD ns 4 0) ∷ []
 
 abbrev pub partsOf : Field → List ℕ → List Part
 partsOf x r = partsBy (x .kind) (x .numbers) r

@@ -10,7 +10,8 @@ use Rattle.cqf.specs.Bounded.{within, every}
 use Rattle.cqf.specs.Limits.{flowOk}
 use Rattle.cqf.specs.Plan.{Plan, portIn}
 use Rattle.plan.specs.Bytes.{number2, headSize, tagAt, sizeAt, wholeAt, valueAt}
-use Rattle.plan.specs.Layout.{Form, formBy, Kind, layout}
+use Rattle.cqf.specs.Form.{Form, older, newer}
+use Rattle.plan.specs.Layout.{formBy, Kind, layout}
 use Rattle.plan.specs.Field.{Field, FieldRead, field, refused, fieldAt, routeIn}
 use Rattle.plan_reading.specs.Key.{headerKey, keyOf}
 use Rattle.plan_reading.specs.Draft.{Draft, blank, hasKey, taken, fieldRepeats, added}
@@ -28,6 +29,11 @@ pub data PlanRead : Type 0 where
 pub data Mode : Type 0 where
   loose : Mode
   strict : Mode
+
+-- a plan of the newer form is read strictly in either reading
+abbrev pub modeIn : Form → Mode → Mode
+modeIn older mode = mode
+modeIn newer mode = strict
 
 -- one field: refused, or read with the offset after it and its key
 pub data Step : Type 0 where
@@ -71,10 +77,15 @@ firstFrom sought (suc n) s at =
 abbrev pub firstField : (List ℕ → ℕ → Bool) → List ℕ → ℕ
 firstField sought s = firstFrom sought (length s) s 0
 
--- test 9 seeks a flow whose route names a port that is not in the plan with these rates
-unfoldable pub namesAbsent : List ℕ → List ℕ → ℕ → Bool
+-- a flow of this kind whose route names a port that is not in the plan with these rates
+unfoldable pub absentIn : Kind → List ℕ → List ℕ → ℕ → Bool
 unfolding valueAt every routeIn
-namesAbsent rates s at = eqb (tagAt s at) (layout Kind.flow .tag) && not (every (portIn rates) (routeAt Kind.flow s at))
+absentIn k rates s at = eqb (tagAt s at) (layout k .tag) && not (every (portIn rates) (routeAt k s at))
+
+-- test 9 seeks such a flow, of either form
+unfoldable pub namesAbsent : List ℕ → List ℕ → ℕ → Bool
+unfolding absentIn
+namesAbsent rates s at = absentIn Kind.flow rates s at || absentIn Kind.flow2 rates s at
 
 -- whether a flow of number n is in the plan: its period is not 0
 abbrev pub hasFlow : List ℕ → ℕ → Bool
@@ -127,9 +138,16 @@ readFrom form mode (suc n) s at last d =
       | false ↦ closing s d
     ]
 
-unfoldable pub readAs : Mode → List ℕ → PlanRead
+-- bytes read as a plan of this form
+unfoldable pub readForm : Form → Mode → List ℕ → PlanRead
 unfolding readFrom blank
-readAs mode s = elim (within 1 maxBytes (length s)) [ true ↦ readFrom (formBy s) mode (length s) s 0 0 blank | false ↦ rejected badSize 0 ]
+readForm form mode s =
+    elim (within 1 maxBytes (length s)) [ true ↦ readFrom form (modeIn form mode) (length s) s 0 0 blank | false ↦ rejected badSize 0 ]
+
+-- bytes read as a plan of the form that they tell
+unfoldable pub readAs : Mode → List ℕ → PlanRead
+unfolding readForm formBy
+readAs mode s = readForm (formBy s) mode s
 
 -- the loose reading
 unfoldable pub readPlan : List ℕ → PlanRead

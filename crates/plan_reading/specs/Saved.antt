@@ -6,6 +6,7 @@ use mathlib.Core.Bool.{Bool, cond, not}
 use lib.Dec.{ltb}
 use lib.ListN.{length}
 use Rattle.cqf.specs.Limits.{portSlots, flowSlots}
+use Rattle.cqf.specs.Form.{Form, older, newer}
 use Rattle.cqf.specs.Plan.{Plan, clocksEqual, rateOf, blockingOf, extraOf, periodOf, countOf, lengthOf, jitterOf, routeOf}
 use Rattle.plan.specs.Layout.{Kind}
 use Rattle.plan_reading.specs.Part.{Part, header, port, flow, extra, jitter, clock}
@@ -94,6 +95,52 @@ partBytes xs = rowBytes (spellAll xs)
 unfoldable pub savedBytes : Plan → List ℕ
 unfolding savedParts rowBytes
 savedBytes p = partBytes (savedParts p)
+
+-- The same in the newer form: the header with the clocks, the ports with their extra bytes, the flows with their jitter, each by rising
+-- number.
+abbrev pub header2Field : Plan → Entry
+header2Field p =
+    plain Kind.header2 (p .guard ∷ p .top ∷ p .clock .drift ∷ p .clock .timingJitter ∷ p .clock .syncError ∷ [])
+
+abbrev pub port2Field : Plan → ℕ → Entry
+port2Field p q = plain Kind.port2 (suc q ∷ rateOf p q ∷ blockingOf p q ∷ extraOf p q ∷ [])
+
+abbrev pub flow2Field : Plan → ℕ → Entry
+flow2Field p f =
+    entryOf
+    (record {
+      kind = Kind.flow2;
+      numbers = suc f ∷ periodOf p f ∷ countOf p f ∷ lengthOf p f ∷ jitterOf p f ∷ [];
+      hops = length (routeOf p f);
+    })
+    (routeOf p f)
+
+-- a field where the test holds, and the fields of the first n slots
+abbrev pub fieldWhen : Bool → Entry → List Entry
+fieldWhen test e = cond test (e ∷ []) []
+
+unfoldable pub collectFields : ℕ → (ℕ → List Entry) → List Entry
+collectFields zero at = []
+collectFields (suc n) at = collectFields n at ++ at n
+
+abbrev pub port2Fields : Plan → ℕ → List Entry
+port2Fields p q = fieldWhen (ltb 0 (rateOf p q)) (port2Field p q)
+
+abbrev pub flow2Fields : Plan → ℕ → List Entry
+flow2Fields p f = fieldWhen (ltb 0 (periodOf p f)) (flow2Field p f)
+
+unfoldable pub newerFields : Plan → List Entry
+unfolding collectFields
+newerFields p = header2Field p ∷ (collectFields portSlots (port2Fields p) ++ collectFields flowSlots (flow2Fields p))
+
+-- the fields as which a plan is saved in each form, and their bytes
+abbrev pub formFields : Form → Plan → List Entry
+formFields older p = savedFields p
+formFields newer p = newerFields p
+
+unfoldable pub formBytes : Form → Plan → List ℕ
+unfolding savedParts newerFields rowBytes
+formBytes form p = rowBytes (formFields form p)
 
 -- no field of a plan says what its absence says
 abbrev pub NoneSaysNothing : List ℕ → Type 0

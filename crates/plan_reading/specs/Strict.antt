@@ -8,7 +8,8 @@ use lib.Dec.{leb, ltb, eqb}
 use lib.ListN.{length}
 use Rattle.answers.specs.Refusals.{outOfOrder}
 use Rattle.cqf.specs.Plan.{Plan}
-use Rattle.plan.specs.Layout.{Form, formBy}
+use Rattle.cqf.specs.Form.{Form}
+use Rattle.plan.specs.Layout.{formBy}
 use Rattle.plan.specs.Field.{Field, field, refused, fieldAt}
 use Rattle.plan_reading.specs.Rank.{before}
 use Rattle.plan_reading.specs.Reading.{PlanRead, accepted, rejected, Mode, routeAt, readAs}
@@ -38,7 +39,7 @@ fieldsFrom form (suc n) s at =
 
 -- the fields of a plan, from the front
 unfoldable pub fieldsIn : List ℕ → List Entry
-unfolding fieldsFrom
+unfolding fieldsFrom formBy
 fieldsIn s = fieldsFrom (formBy s) (length s) s 0
 
 -- two plans hold the same fields, in whatever order
@@ -75,7 +76,7 @@ lateFrom form (suc n) front s at =
     ]
 
 unfoldable pub firstLate : List ℕ → ℕ
-unfolding lateFrom
+unfolding lateFrom formBy
 firstLate s = lateFrom (formBy s) (length s) [] s 0
 
 -- whether an answer of the loose reading is found before test 12 finds a field at this offset. Fields are taken from the front,

@@ -3,9 +3,10 @@ use Prim.Native.Nat.{ℕ}
 use mathlib.Core.List.{List, [], _∷_}
 use mathlib.Core.Option.{Option, none, some}
 use lib.IntN.{ℤ}
+use Rattle.cqf.specs.Form.{older, formNumber}
 use Rattle.cqf.specs.Plan.{Plan, noPlan}
 use Rattle.plan_reading.specs.Reading.{PlanRead, accepted, rejected, Mode, readAs}
-use Rattle.loading.specs.Outcome.{loadLeaves}
+use Rattle.loading.specs.Outcome.{loadLeaves, loadForm}
 use Rattle.questions.specs.declared.one_span.SpanRecord.{SpanRecord}
 
 -- a question, with what it is given; the searches are lent a scratch, the lean ones of one number at least, those that write fields
@@ -43,6 +44,20 @@ afterFrom p (c ∷ cs) = afterFrom (leaves p c) cs
 unfoldable pub after : List Call → Plan
 unfolding afterFrom noPlan
 after calls = afterFrom noPlan calls
+
+-- the number of the form beside it, that of the empty planner being the older one's
+abbrev pub formLeaves : ℕ → Call → ℕ
+formLeaves form (load mode s) = loadForm mode form s
+formLeaves form (ask x) = form
+
+unfoldable pub formAfterFrom : ℕ → List Call → ℕ
+unfolding loadForm
+formAfterFrom form [] = form
+formAfterFrom form (c ∷ cs) = formAfterFrom (formLeaves form c) cs
+
+unfoldable pub formAfter : List Call → ℕ
+unfolding formAfterFrom
+formAfter calls = formAfterFrom (formNumber older) calls
 
 -- the bytes of the last load in which the rules of its reading find no refusal
 abbrev pub accepting : Option (List ℕ) → List ℕ → PlanRead → Option (List ℕ)

@@ -4,6 +4,7 @@ use mathlib.Core.List.{List, [], _∷_}
 use Prim.Native.Nat.{ℕ}
 use lib.IntN.{ℤ}
 use lib.ListN.{length}
+use Rattle.cqf.specs.Form.{formFrom}
 use Rattle.cqf.specs.Plan.{Plan}
 use Rattle.span_lists.specs.Span.{Span}
 use Rattle.answers.specs.Answer.{Answer, refusal}
@@ -28,19 +29,20 @@ pub data Reply : Type 0 where
   ofSpan : Answer Span → Reply
   ofSpans : Answer ℕ → (list : List SpanRecord) → Reply
 
-abbrev pub reply : Plan → Question → Reply
-reply p (check T) = ofCheck (checkAnswer p T)
-reply p (slack n T) = ofSlack (slackAnswer p n T)
-reply p (least scratch) = ofSearch (leastAnswer p scratch) (leastLeaves p scratch)
-reply p (marginSafe scratch) = ofSearch (marginSafeAnswer p scratch) (marginSafeLeaves p scratch)
-reply p (leanLeast scratch) = ofSearch (leanLeastAnswer p scratch) (leanLeastLeaves p scratch)
-reply p (leanMarginSafe scratch) = ofSearch (leanMarginSafeAnswer p scratch) (leanMarginSafeLeaves p scratch)
-reply p (fixedPoint start steps) = ofFixedPoint (fixedPointAnswer p start steps)
-reply p (save buffer) = ofWriting (saveAnswer p buffer) (saveLeaves p buffer)
-reply p (gates T even odd buffer) = ofWriting (gatesAnswer p T even odd buffer) (gatesLeaves p T even odd buffer)
-reply p (reprice T n bytes out) = ofReprice (repriceAnswer p T n bytes out) (repriceLeaves p T n bytes out)
-reply p (span T) = ofSpan (spanAnswer p T)
-reply p (spans list) = ofSpans (spansAnswer p (length list)) (spansLeaves p list)
+-- by a planner that holds this plan, read in the form of this number, which only saving asks for
+abbrev pub reply : (form : ℕ) → Plan → Question → Reply
+reply form p (check T) = ofCheck (checkAnswer p T)
+reply form p (slack n T) = ofSlack (slackAnswer p n T)
+reply form p (least scratch) = ofSearch (leastAnswer p scratch) (leastLeaves p scratch)
+reply form p (marginSafe scratch) = ofSearch (marginSafeAnswer p scratch) (marginSafeLeaves p scratch)
+reply form p (leanLeast scratch) = ofSearch (leanLeastAnswer p scratch) (leanLeastLeaves p scratch)
+reply form p (leanMarginSafe scratch) = ofSearch (leanMarginSafeAnswer p scratch) (leanMarginSafeLeaves p scratch)
+reply form p (fixedPoint start steps) = ofFixedPoint (fixedPointAnswer p start steps)
+reply form p (save buffer) = ofWriting (saveAnswer (formFrom form) p buffer) (saveLeaves (formFrom form) p buffer)
+reply form p (gates T even odd buffer) = ofWriting (gatesAnswer p T even odd buffer) (gatesLeaves p T even odd buffer)
+reply form p (reprice T n bytes out) = ofReprice (repriceAnswer p T n bytes out) (repriceLeaves p T n bytes out)
+reply form p (span T) = ofSpan (spanAnswer p T)
+reply form p (spans list) = ofSpans (spansAnswer p (length list)) (spansLeaves p list)
 
 -- 20 with 0, and lent memory as it was
 abbrev pub noPlanReply : Question → Reply
@@ -58,5 +60,12 @@ noPlanReply (span T) = ofSpan (refusal noPlanHeld (0 ∷ []))
 noPlanReply (spans list) = ofSpans (refusal noPlanHeld (0 ∷ [])) list
 
 -- two planners that answer every question alike
-abbrev pub SameAnswers : Plan → Plan → Type 0
-SameAnswers p q = (x : Question) → reply p x ≡ reply q x
+abbrev pub SameAnswers : (form : ℕ) → Plan → (other : ℕ) → Plan → Type 0
+SameAnswers form p other q = (x : Question) → reply form p x ≡ reply other q x
+
+-- saving apart
+abbrev pub Saves : Question → Type 0
+Saves x = (buffer : List ℕ) × (x ≡ save buffer)
+
+abbrev pub SameButSaving : (form : ℕ) → Plan → (other : ℕ) → Plan → Type 0
+SameButSaving form p other q = (x : Question) → (Saves x → ⊥) → reply form p x ≡ reply other q x

@@ -3,7 +3,8 @@ use Prim.Native.Nat.{ℕ}
 use mathlib.Core.Path.{_≡_, ap}
 use mathlib.Core.List.{List, [], _∷_}
 use Rattle.cqf.specs.Plan.{Plan}
-use Rattle.plan.specs.Layout.{formBy, formNumber}
+use Rattle.cqf.specs.Form.{formNumber}
+use Rattle.plan.specs.Layout.{formBy}
 use Rattle.plan_reading.specs.Reading.{accepted, rejected, Mode, readAs}
 use Rattle.answers.specs.Answer.{result, refusal}
 use Rattle.loading.specs.Outcome.{readingAnswer, readingLeaves, readingForm, loadAnswer, loadLeaves, loadForm}

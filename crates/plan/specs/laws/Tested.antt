@@ -3,7 +3,7 @@ use Prim.Native.Nat.{ℕ, _+_, _*_}
 use mathlib.Core.Path.{_≡_, refl, sym, ap, _∙_}
 use mathlib.Core.List.{List, [], _∷_}
 use mathlib.Core.Option.{some, none}
-use mathlib.Core.Bool.{true, false, and-true, and-eq-true-iff}
+use mathlib.Core.Bool.{Bool, true, false, and-true, and-eq-true-iff}
 use mathlib.Mathlib.Data.Bool.Basic.{eq-false-of-not-eq-true}
 use native.Mathlib.Omega.{arith}
 use borrow.Author.Tests.{eq-eqb, ne-eqb, eqb-true}
@@ -11,7 +11,8 @@ use lib.Dec.{eqb}
 use lib.ListN.{length, drop-of-length-le}
 use Rattle.cqf.specs.Bounded.{every}
 use Rattle.plan.specs.Bytes.{headSize, tagAt, sizeAt, wholeAt, valueAt}
-use Rattle.plan.specs.Layout.{Kind, layout, numbersSize, hopsAllowed, everyKind, Form, older, kinds}
+use Rattle.cqf.specs.Form.{Form, older, newer}
+use Rattle.plan.specs.Layout.{Kind, layout, numbersSize, hopsAllowed, everyKind, kinds}
 use Rattle.plan.specs.Field.{field, refused, numbersAt, inRanges, hopsIn, routePorts, routeIn, fieldBy, sizeOk, rangesOk, valueIn, kindBy, kindRead, fieldIn, fieldAt}
 
 -- test 2
@@ -33,6 +34,9 @@ kind-found Kind.flow = refl
 kind-found Kind.extra = refl
 kind-found Kind.jitter = refl
 kind-found Kind.clock = refl
+kind-found Kind.header2 = refl
+kind-found Kind.port2 = refl
+kind-found Kind.flow2 = refl
 
 -- so a tag is that of one kind
 pub tag-kind : (j k : Kind) → layout j .tag ≡ layout k .tag → j ≡ k
@@ -40,21 +44,58 @@ tag-kind j k e =
     let same : some j ≡ some k = sym (kind-found j) ∙ ap (kindBy everyKind) e ∙ kind-found k in
     cc
 
--- each kind may stand in a plan of this form
-of-form : (form : Form) (k : Kind) → kindBy (kinds form) (layout k .tag) ≡ some k
-of-form older k = kind-found k
+-- a kind may stand in the plans of its form
+of-form : (k : Kind) → kindBy (kinds (layout k .form)) (layout k .tag) ≡ some k
+unfolding kindBy
+of-form Kind.header = refl
+of-form Kind.port = refl
+of-form Kind.flow = refl
+of-form Kind.extra = refl
+of-form Kind.jitter = refl
+of-form Kind.clock = refl
+of-form Kind.header2 = refl
+of-form Kind.port2 = refl
+of-form Kind.flow2 = refl
 
-none-found : (ks : List Kind) (tag : ℕ) → ((k : Kind) → tag ≡ layout k .tag → ⊥) → kindBy ks tag ≡ none
+-- and in no other
+abbrev AllOf : Form → List Kind → Type 0
+AllOf form [] = Unit {0}
+AllOf form (k ∷ ks) = (layout k .form ≡ form) × AllOf form ks
+
+found-of : (form : Form) (ks : List Kind) (tag : ℕ) (k : Kind) → AllOf form ks → kindBy ks tag ≡ some k → layout k .form ≡ form
+unfolding kindBy
+found-of form [] tag k of e = let z : _≡_ {A = ℕ} 0 1 = cc in absurd (omega arith)
+found-of form (m ∷ ms) tag k of e = go (found-of form ms tag k (of .1)) (eqb tag (layout m .tag)) e
+  where
+    go
+        : (kindBy ms tag ≡ some k → layout k .form ≡ form)
+        → (b : Bool)
+        → elim b [ true ↦ some m | false ↦ kindBy ms tag ] ≡ some k
+        → layout k .form ≡ form
+    go rest true e = let same : m ≡ k = cc in ap (λ (n : Kind). layout n .form) (sym same) ∙ of .0
+    go rest false e = rest e
+
+pub kind-form : (form : Form) (tag : ℕ) (k : Kind) → kindBy (kinds form) tag ≡ some k → layout k .form ≡ form
+kind-form older tag k e = found-of older (kinds older) tag k (refl, (refl, (refl, (refl, (refl, (refl, tt)))))) e
+kind-form newer tag k e = found-of newer (kinds newer) tag k (refl, (refl, (refl, tt))) e
+
+-- a tag that none of these kinds has
+abbrev pub NoneHas : ℕ → List Kind → Type 0
+NoneHas tag [] = Unit {0}
+NoneHas tag (k ∷ ks) = (tag ≡ layout k .tag → ⊥) × NoneHas tag ks
+
+none-found : (ks : List Kind) (tag : ℕ) → NoneHas tag ks → kindBy ks tag ≡ none
 unfolding kindBy
 none-found [] tag other = refl
-none-found (k ∷ ks) tag other = rw (ne-eqb tag (layout k .tag) (other k), kindBy) (none-found ks tag other)
+none-found (k ∷ ks) tag other = rw (ne-eqb tag (layout k .tag) (other .0), kindBy) (none-found ks tag (other .1))
 
 module _ (v : List ℕ) (at next : ℕ) where
-  pub tag-known : (form : Form) (k : Kind) (tag : ℕ) → tag ≡ layout k .tag → fieldIn form tag v at next ≡ valueIn k v at next
+  pub tag-known : (k : Kind) (tag : ℕ) → tag ≡ layout k .tag → fieldIn (layout k .form) tag v at next ≡ valueIn k v at next
   unfolding fieldIn
-  tag-known form k tag e = ap (λ (t : ℕ). kindRead (kindBy (kinds form) t) v at next) e ∙ ap (λ o. kindRead o v at next) (of-form form k)
+  tag-known k tag e =
+      ap (λ (t : ℕ). kindRead (kindBy (kinds (layout k .form)) t) v at next) e ∙ ap (λ o. kindRead o v at next) (of-form k)
 
-  pub tag-unknown : (form : Form) (tag : ℕ) → ((k : Kind) → tag ≡ layout k .tag → ⊥) → fieldIn form tag v at next ≡ refused 3 at
+  pub tag-unknown : (form : Form) (tag : ℕ) → NoneHas tag (kinds form) → fieldIn form tag v at next ≡ refused 3 at
   unfolding fieldIn
   tag-unknown form tag other = ap (λ o. kindRead o v at next) (none-found (kinds form) tag other)
 

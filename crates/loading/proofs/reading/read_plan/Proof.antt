@@ -10,7 +10,7 @@ use lib.ListN.{length}
 use denote.Ref.{now}
 use Rattle.cqf.specs.Bounded.{within}
 use Rattle.cqf.specs.Plan.{noPlan}
-use Rattle.plan.specs.Layout.{Form, formNumber}
+use Rattle.cqf.specs.Form.{Form, formNumber}
 use Rattle.plan.specs.Answer.{formOf}
 use Rattle.plan_reading.specs.Draft.{Draft, blank}
 use Rattle.plan_reading.specs.Reading.{Mode, Step, more, stepAt, readFrom, readAs, maxBytes}

@@ -2,7 +2,7 @@
 use mathlib.Core.Path.{_≡_, refl}
 use Prim.Native.Nat.{ℕ}
 use Rattle.plan.specs.declared.Form.{Form}
-use Rattle.plan.specs.Layout.{formNumber}
+use Rattle.cqf.specs.Form.{formNumber}
 use Rattle.plan.specs.Answer.{formOf}
 use Rattle.plan.proofs.forms.form_number.Statement.{statement}
 use Rattle.plan.proofs.forms.form_number.Tie as tie

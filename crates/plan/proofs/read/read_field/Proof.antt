@@ -2,7 +2,7 @@
 use mathlib.Core.Path.{ap, _∙_}
 use borrow.Author.Needs.{needs}
 use denote.Ref.{now}
-use Rattle.plan.specs.Layout.{Form}
+use Rattle.cqf.specs.Form.{Form}
 use Rattle.plan.specs.Field.{fieldAt}
 use Rattle.plan.proofs.read.read_field.Statement.{statement}
 use Rattle.plan.proofs.read.read_field.Tie as tie

@@ -8,7 +8,8 @@ use borrow.Author.Tests.{eq-eqb}
 use lib.ListN.{length, length-append}
 use lib.Seq.{getD-append-add, drop-at}
 use Rattle.plan.specs.Bytes.{byteAt, number2, number4, numbers2}
-use Rattle.plan.specs.Layout.{Form, Width, two, four, bytesIn, Number, widths, layout, numbersSize}
+use Rattle.cqf.specs.Form.{Form}
+use Rattle.plan.specs.Layout.{Width, two, four, bytesIn, Number, widths, layout, numbersSize}
 use Rattle.plan.specs.Field.{Field, field, numberIn, numbersAt, inRanges, hopsIn, routePorts, routeIn, fieldBy, sizeOk, rangesOk, fieldIn}
 use Rattle.plan_reading.specs.Rank.{tagOf}
 use Rattle.plan_reading.specs.Ranges.{NumbersOk, RouteFits}

@@ -5,7 +5,7 @@ use mathlib.Core.List.{List}
 use native.Mathlib.Omega.{arith}
 use lib.ListN.{length}
 use Rattle.plan.specs.Bytes.{headSize}
-use Rattle.plan.specs.Layout.{Form}
+use Rattle.cqf.specs.Form.{Form}
 use Rattle.plan.specs.Field.{Field, field, fieldAt}
 use Rattle.plan_reading.specs.Ranges.{NumbersOk, RouteFits}
 use Rattle.plan_reading.specs.Reading.{routeAt}

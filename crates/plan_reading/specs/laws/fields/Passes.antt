@@ -10,7 +10,8 @@ use lib.ListN.{length}
 use borrow.Author.Tests.{eqb-true}
 use Rattle.cqf.specs.Bounded.{every}
 use Rattle.plan.specs.Bytes.{headSize, tagAt, sizeAt, wholeAt, valueAt}
-use Rattle.plan.specs.Layout.{Form, Kind, layout, hopsAllowed, kinds}
+use Rattle.cqf.specs.Form.{Form}
+use Rattle.plan.specs.Layout.{Kind, layout, hopsAllowed, kinds}
 use Rattle.plan.specs.Field.{Field, FieldRead, field, refused, unless, numbersAt, inRanges, hopsIn, routeIn, fieldBy, sizeOk, rangesOk, valueIn, kindBy, kindRead, fieldIn, fieldAt}
 use Rattle.plan_reading.specs.Ranges.{NumbersOk, RouteFits}
 use Rattle.plan_reading.specs.Rank.{tagOf}

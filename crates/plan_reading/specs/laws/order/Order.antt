@@ -7,7 +7,7 @@ use lib.ListN.{length, getD, take, drop, length-append, length-drop, length-repl
 use lib.Seq.{getD-append-add, drop-append-add, drop-append-le, take-append-le}
 use Rattle.cqf.specs.Plan.{Plan}
 use Rattle.plan.specs.Bytes.{headSize, tagAt, sizeAt, valueAt}
-use Rattle.plan.specs.Layout.{Form}
+use Rattle.cqf.specs.Form.{Form}
 use Rattle.plan_reading.specs.Key.{keySlots}
 use Rattle.plan_reading.specs.Draft.{Draft, blank, added}
 use Rattle.plan_reading.specs.Reading.{accepted, routeAt, readPlan}

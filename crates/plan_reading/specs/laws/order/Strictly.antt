@@ -8,7 +8,8 @@ use borrow.Author.Tests.{lt-ltb, le-ltb, le-leb, ltb-true, ltb-false}
 use lib.Dec.{ltb}
 use lib.ListN.{length}
 use Rattle.cqf.specs.Bounded.{within}
-use Rattle.plan.specs.Layout.{Form, formBy}
+use Rattle.cqf.specs.Form.{Form}
+use Rattle.plan.specs.Layout.{formBy}
 use Rattle.plan.specs.Field.{Field, FieldRead, field, refused, fieldAt}
 use Rattle.plan_reading.specs.Key.{keyOf}
 use Rattle.plan_reading.specs.Ranges.{NumbersOk}

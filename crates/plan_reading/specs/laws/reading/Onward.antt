@@ -8,7 +8,7 @@ use borrow.Author.Tests.{lt-ltb, le-ltb, ltb-true, ltb-false}
 use lib.Dec.{ltb}
 use lib.ListN.{length}
 use Rattle.plan.specs.Bytes.{headSize}
-use Rattle.plan.specs.Layout.{Form}
+use Rattle.cqf.specs.Form.{Form}
 use Rattle.plan_reading.specs.Part.{partsOf}
 use Rattle.plan_reading.specs.Draft.{Draft, added, portsIn, flowsIn, sumOf}
 use Rattle.plan_reading.specs.Reading.{rejected, Mode, routeAt, Step, stop, more, stepAt, closing, readFrom}

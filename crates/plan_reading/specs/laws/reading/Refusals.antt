@@ -9,7 +9,8 @@ use borrow.Author.Tests.{lt-leb, le-ltb, ltb-true, ltb-false}
 use lib.Dec.{leb, ltb, eqb}
 use lib.ListN.{length}
 use Rattle.plan.specs.Bytes.{headSize, tagAt, sizeAt, wholeAt, valueAt}
-use Rattle.plan.specs.Layout.{Form, Kind, kinds}
+use Rattle.cqf.specs.Form.{Form}
+use Rattle.plan.specs.Layout.{Kind, kinds}
 use Rattle.plan.specs.Field.{FieldRead, field, refused, unless, fieldBy, sizeOk, rangesOk, valueIn, kindBy, kindRead, fieldIn, fieldAt}
 use Rattle.plan_reading.specs.Key.{headerKey, keyOf}
 use Rattle.plan_reading.specs.Draft.{Draft, hasKey, taken, fieldRepeats, added}

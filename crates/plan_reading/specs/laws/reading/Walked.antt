@@ -6,7 +6,8 @@ use mathlib.Core.Bool.{true, false}
 use native.Mathlib.Omega.{arith}
 use lib.ListN.{length}
 use Rattle.cqf.specs.Plan.{Plan, noPlan}
-use Rattle.plan.specs.Layout.{Form, formBy}
+use Rattle.cqf.specs.Form.{Form}
+use Rattle.plan.specs.Layout.{formBy}
 use Rattle.plan_reading.specs.Draft.{Draft, blank}
 use Rattle.plan_reading.specs.Reading.{accepted, Mode, routeAt, readAs}
 use Rattle.plan_reading.specs.Strict.{Entry, entryOf, fieldsFrom, fieldsIn, rising}

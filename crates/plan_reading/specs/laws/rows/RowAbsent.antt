@@ -6,7 +6,8 @@ use mathlib.Core.Bool.{Bool, true, false}
 use native.Mathlib.Omega.{arith}
 use lib.ListN.{length}
 use Rattle.plan.specs.Bytes.{headSize, sizeAt, wholeAt}
-use Rattle.plan.specs.Layout.{Form, formBy}
+use Rattle.cqf.specs.Form.{Form}
+use Rattle.plan.specs.Layout.{formBy}
 use Rattle.plan_reading.specs.Part.{partsOf}
 use Rattle.plan_reading.specs.Draft.{Draft}
 use Rattle.plan_reading.specs.Reading.{routeAt, namesAbsent, jitterAbsent, extraAbsent, firstAbsent}

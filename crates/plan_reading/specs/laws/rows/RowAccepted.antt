@@ -9,7 +9,7 @@ use native.Mathlib.Omega.{arith}
 use borrow.Author.Tests.{le-leb}
 use lib.ListN.{length, length-append}
 use Rattle.cqf.specs.Bounded.{within}
-use Rattle.plan.specs.Layout.{Form}
+use Rattle.cqf.specs.Form.{Form}
 use Rattle.plan_reading.specs.Part.{partsOf}
 use Rattle.plan_reading.specs.Key.{headerKey, keyOf}
 use Rattle.plan_reading.specs.Draft.{Draft, blank, hasKey, flowsIn, sumOf, added}

@@ -9,7 +9,8 @@ use lib.Dec.{ltb}
 use lib.ListN.{length, getD, replicate, length-append, length-replicate, getD-replicate, List·getD-eq-default}
 use lib.Seq.{getD-set-other}
 use Rattle.plan.specs.Bytes.{headSize}
-use Rattle.plan.specs.Layout.{Form, formBy}
+use Rattle.cqf.specs.Form.{Form}
+use Rattle.plan.specs.Layout.{formBy}
 use Rattle.plan.specs.Field.{Field, field, fieldAt}
 use Rattle.plan_reading.specs.Key.{keySlots, keyOf}
 use Rattle.plan_reading.specs.Draft.{Draft, blank, hasKey, fieldRepeats, added}

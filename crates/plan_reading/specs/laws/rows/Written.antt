@@ -6,7 +6,8 @@ use native.Mathlib.Omega.{arith}
 use lib.ListN.{length, take, drop, length-take, length-drop, take-append-drop, drop-of-length-le}
 use lib.Seq.{drop-cons, drop-drop, take-all}
 use Rattle.plan.specs.Bytes.{Octets, headSize, tagAt, sizeAt, valueAt}
-use Rattle.plan.specs.Layout.{Form, formBy, Kind, layout, numbersSize}
+use Rattle.cqf.specs.Form.{Form}
+use Rattle.plan.specs.Layout.{formBy, Kind, layout, numbersSize}
 use Rattle.plan.specs.Field.{Field, field, routePorts, routeIn, fieldAt}
 use Rattle.plan_reading.specs.Draft.{Draft}
 use Rattle.plan_reading.specs.Reading.{routeAt}

@@ -15,7 +15,7 @@ use Rattle.cqf.specs.Limits.{portSlots, flowSlots, topOk}
 use Rattle.cqf.specs.Plan.{Plan, present, validPort, validFlow, validPlan}
 use Rattle.cqf.specs.laws.Bounded.{allTo-every, anyTo-some}
 use Rattle.plan.specs.Bytes.{tagAt, valueAt}
-use Rattle.plan.specs.Layout.{Form}
+use Rattle.cqf.specs.Form.{Form}
 use Rattle.plan.specs.Field.{Field}
 use Rattle.plan_reading.specs.Part.{Part, header, port, flow, extra, jitter, clock, partsOf}
 use Rattle.plan_reading.specs.Key.{headerKey, keyOf}
