@@ -4,6 +4,7 @@ use mathlib.Core.Path.{_≡_}
 use mathlib.Core.List.{List}
 use mathlib.Core.Bool.{true}
 use lib.ListN.{length}
+use Rattle.cqf.specs.Form.{Form}
 use Rattle.cqf.specs.Bounded.{every}
 use Rattle.cqf.specs.Limits.{guardOk, topOk, portOk, rateOk, lengthOk, blockingOk, extraOk, flowOk, periodOk, countOk, jitterOk, hopsOk}
 use Rattle.cqf.specs.Plan.{clockOk}
@@ -11,8 +12,9 @@ use Rattle.plan.specs.Layout.{layout, hopsAllowed}
 use Rattle.plan.specs.Field.{Field, inRanges}
 use Rattle.plan_reading.specs.Part.{Part, header, port, flow, extra, jitter, clock}
 
--- each number of the field is in its range, and it has as many ports as it may
-pub record NumbersOk (x : Field) : Type 0 where
+-- the field may stand in a plan of this form, each of its numbers is in its range, and it has as many ports as it may
+pub record NumbersOk (form : Form) (x : Field) : Type 0 where
+  pub kind : layout (x .kind) .form ≡ form
   pub ranges : inRanges (layout (x .kind) .numbers) (x .numbers) ≡ true
   pub hops : hopsAllowed (layout (x .kind) .mostHops) (x .hops) ≡ true
 

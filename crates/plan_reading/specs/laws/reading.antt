@@ -5,6 +5,7 @@ pub mod Steps
 pub mod Onward
 pub mod Walk
 pub mod Walked
+pub mod Fits
 pub mod Absent
 pub mod Closing
 pub mod Refusals

@@ -1,24 +1,25 @@
 -- What holds of the strict reading: its answer, by the loose one's; which plans it accepts; and that two plans that it accepts
 -- hold the same fields exactly when their bytes are equal.
 use Prim.Native.Nat.{ℕ, _≤_}
-use mathlib.Core.Path.{_≡_, sym, ap, _∙_, subst}
+use mathlib.Core.Path.{_≡_, refl, sym, ap, _∙_, subst}
 use mathlib.Core.Logic.{_↔_}
 use mathlib.Core.List.{List, [], Permᴰ·refl, Permᴰ·symm}
 use mathlib.Core.Bool.{Bool, true, false, cond}
 use native.Mathlib.Omega.{arith}
 use borrow.Author.Tests.{le-leb}
 use lib.ListN.{length}
+use Rattle.cqf.specs.Form.{Form, older, newer}
 use Rattle.cqf.specs.Plan.{Plan}
 use Rattle.plan.specs.Bytes.{Octets}
 use Rattle.plan.specs.Layout.{formBy}
 use Rattle.plan_reading.specs.Draft.{blank}
-use Rattle.plan_reading.specs.Reading.{PlanRead, accepted, rejected, Mode, loose, strict, readAs, readPlan}
+use Rattle.plan_reading.specs.Reading.{PlanRead, accepted, rejected, Mode, loose, strict, modeIn, readFrom, readAs, readPlan}
 use Rattle.plan_reading.specs.Strict.{Accepts, fieldsIn, SameContent, InOrder, firstLate, foundBefore, strictly}
 use Rattle.plan_reading.specs.FieldBytes.{rowBytes}
 use Rattle.plan_reading.specs.FieldOrder.{SameFields}
 use Rattle.plan_reading.specs.laws.reading.Walk.{read-as}
 use Rattle.plan_reading.specs.laws.order.Order.{flagged-blank}
-use Rattle.plan_reading.specs.laws.reading.PlanLength.{sized, read-sized}
+use Rattle.plan_reading.specs.laws.reading.PlanLength.{sized, read-form, read-sized}
 use Rattle.plan_reading.specs.laws.order.Late.{known-none}
 use Rattle.plan_reading.specs.laws.order.Strictly.{strict-reading}
 use Rattle.plan_reading.specs.laws.order.Rows.{Ascends, ascends-rising, rising-from}
@@ -46,12 +47,18 @@ unfolding readPlan
 read-loosely loose s p m k e = e
 read-loosely strict s p m k e = strictly-accepted s (firstLate s) (readAs loose s) p m k (sym (strict-reading s) ∙ e)
 
+-- strict is strict in either form
+strict-in : (form : Form) → modeIn form strict ≡ strict
+strict-in older = refl
+strict-in newer = refl
+
 -- the keys of its fields rise
-pub keys-ascend : (s : List ℕ) (p : Plan) (ports flows : ℕ) → readAs strict s ≡ accepted p ports flows → Ascends 0 (fieldsIn s)
+pub keys-ascend : (s : List ℕ) (p : Plan) (ports flows : ℕ) → readAs strict s ≡ accepted p ports flows → Ascends (formBy s) 0 (fieldsIn s)
 unfolding fieldsIn
 keys-ascend s p m k e =
+    let sized = sized (formBy s) strict s p m k (sym (read-form strict s) ∙ e) in
     strict-ascends (formBy s) (length s) s 0 0 blank 0 p m k flagged-blank (λ x fresh in-time. omega arith)
-    (sym (read-sized strict s (sized strict s p m k e)) ∙ e)
+    (ap (λ (mode : Mode). readFrom (formBy s) mode (length s) s 0 0 blank) (sym (strict-in (formBy s))) ∙ sym (read-sized strict s sized) ∙ e)
 
 -- a plan in order has no field that should have stood earlier
 pub in-order-late : (s : List ℕ) → InOrder s → firstLate s ≡ length s

@@ -1,16 +1,20 @@
 -- Parts and their keys. And what holds of what a part gives, by its key: shown of the kind of part that gives it, with its numbers in
 -- range, and of what any other gives.
-use Prim.Native.Nat.{ℕ, _+_}
+use Prim.Native.Nat.{ℕ, _+_, _-_, _≤_, _<_}
 use mathlib.Core.Path.{_≡_}
 use mathlib.Core.Logic.{_≢_}
 use mathlib.Core.List.{List, [], _∷_}
-use mathlib.Core.Bool.{true}
+use mathlib.Core.Bool.{true, cond}
+use native.Mathlib.Omega.{arith}
+use borrow.Author.Tests.{lt-ltb, le-ltb}
+use lib.Dec.{ltb}
 use lib.ListN.{length}
 use Rattle.cqf.specs.Bounded.{distinct}
+use Rattle.cqf.specs.Form.{Form, older, newer}
 use Rattle.cqf.specs.Limits.{portSlots, flowSlots}
 use Rattle.cqf.specs.Plan.{Clock, clockOk}
 use Rattle.plan_reading.specs.Part.{Part, header, port, flow, extra, jitter, clock, ofHeader, ofPort, ofFlow, ofExtra, ofJitter, ofClock}
-use Rattle.plan_reading.specs.Key.{headerKey, clockKey}
+use Rattle.plan_reading.specs.Key.{headerKey, extraKeys, clockKey}
 use Rattle.plan_reading.specs.Ranges.{HeaderOk, PortOk, FlowOk, ExtraOk, JitterOk, PartOk}
 use Rattle.plan_reading.specs.laws.fields.Ranged.{All}
 
@@ -22,6 +26,20 @@ partKey (flow n p c l r) = portSlots + n
 partKey (extra n b) = portSlots + flowSlots + n
 partKey (jitter n j) = portSlots + flowSlots + portSlots + n
 partKey (clock k) = clockKey
+
+-- the key of the field that says the part of this key, in a plan of this form: in the newer one the clocks stand in the header, the
+-- extra bytes of a port and the jitter of a flow with the port and the flow
+unfoldable pub owner : Form → ℕ → ℕ
+owner older key = key
+owner newer key = cond (ltb key extraKeys) key (cond (ltb key clockKey) (key - (portSlots + flowSlots)) headerKey)
+
+pub own-first : (key first : ℕ) → key ≡ first → key < extraKeys → owner newer key ≡ first
+unfolding owner
+own-first key first is l = rw (lt-ltb key extraKeys l) is
+
+pub own-second : (key first : ℕ) → key ≡ portSlots + flowSlots + first → extraKeys ≤ key → key < clockKey → owner newer key ≡ first
+unfolding owner
+own-second key first is low high = rw (le-ltb key extraKeys low, lt-ltb key clockKey high) (omega arith)
 
 -- parts of which each differs from this one, and of which none has the key of another
 abbrev pub Apart : Part → List Part → Type 0

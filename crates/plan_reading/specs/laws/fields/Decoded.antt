@@ -7,8 +7,8 @@ use native.Mathlib.Omega.{arith}
 use borrow.Author.Tests.{eq-eqb}
 use lib.ListN.{length, length-append}
 use lib.Seq.{getD-append-add, drop-at}
-use Rattle.plan.specs.Bytes.{byteAt, number2, number4, numbers2}
 use Rattle.cqf.specs.Form.{Form}
+use Rattle.plan.specs.Bytes.{byteAt, number2, number4, numbers2}
 use Rattle.plan.specs.Layout.{Width, two, four, bytesIn, Number, widths, layout, numbersSize}
 use Rattle.plan.specs.Field.{Field, field, numberIn, numbersAt, inRanges, hopsIn, routePorts, routeIn, fieldBy, sizeOk, rangesOk, fieldIn}
 use Rattle.plan_reading.specs.Rank.{tagOf}
@@ -104,7 +104,7 @@ route-decoded r =
     ap (numbers2 (bytes2s r) 0) hops ∙ ports-decoded r
 
 -- a value in range is as long as its field's head says
-module _ (x : Field) (r : List ℕ) (k : NumbersOk x) (fits : RouteFits x r) where
+module _ {form : Form} (x : Field) (r : List ℕ) (k : NumbersOk form x) (fits : RouteFits x r) where
   pub value-length : length (valueOf x r) ≡ sizeOf x
   unfolding valueOf
   value-length =
@@ -125,15 +125,16 @@ module _ (x : Field) (r : List ℕ) (k : NumbersOk x) (fits : RouteFits x r) whe
       (numbers-long (layout (x .kind) .numbers) (x .numbers) (k .ranges)))
       ∙ route-decoded r
 
-  -- and it is read as the field
-  pub value-decoded : (form : Form) (at next : ℕ) → fieldIn form (tagOf x) (valueOf x r) at next ≡ field x next
+  -- and it is read as the field in a plan of its form
+  pub value-decoded : (at next : ℕ) → fieldIn form (tagOf x) (valueOf x r) at next ≡ field x next
   unfolding valueOf
-  value-decoded form at next =
+  value-decoded at next =
       let v = valueOf x r in
       let hops : hopsIn (x .kind) (length v) ≡ x .hops = omega (arith, value-length) in
       let ns = numbers-decoded (layout (x .kind) .numbers) (x .numbers) (bytes2s r) (k .ranges) in
       let long : sizeOk (x .kind) (length v) ≡ true = rw (hops, k .hops) (eq-eqb (length v) _ value-length) in
       let ranges : rangesOk (x .kind) v ≡ true = rw (ns, k .ranges, route-in-value) (fits .ports) in
-      tag-known v at next form (x .kind) (tagOf x) refl
+      ap (λ (f : Form). fieldIn f (tagOf x) v at next) (sym (k .kind))
+      ∙ tag-known v at next (x .kind) (tagOf x) refl
       ∙ value-read v at next (x .kind) long ranges
       ∙ (λ i. field (record { kind = x .kind; numbers = ns i; hops = hops i }) next)

@@ -13,7 +13,7 @@ use Rattle.plan_reading.specs.laws.fields.Passes.{field-is-whole, field-
 use Rattle.plan.specs.laws.Whole.{whole-fits}
 
 module _ (form : Form) (s : List ℕ) (at : ℕ) (x : Field) (m : ℕ) (e : fieldAt form s at ≡ field x m) where
-  pub found-numbers : NumbersOk x
+  pub found-numbers : NumbersOk form x
   found-numbers = field-passes form s at x m e .passes .ok
 
   pub found-route : RouteFits x (routeAt (x .kind) s at)

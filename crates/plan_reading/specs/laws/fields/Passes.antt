@@ -16,15 +16,15 @@ use Rattle.plan.specs.Field.{Field, FieldRead, field, refused, unless, numbersA
 use Rattle.plan_reading.specs.Ranges.{NumbersOk, RouteFits}
 use Rattle.plan_reading.specs.Rank.{tagOf}
 use Rattle.plan_reading.specs.FieldBytes.{sizeOf}
-use Rattle.plan.specs.laws.Tested.{tag-kind}
+use Rattle.plan.specs.laws.Tested.{tag-kind, kind-form}
 use Rattle.plan.specs.laws.Route.{value-hops}
 
--- field x is the one of this tag and value
-pub record Passes (tag : ℕ) (v : List ℕ) (x : Field) : Type 0 where
+-- field x is the one of this tag and value in a plan of this form
+pub record Passes (form : Form) (tag : ℕ) (v : List ℕ) (x : Field) : Type 0 where
   pub kind : tag ≡ tagOf x
   pub numbers : fieldBy (x .kind) v ≡ x
   pub size : length v ≡ sizeOf x
-  pub ok : NumbersOk x
+  pub ok : NumbersOk form x
   pub route : RouteFits x (routeIn (x .kind) v)
 
 -- the parts of a longer conjunction
@@ -43,16 +43,16 @@ unless-passes number offset true answer e = (refl, e)
 unless-passes number offset false answer e = let z : false ≡ true = cc in (z, cc)
 
 -- the field and the offset after it
-pub record Read (tag : ℕ) (v : List ℕ) (after : ℕ) (x : Field) (next : ℕ) : Type 0 where
+pub record Read (form : Form) (tag : ℕ) (v : List ℕ) (after : ℕ) (x : Field) (next : ℕ) : Type 0 where
   pub follows : next ≡ after
-  pub passes : Passes tag v x
+  pub passes : Passes form tag v x
 
 read-as
-    : (tag : ℕ) (v : List ℕ) (after : ℕ) (y : Field) {x : Field} {next : ℕ}
-    → Passes tag v y
+    : (form : Form) (tag : ℕ) (v : List ℕ) (after : ℕ) (y : Field) {x : Field} {next : ℕ}
+    → Passes form tag v y
     → field y after ≡ field x next
-    → Read tag v after x next
-read-as tag v after y {x} h e = record { follows = cc; passes = let z : y ≡ x = cc in subst (Passes tag v) z h }
+    → Read form tag v after x next
+read-as form tag v after y {x} h e = record { follows = cc; passes = let z : y ≡ x = cc in subst (Passes form tag v) z h }
 
 -- a kind that is found by a tag has it
 kind-tag : (ks : List Kind) (tag : ℕ) (k : Kind) → kindBy ks tag ≡ some k → tag ≡ layout k .tag
@@ -74,19 +74,19 @@ value-passes
     : (form : Form) (tag : ℕ) (v : List ℕ) (at after : ℕ) (k : Kind) {x : Field} {next : ℕ}
     → kindBy (kinds form) tag ≡ some k
     → valueIn k v at after ≡ field x next
-    → Read tag v after x next
+    → Read form tag v after x next
 unfolding valueIn
 value-passes form tag v at after k found e =
     let a = unless-passes 4 at (sizeOk k (length v)) _ e in
     let b = unless-passes 5 at (rangesOk k v) _ (a .1) in
     let long = and-eq-true-iff (hopsAllowed (layout k .mostHops) (hopsIn k (length v))) _ .0 (a .0) in
     let ranges = and-eq-true-iff (inRanges (layout k .numbers) (numbersAt (layout k .numbers) v 0)) _ .0 (b .0) in
-    read-as tag v after (fieldBy k v)
+    read-as form tag v after (fieldBy k v)
     (record {
       kind = kind-tag (kinds form) tag k found;
       numbers = refl;
       size = eqb-true (length v) _ (long .1);
-      ok = record { ranges = ranges .0; hops = long .0 };
+      ok = record { kind = kind-form form tag k found; ranges = ranges .0; hops = long .0 };
       route = record { hops = value-hops k v; ports = ranges .1 };
     })
     (b .1)
@@ -94,11 +94,11 @@ value-passes form tag v at after k found e =
 field-read
     : (form : Form) (tag : ℕ) (v : List ℕ) (at after : ℕ) {x : Field} {next : ℕ}
     → fieldIn form tag v at after ≡ field x next
-    → Read tag v after x next
+    → Read form tag v after x next
 unfolding fieldIn
 field-read form tag v at after {x} {next} = go (kindBy (kinds form) tag) refl
   where
-    go : (o : Option Kind) → kindBy (kinds form) tag ≡ o → kindRead o v at after ≡ field x next → Read tag v after x next
+    go : (o : Option Kind) → kindBy (kinds form) tag ≡ o → kindRead o v at after ≡ field x next → Read form tag v after x next
     go none found e = let z : _≡_ {A = ℕ} 0 1 = cc in absurd (omega arith)
     go (some k) found e = value-passes form tag v at after k found e
 
@@ -110,12 +110,12 @@ field-is-whole form s at x next e = unless-passes 2 at (wholeAt s at) _ e .0
 pub field-passes
     : (form : Form) (s : List ℕ) (at : ℕ) (x : Field) (next : ℕ)
     → fieldAt form s at ≡ field x next
-    → Read (tagAt s at) (valueAt s at) (at + headSize + sizeAt s at) x next
+    → Read form (tagAt s at) (valueAt s at) (at + headSize + sizeAt s at) x next
 unfolding fieldAt
 field-passes form s at x next e = field-read form (tagAt s at) (valueAt s at) at _ (unless-passes 2 at (wholeAt s at) _ e .1)
 
 -- a tag and a value are those of one field
-pub passes-once : (tag : ℕ) (v : List ℕ) (x y : Field) → Passes tag v x → Passes tag v y → x ≡ y
+pub passes-once : {form other : Form} (tag : ℕ) (v : List ℕ) (x y : Field) → Passes form tag v x → Passes other tag v y → x ≡ y
 passes-once tag v x y a b =
     let same = tag-kind (x .kind) (y .kind) (sym (a .kind) ∙ b .kind) in
     sym (a .numbers) ∙ ap (λ (k : Kind). fieldBy k v) same ∙ b .numbers

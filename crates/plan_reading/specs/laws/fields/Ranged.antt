@@ -1,6 +1,6 @@
 -- Numbers in range, each by its place, and what holds of each part of several.
 use Prim.Native.Nat.{ℕ, suc}
-use mathlib.Core.Path.{_≡_, sym}
+use mathlib.Core.Path.{_≡_, refl, sym}
 use mathlib.Core.List.{List, [], _∷_, _++_, List·Memᴰ, List·Memᴰ·head, List·Memᴰ·tail, List·Memᴰ·not-nil}
 use mathlib.Core.Bool.{true, false, true≢false, and-eq-true-iff}
 use lib.ListN.{getD}
@@ -42,3 +42,11 @@ module _ (P : Part → Type 0) where
   pub all-map : (Q : Part → Type 0) (xs : List Part) → ((x : Part) → P x → Q x) → All P xs → All Q xs
   all-map Q [] f h = tt
   all-map Q (x ∷ xs) f h = (f x (h .0), all-map Q xs f (h .1))
+
+  pub all-split : (xs ys : List Part) → All P (xs ++ ys) → All P xs × All P ys
+  all-split [] ys h = (tt, h)
+  all-split (x ∷ xs) ys h = let t = all-split xs ys (h .1) in ((h .0, t .0), t .1)
+
+  pub all-of : (xs : List Part) → ((x : Part) → List·Memᴰ x xs → P x) → All P xs
+  all-of [] each = tt
+  all-of (x ∷ xs) each = (each x (List·Memᴰ·head refl), all-of xs (λ y m. each y (List·Memᴰ·tail m)))

@@ -9,6 +9,7 @@ use lib.ListN.{length, take, drop, length-append, length-drop, take-append-drop,
 use lib.Seq.{length-take-le, getD-take, getD-drop, drop-drop}
 use Rattle.plan.specs.Bytes.{byteAt, number2, headSize, tagAt, sizeAt, wholeAt, valueAt}
 use Rattle.cqf.specs.Form.{Form}
+use Rattle.plan.specs.Layout.{formBy}
 use Rattle.plan.specs.Field.{Field, routeIn}
 use Rattle.plan_reading.specs.Draft.{Draft}
 use Rattle.plan_reading.specs.Reading.{Mode}
@@ -26,14 +27,14 @@ abbrev entryIn : List ℕ → Field → Entry
 entryIn b x = entryOf x (routeIn (x .kind) (valueAt b 0))
 
 -- these whole fields are read so
-data Row : List (List ℕ) → List Entry → Type 0 where
-  nothing : Row [] []
+data Row (form : Form) : List (List ℕ) → List Entry → Type 0 where
+  nothing : Row form [] []
   next
       : {b : List ℕ} {bs : List (List ℕ)} {e : Entry} {es : List Entry} (x : Field)
-      → Passes (tagAt b 0) (valueAt b 0) x
+      → Passes form (tagAt b 0) (valueAt b 0) x
       → entryIn b x ≡ e
-      → Row bs es
-      → Row (b ∷ bs) (e ∷ es)
+      → Row form bs es
+      → Row form (b ∷ bs) (e ∷ es)
 
 -- a walk over whole fields reads them one after the other
 walk-row
@@ -43,7 +44,7 @@ walk-row
     → length s ≤ at + n
     → AllFields bs
     → Reads form s at d e
-    → Row bs (fieldsFrom form n s at)
+    → Row form bs (fieldsFrom form n s at)
 unfolding flatten
 walk-row {form} [] s front n at d e p q enough h (done same end) = rw (row-refused form n s at 2 at (past-end form s at end)) nothing
 walk-row {form} [] s front n at d e p q enough h (one x after less stands fresh no-repeat rest) =
@@ -62,19 +63,19 @@ walk-row {form} (b ∷ bs) s front (suc n) at d e p q enough (more is h) (one x 
     (walk-row bs s (front ++ b) n after _ e (p ∙ sym (append-assoc front b (flatten bs))) ends (omega (arith, r .follows)) h rest))
 
 -- whole fields are read in one way
-row-once : {bs : List (List ℕ)} {es fs : List Entry} → Row bs es → Row bs fs → es ≡ fs
+row-once : {form other : Form} {bs : List (List ℕ)} {es fs : List Entry} → Row form bs es → Row other bs fs → es ≡ fs
 row-once nothing nothing = refl
 row-once (next {b = b} x k p rest) (next y m q other) =
     let same : x ≡ y = passes-once (tagAt b 0) (valueAt b 0) x y k m in
     ap₂ _∷_ (sym p ∙ ap (entryIn b) same ∙ q) (row-once rest other)
 
 -- in another order they are read in that order
-record Permuted (cs : List (List ℕ)) (es : List Entry) : Type 0 where
+record Permuted (form : Form) (cs : List (List ℕ)) (es : List Entry) : Type 0 where
   row : List Entry
-  reads : Row cs row
+  reads : Row form cs row
   permutes : List·Permᴰ es row
 
-row-permuted : {bs cs : List (List ℕ)} {es : List Entry} → List·Permᴰ bs cs → Row bs es → Permuted cs es
+row-permuted : {form : Form} {bs cs : List (List ℕ)} {es : List Entry} → List·Permᴰ bs cs → Row form bs es → Permuted form cs es
 row-permuted List·Permᴰ·nil nothing = record { row = []; reads = nothing; permutes = List·Permᴰ·nil }
 row-permuted (List·Permᴰ·cons {b = c} same perm) (next {e = e} x k p rest) =
     let t = row-permuted perm rest in
@@ -91,7 +92,7 @@ row-permuted (List·Permᴰ·trans first second) r =
     record { row = u .row; reads = u .reads; permutes = List·Permᴰ·trans (t .permutes) (u .permutes) }
 
 -- an accepted plan of whole fields is read as they are
-plan-row : (mode : Mode) (bs : List (List ℕ)) (s : List ℕ) → s ≡ flatten bs → AllFields bs → Accepts mode s → Row bs (fieldsIn s)
+plan-row : (mode : Mode) (bs : List (List ℕ)) (s : List ℕ) → s ≡ flatten bs → AllFields bs → Accepts mode s → Row (formBy s) bs (fieldsIn s)
 unfolding fieldsIn
 plan-row mode bs s p h a =
     let w = read-as mode s (a .plan) (a .ports) (a .flows) (a .reads) in

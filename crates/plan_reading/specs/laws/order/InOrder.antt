@@ -28,9 +28,9 @@ use Rattle.plan_reading.specs.laws.order.Rows.{row-refused, row-field, A
 -- none of them should have stood earlier
 pub none-late
     : (form : Form) (n : ℕ) (front : List Field) (s : List ℕ) (at last least : ℕ)
-    → Known front last
+    → Known form front last
     → last ≤ least
-    → Ascends least (fieldsFrom form n s at)
+    → Ascends form least (fieldsFrom form n s at)
     → lateFrom form n front s at ≡ length s
 unfolding lateFrom
 none-late form zero front s at last least known low up = refl
@@ -40,11 +40,11 @@ none-late form (suc n) front s at last least known low up =
     Rest : Type 0
     Rest =
         (x : Field) (after : ℕ)
-        → Known (x ∷ front) (keyOf x)
-        → Ascends (suc (keyOf x)) (fieldsFrom form n s after)
+        → Known form (x ∷ front) (keyOf x)
+        → Ascends form (suc (keyOf x)) (fieldsFrom form n s after)
         → lateFrom form n (x ∷ front) s after ≡ length s
 
-    first : Rest → (x : Field) (after : ℕ) → fieldAt form s at ≡ field x after → Ascends least (entryOf x (routeAt (x .kind) s at) ∷ fieldsFrom form n s after)
+    first : Rest → (x : Field) (after : ℕ) → fieldAt form s at ≡ field x after → Ascends form least (entryOf x (routeAt (x .kind) s at) ∷ fieldsFrom form n s after)
         → lateFrom form (suc n) front s at ≡ length s
     first rest x after e (next k from up) =
         let in-time : ltb (keyOf x) last ≡ false = le-ltb (keyOf x) last (omega arith) in
@@ -58,7 +58,7 @@ none-late form (suc n) front s at last least known low up =
 abbrev Floor : Draft → (last least : ℕ) → Type 0
 Floor d last least = (x : Field) → taken d x ≡ false → ltb (keyOf x) last ≡ false → least ≤ keyOf x
 
-floor-next : (d : Draft) (x : Field) (r : List ℕ) → Flagged d → NumbersOk x → Floor (added d x r) (keyOf x) (suc (keyOf x))
+floor-next : {form : Form} (d : Draft) (x : Field) (r : List ℕ) → Flagged d → NumbersOk form x → Floor (added d x r) (keyOf x) (suc (keyOf x))
 floor-next d x r flagged k y fresh in-time =
     omega (arith, fresh-apart d x y r flagged k fresh, ltb-false (keyOf y) (keyOf x) in-time)
 
@@ -68,7 +68,7 @@ pub strict-ascends
     → Flagged d
     → Floor d last least
     → readFrom form strict n s at last d ≡ accepted p ports flows
-    → Ascends least (fieldsFrom form n s at)
+    → Ascends form least (fieldsFrom form n s at)
 unfolding fieldsFrom
 strict-ascends form zero s at last d least p m k flagged floor e = none
 strict-ascends form (suc n) s at last d least p m k flagged floor e =
@@ -80,9 +80,9 @@ strict-ascends form (suc n) s at last d least p m k flagged floor e =
         → Flagged d′
         → Floor d′ key least
         → readFrom form strict n s after key d′ ≡ accepted p m k
-        → Ascends least (fieldsFrom form n s after)
+        → Ascends form least (fieldsFrom form n s after)
 
-    by-step : Rest → at < length s → (r : Step) → stepAt form strict s at last d ≡ r → Ascends least (fieldsFrom form (suc n) s at)
+    by-step : Rest → at < length s → (r : Step) → stepAt form strict s at last d ≡ r → Ascends form least (fieldsFrom form (suc n) s at)
     by-step rest inside (stop number offset) q =
         let y : rejected number offset ≡ accepted p m k = sym (stop-one form strict s at last d n number offset inside q) ∙ e in
         let z : _≡_ {A = ℕ} 0 1 = cc in
@@ -98,12 +98,12 @@ strict-ascends form (suc n) s at last d least p m k flagged floor e =
         (next ok (floor x (t .fresh) (t .in-time))
         (rest after (keyOf x) (added d x (routeAt (x .kind) s at)) (suc (keyOf x)) flags floors (rw (t .keyed, t .adds) reads)))
 
-    by-end : Rest → (b : Bool) → ltb at (length s) ≡ b → Ascends least (fieldsFrom form (suc n) s at)
+    by-end : Rest → (b : Bool) → ltb at (length s) ≡ b → Ascends form least (fieldsFrom form (suc n) s at)
     by-end rest true q = by-step rest (ltb-true at (length s) q) (stepAt form strict s at last d) refl
     by-end rest false q = rw (row-refused form (suc n) s at 2 at (past-end form s at (ltb-false at (length s) q))) none
 
 -- a field of such a row has a key from the row's first on
-ascends-from : {least : ℕ} {es : List Entry} {f : Entry} → Ascends least es → List·Memᴰ f es → least ≤ keyOf (f .field)
+ascends-from : {form : Form} {least : ℕ} {es : List Entry} {f : Entry} → Ascends form least es → List·Memᴰ f es → least ≤ keyOf (f .field)
 ascends-from none m = absurd (List·Memᴰ·not-nil m)
 ascends-from {least} {f = f} (next {e = e} {es = es} k low up) m = go (ascends-from up) (List·Memᴰ·cases-cons m)
   where
@@ -115,7 +115,7 @@ ascends-from {least} {f = f} (next {e = e} {es = es} k low up) m = go (ascends-f
 abbrev Holds : List Entry → List Entry → Type 0
 Holds es fs = (f : Entry) → List·Memᴰ f es → List·Memᴰ f fs
 
-pub ascends-same : {a b : ℕ} {es fs : List Entry} → Ascends a es → Ascends b fs → Holds es fs → Holds fs es → es ≡ fs
+pub ascends-same : {form other : Form} {a b : ℕ} {es fs : List Entry} → Ascends form a es → Ascends other b fs → Holds es fs → Holds fs es → es ≡ fs
 ascends-same none none to from = refl
 ascends-same none (next {e = f} k low up) to from = absurd (List·Memᴰ·not-nil (from f (List·Memᴰ·head refl)))
 ascends-same (next {e = e} k low up) none to from = absurd (List·Memᴰ·not-nil (to e (List·Memᴰ·head refl)))

@@ -58,14 +58,19 @@ late-onward form (suc n) front s at inside = go (λ x next. late-onward form n (
     go rest (field x next) e = by-front rest x next e (overdue x front) refl
 
 -- one of the fields in front is due after x exactly when the key of the last one is above x's
-abbrev pub Known : List Field → ℕ → Type 0
-Known front last = (x : Field) → NumbersOk x → overdue x front ≡ ltb (keyOf x) last
+abbrev pub Known : Form → List Field → ℕ → Type 0
+Known form front last = (x : Field) → NumbersOk form x → overdue x front ≡ ltb (keyOf x) last
 
-pub known-none : Known [] 0
+pub known-none : {form : Form} → Known form [] 0
 unfolding overdue
 known-none x ok = sym (le-ltb (keyOf x) 0 (omega arith))
 
-pub known-next : (front : List Field) (last : ℕ) (x : Field) → NumbersOk x → Known front last → ltb (keyOf x) last ≡ false → Known (x ∷ front) (keyOf x)
+pub known-next
+    : {form : Form} (front : List Field) (last : ℕ) (x : Field)
+    → NumbersOk form x
+    → Known form front last
+    → ltb (keyOf x) last ≡ false
+    → Known form (x ∷ front) (keyOf x)
 unfolding overdue
 known-next front last x ok known in-time y k = rw (before-key y x k ok, known y k) (go (ltb (keyOf y) (keyOf x)) refl)
   where

@@ -47,7 +47,7 @@ walk-stored
     → at ≡ length front
     → AllFields bs
     → Reads form s at d e
-    → Stored bs d e
+    → Stored form bs d e
 unfolding flatten
 walk-stored [] s front at d e p q h (done same end) = nothing same
 walk-stored [] s front at d e p q h (one x after less stands fresh no-repeat rest) =
@@ -77,7 +77,7 @@ pub accepted-stored
     → s ≡ flatten bs
     → AllFields bs
     → Reads form s 0 blank d
-    → Stored bs blank d
+    → Stored form bs blank d
 accepted-stored bs s d p h reads = walk-stored bs s [] 0 blank d p refl h reads
 
 pub flagged-blank : Flagged blank

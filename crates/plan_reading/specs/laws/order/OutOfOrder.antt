@@ -1,6 +1,6 @@
 -- Refusal 12: the loose reading never answers it, and when the strict one does.
 use Prim.Native.Nat.{ℕ, zero, suc, _≤_, _<_}
-use mathlib.Core.Path.{_≡_, refl, sym, _∙_}
+use mathlib.Core.Path.{_≡_, refl, sym, ap, _∙_}
 use mathlib.Core.Logic.{_↔_}
 use mathlib.Core.List.{List}
 use mathlib.Core.Bool.{Bool, true, false, cond, not, _||_}
@@ -9,15 +9,15 @@ use borrow.Author.Tests.{ltb-true, ltb-false}
 use lib.Dec.{ltb, eqb}
 use lib.ListN.{length}
 use Rattle.cqf.specs.Bounded.{within}
-use Rattle.cqf.specs.Form.{Form}
+use Rattle.cqf.specs.Form.{Form, older, newer}
 use Rattle.plan.specs.Layout.{formBy}
 use Rattle.plan.specs.Field.{FieldRead, field, refused, fieldAt}
 use Rattle.plan_reading.specs.Key.{headerKey, keyOf}
 use Rattle.plan_reading.specs.Draft.{Draft, blank, hasKey, taken, fieldRepeats, added}
-use Rattle.plan_reading.specs.Reading.{PlanRead, accepted, rejected, loose, strict, maxBytes, Step, stop, more, routeAt, fieldStep, stepAt, firstAbsent, closing, readFrom, readAs}
+use Rattle.plan_reading.specs.Reading.{PlanRead, accepted, rejected, loose, strict, maxBytes, Step, stop, more, routeAt, fieldStep, stepAt, firstAbsent, closing, readFrom, readAs, readForm, modeIn}
 use Rattle.plan_reading.specs.Strict.{firstLate, foundBefore}
 use Rattle.plan_reading.specs.laws.reading.Onward.{read-end, stop-one, more-one}
-use Rattle.plan_reading.specs.laws.reading.PlanLength.{read-unsized, read-sized}
+use Rattle.plan_reading.specs.laws.reading.PlanLength.{read-form, read-unsized, read-sized}
 use Rattle.plan_reading.specs.laws.reading.Refusals.{refused-here}
 use Rattle.plan_reading.specs.laws.order.Strictly.{strict-reading}
 
@@ -69,23 +69,26 @@ number-from form (suc n) s at last d k o e = by-end (λ next key d′. number-fr
     by-end rest true q = by-step rest (ltb-true _ _ q) (stepAt form loose s at last d) refl
     by-end rest false q = closed-number s d k o (sym (read-end form loose s at last d (suc n) (ltb-false _ _ q)) ∙ e)
 
--- the loose reading refuses with 1 to 9
-pub loose-number : (s : List ℕ) (number offset : ℕ) → readAs loose s ≡ rejected number offset → number ≤ 9
-loose-number s k o e = go (within 1 maxBytes (length s)) refl
+-- the loose reading of a plan of the older form refuses with 1 to 9
+pub loose-number : (s : List ℕ) (number offset : ℕ) → formBy s ≡ older → readAs loose s ≡ rejected number offset → number ≤ 9
+loose-number s k o told e = go (within 1 maxBytes (length s)) refl
   where
     go : (b : Bool) → within 1 maxBytes (length s) ≡ b → k ≤ 9
-    go true q = number-from (formBy s) (length s) s 0 0 blank k o (sym (read-sized loose s q) ∙ e)
+    go true q =
+        number-from older (length s) s 0 0 blank k o
+        (sym (ap (λ (f : Form). readFrom f (modeIn f loose) (length s) s 0 0 blank) told) ∙ sym (read-sized loose s q) ∙ e)
     go false q =
         let r : rejected 1 0 ≡ rejected k o = sym (read-unsized loose s q) ∙ e in
         let same : _≡_ {A = ℕ} 1 k = cc in
         omega arith
 
--- The strict reading answers 12 exactly when a field should have stood earlier and the loose reading finds nothing before test 12
--- finds the first such field; the offset is that field's.
+-- The strict reading of a plan of the older form answers 12 exactly when a field should have stood earlier and the loose reading finds
+-- nothing before test 12 finds the first such field; the offset is that field's. Of the newer form both readings are one.
 pub strict-late
     : (s : List ℕ) (offset : ℕ)
+    → formBy s ≡ older
     → (readAs strict s ≡ rejected 12 offset) ↔ ((offset ≡ firstLate s) × (foundBefore s (firstLate s) (readAs loose s) ≡ false))
-strict-late s o = (λ e. go (foundBefore s at found) refl (sym (strict-reading s) ∙ e), λ h. strict-reading s ∙ rw (h .1, h .0))
+strict-late s o told = (λ e. go (foundBefore s at found) refl (sym (strict-reading s) ∙ e), λ h. strict-reading s ∙ rw (h .1, h .0))
   where
     at : ℕ
     at = firstLate s
@@ -94,5 +97,13 @@ strict-late s o = (λ e. go (foundBefore s at found) refl (sym (strict-reading s
     found = readAs loose s
 
     go : (b : Bool) → foundBefore s at found ≡ b → cond b found (rejected 12 at) ≡ rejected 12 o → (o ≡ at) × (foundBefore s at found ≡ false)
-    go true f e = absurd (omega (arith, loose-number s 12 o e))
+    go true f e = absurd (omega (arith, loose-number s 12 o told e))
     go false f e = (cc, f)
+
+pub newer-modes : (s : List ℕ) → formBy s ≡ newer → readAs loose s ≡ readAs strict s
+unfolding readForm
+newer-modes s told =
+    read-form loose s
+    ∙ ap (λ (f : Form). readForm f loose s) told
+    ∙ ap (λ (f : Form). readForm f strict s) (sym told)
+    ∙ sym (read-form strict s)

@@ -1,20 +1,20 @@
 -- The strict reading by the loose one and the first field that should have stood earlier.
 use Prim.Native.Nat.{ℕ, zero, suc, _<_}
-use mathlib.Core.Path.{_≡_, refl, _∙_}
+use mathlib.Core.Path.{_≡_, refl, sym, ap, _∙_}
 use mathlib.Core.List.{List, [], _∷_}
-use mathlib.Core.Bool.{Bool, true, false}
+use mathlib.Core.Bool.{Bool, true, false, cond}
 use native.Mathlib.Omega.{arith}
 use borrow.Author.Tests.{lt-ltb, le-ltb, le-leb, ltb-true, ltb-false}
 use lib.Dec.{ltb}
 use lib.ListN.{length}
 use Rattle.cqf.specs.Bounded.{within}
-use Rattle.cqf.specs.Form.{Form}
+use Rattle.cqf.specs.Form.{Form, older, newer}
 use Rattle.plan.specs.Layout.{formBy}
 use Rattle.plan.specs.Field.{Field, FieldRead, field, refused, fieldAt}
 use Rattle.plan_reading.specs.Key.{keyOf}
 use Rattle.plan_reading.specs.Ranges.{NumbersOk}
 use Rattle.plan_reading.specs.Draft.{Draft, blank, taken, fieldRepeats, added}
-use Rattle.plan_reading.specs.Reading.{PlanRead, rejected, loose, strict, routeAt, closing, readFrom, readAs, maxBytes}
+use Rattle.plan_reading.specs.Reading.{PlanRead, rejected, Mode, loose, strict, modeIn, routeAt, closing, readFrom, readAs, maxBytes}
 use Rattle.plan_reading.specs.Strict.{overdue, lateFrom, firstLate, foundBefore, strictly}
 use Rattle.plan_reading.specs.laws.fields.Found.{found-numbers, found-forward, found-within}
 use Rattle.plan_reading.specs.laws.reading.Steps.{step-refused, step-taken, step-late, step-repeats, step-added}
@@ -104,9 +104,9 @@ module _ (form : Form) (n : ℕ) (s : List ℕ) (at last : ℕ) (d : Draft) (fro
 
     -- by the tests 6, 12 and 7, where the fields after it are read so
     module _
-        (known : Known front last)
-        (rest : (after : Draft) → Known (x ∷ front) (keyOf x) → Strictly form n s next (keyOf x) after (x ∷ front)) where
-      ok : NumbersOk x
+        (known : Known form front last)
+        (rest : (after : Draft) → Known form (x ∷ front) (keyOf x) → Strictly form n s next (keyOf x) after (x ∷ front)) where
+      ok : NumbersOk form x
       ok = found-numbers form s at x next e
 
       by-repeats
@@ -128,14 +128,14 @@ module _ (form : Form) (n : ℕ) (s : List ℕ) (at last : ℕ) (d : Draft) (fro
       from-field false t = by-key t (ltb (keyOf x) last) refl
 
 -- the fields from this offset on
-strict-from : (form : Form) (n : ℕ) (s : List ℕ) (at last : ℕ) (d : Draft) (front : List Field) → Known front last → Strictly form n s at last d front
+pub strict-from : (form : Form) (n : ℕ) (s : List ℕ) (at last : ℕ) (d : Draft) (front : List Field) → Known form front last → Strictly form n s at last d front
 unfolding readFrom lateFrom
 strict-from form zero s at last d front known = closed s d
 strict-from form (suc n) s at last d front known =
     by-end (λ x next after k. strict-from form n s next (keyOf x) after (x ∷ front) k) (ltb at (length s)) refl
   where
     Rest : Type 0
-    Rest = (x : Field) (next : ℕ) (after : Draft) → Known (x ∷ front) (keyOf x) → Strictly form n s next (keyOf x) after (x ∷ front)
+    Rest = (x : Field) (next : ℕ) (after : Draft) → Known form (x ∷ front) (keyOf x) → Strictly form n s next (keyOf x) after (x ∷ front)
 
     by-field : Rest → at < length s → (r : FieldRead) → fieldAt form s at ≡ r → Strictly form (suc n) s at last d front
     by-field rest inside (refused k o) e = from-refused form n s at last d front inside k o e
@@ -149,6 +149,26 @@ strict-from form (suc n) s at last d front known =
         ∙ closed s d
         ∙ rw (late-refused form n front s at 2 at (past-end form s at end), read-end form loose s at last d (suc n) end)
 
+-- test 12 finds nothing in what it answered itself
+strictly-again : (s : List ℕ) (at : ℕ) (answer : PlanRead) → strictly s at (strictly s at answer) ≡ strictly s at answer
+strictly-again s at answer = go (foundBefore s at answer) refl
+  where
+    late : (b : Bool) → cond b (rejected 12 at) (rejected 12 at) ≡ rejected 12 at
+    late true = refl
+    late false = refl
+
+    go : (b : Bool) → foundBefore s at answer ≡ b → strictly s at (strictly s at answer) ≡ strictly s at answer
+    go true e = ap (strictly s at) (sym (stands s at answer e))
+    go false e = let same : strictly s at answer ≡ rejected 12 at = rw e in ap (strictly s at) same ∙ late (foundBefore s at (rejected 12 at)) ∙ sym same
+
+-- so it is of a plan of the newer form too, whose loose reading is strict
+in-form
+    : (form : Form) (s : List ℕ) (at : ℕ) (reads : Mode → PlanRead)
+    → reads strict ≡ strictly s at (reads loose)
+    → reads (modeIn form strict) ≡ strictly s at (reads (modeIn form loose))
+in-form older s at reads e = e
+in-form newer s at reads e = e ∙ sym (strictly-again s at (reads loose)) ∙ ap (strictly s at) (sym e)
+
 -- a whole plan
 pub strict-reading : (s : List ℕ) → readAs strict s ≡ strictly s (firstLate s) (readAs loose s)
 unfolding firstLate
@@ -157,7 +177,8 @@ strict-reading s = go (within 1 maxBytes (length s)) refl
     go : (b : Bool) → within 1 maxBytes (length s) ≡ b → readAs strict s ≡ strictly s (lateFrom (formBy s) (length s) [] s 0) (readAs loose s)
     go true e =
         read-sized strict s e
-        ∙ strict-from (formBy s) (length s) s 0 0 blank [] known-none
+        ∙ in-form (formBy s) s (lateFrom (formBy s) (length s) [] s 0) (λ mode. readFrom (formBy s) mode (length s) s 0 0 blank)
+        (strict-from (formBy s) (length s) s 0 0 blank [] known-none)
         ∙ rw (read-sized loose s e)
     go false e =
         read-unsized strict s e

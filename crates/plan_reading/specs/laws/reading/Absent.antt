@@ -1,29 +1,42 @@
 -- Laws of what test 9 seeks: fields that name a port or a flow not in the plan.
-use Prim.Native.Nat.{ℕ, _+_, _≤_, _<_}
+use Prim.Native.Nat.{ℕ, _+_, _-_, _≤_, _<_}
 use mathlib.Core.Path.{_≡_, refl, sym, _∙_}
-use mathlib.Core.List.{List}
-use mathlib.Core.Bool.{Bool, true, false, not}
+use mathlib.Core.List.{List, _∷_}
+use mathlib.Core.Bool.{Bool, true, false, not, or-false, and-eq-true-iff}
 use native.Mathlib.Omega.{arith}
 use borrow.Author.Tests.{eq-eqb, ne-eqb, lt-ltb, le-ltb, ltb-true, ltb-false, not-false}
 use lib.Dec.{ltb}
-use lib.ListN.{length}
+use lib.ListN.{length, getD}
 use Rattle.cqf.specs.Bounded.{every}
+use Rattle.cqf.specs.Limits.{flowSlots, flowOk}
 use Rattle.cqf.specs.Plan.{portIn}
+use Rattle.cqf.specs.laws.Route.{rate-at}
 use Rattle.plan.specs.Bytes.{number2, headSize, tagAt, sizeAt, wholeAt, valueAt}
 use Rattle.plan.specs.Layout.{Kind, layout}
 use Rattle.plan_reading.specs.Part.{Part, header, port, flow, extra, jitter, clock}
-use Rattle.plan_reading.specs.Reading.{routeAt, hasFlow, namesAbsent, jitterAbsent, extraAbsent, orElse, firstField, firstAbsent}
+use Rattle.plan_reading.specs.Reading.{routeAt, hasFlow, absentIn, namesAbsent, jitterAbsent, extraAbsent, orElse, firstField, firstAbsent}
+use Rattle.plan_reading.specs.laws.fields.Within.{within-low}
 use Rattle.plan_reading.specs.laws.reading.First.{NoneFrom, none-front}
+
+-- flow n, from 1 on, stands in slot n - 1
+pub flow-there : (periods : List ℕ) (n : ℕ) → flowOk n ≡ true → 0 < getD periods (n - 1) 0 → hasFlow periods n ≡ true
+flow-there periods n ok there =
+    let l : 0 < getD (0 ∷ periods) n 0 = omega (arith, rate-at periods n (within-low 1 flowSlots n ok)) in
+    and-eq-true-iff (flowOk n) (ltb 0 (getD (0 ∷ periods) n 0)) .1 (ok, lt-ltb 0 (getD (0 ∷ periods) n 0) l)
 
 module _ (rates s : List ℕ) (at : ℕ) where
   -- only a flow has a route
-  pub absent-other : (tagAt s at ≡ layout Kind.flow .tag → ⊥) → namesAbsent rates s at ≡ false
-  unfolding namesAbsent
-  absent-other h = rw (ne-eqb (tagAt s at) (layout Kind.flow .tag) h)
+  pub absent-other : (tagAt s at ≡ layout Kind.flow .tag → ⊥) → (tagAt s at ≡ layout Kind.flow2 .tag → ⊥) → namesAbsent rates s at ≡ false
+  unfolding namesAbsent absentIn
+  absent-other h k = rw (ne-eqb (tagAt s at) (layout Kind.flow .tag) h, ne-eqb (tagAt s at) (layout Kind.flow2 .tag) k)
 
   pub absent-flow : tagAt s at ≡ layout Kind.flow .tag → namesAbsent rates s at ≡ not (every (portIn rates) (routeAt Kind.flow s at))
-  unfolding namesAbsent
-  absent-flow h = rw (eq-eqb (tagAt s at) (layout Kind.flow .tag) h)
+  unfolding namesAbsent absentIn
+  absent-flow h = rw (eq-eqb (tagAt s at) (layout Kind.flow .tag) h, ne-eqb (tagAt s at) (layout Kind.flow2 .tag) (λ k. omega arith)) (or-false _)
+
+  pub absent-flow2 : tagAt s at ≡ layout Kind.flow2 .tag → namesAbsent rates s at ≡ not (every (portIn rates) (routeAt Kind.flow2 s at))
+  unfolding namesAbsent absentIn
+  absent-flow2 h = rw (ne-eqb (tagAt s at) (layout Kind.flow .tag) (λ k. omega arith), eq-eqb (tagAt s at) (layout Kind.flow2 .tag) h)
 
   -- extra bytes name one port
   pub absent-plain : (tagAt s at ≡ layout Kind.extra .tag → ⊥) → extraAbsent rates s at ≡ false
@@ -120,6 +133,9 @@ module _ (rates periods s : List ℕ) (at : ℕ) where
   pub there-route : tagAt s at ≡ layout Kind.flow .tag → NamedThere rates periods s at → every (portIn rates) (routeAt Kind.flow s at) ≡ true
   there-route kind h = not-false _ (sym (absent-flow rates s at kind) ∙ h .routes)
 
+  pub there-route2 : tagAt s at ≡ layout Kind.flow2 .tag → NamedThere rates periods s at → every (portIn rates) (routeAt Kind.flow2 s at) ≡ true
+  there-route2 kind h = not-false _ (sym (absent-flow2 rates s at kind) ∙ h .routes)
+
   pub there-jitter : tagAt s at ≡ layout Kind.jitter .tag → NamedThere rates periods s at → hasFlow periods (number2 (valueAt s at) 0) ≡ true
   there-jitter kind h = not-false _ (sym (absent-jitter periods s at kind) ∙ h .jitters)
 
@@ -135,3 +151,12 @@ NamesPresent rates periods (flow n period count bytes route) = every (portIn rat
 NamesPresent rates periods (extra n bytes) = portIn rates n ≡ true
 NamesPresent rates periods (jitter n ns) = hasFlow periods n ≡ true
 NamesPresent rates periods (clock k) = Unit {0}
+
+-- a port or a flow of which the part speaks is in the plan with these rates and periods
+abbrev pub Present : (rates periods : List ℕ) → Part → Type 0
+Present rates periods (header guard top) = Unit {0}
+Present rates periods (port n rate blocking) = portIn rates n ≡ true
+Present rates periods (flow n period count bytes route) = hasFlow periods n ≡ true
+Present rates periods (extra n bytes) = Unit {0}
+Present rates periods (jitter n ns) = Unit {0}
+Present rates periods (clock k) = Unit {0}

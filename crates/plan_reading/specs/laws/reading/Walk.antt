@@ -7,14 +7,14 @@ use native.Mathlib.Omega.{arith}
 use lib.Dec.{ltb, eqb}
 use lib.ListN.{length}
 use borrow.Author.Tests.{ltb-true, ltb-false}
-use Rattle.cqf.specs.Bounded.{within}
 use Rattle.cqf.specs.Plan.{Plan}
 use Rattle.cqf.specs.Form.{Form}
 use Rattle.plan.specs.Layout.{formBy}
 use Rattle.plan.specs.Field.{Field, field, fieldAt}
 use Rattle.plan_reading.specs.Key.{headerKey}
 use Rattle.plan_reading.specs.Draft.{Draft, blank, hasKey, taken, fieldRepeats, added}
-use Rattle.plan_reading.specs.Reading.{PlanRead, accepted, rejected, Mode, loose, Step, stop, more, routeAt, stepAt, firstAbsent, closing, readFrom, readAs, readPlan, maxBytes}
+use Rattle.plan_reading.specs.Reading.{PlanRead, accepted, rejected, Mode, loose, modeIn, Step, stop, more, routeAt, stepAt, firstAbsent, closing, readFrom, readForm, readAs, readPlan}
+use Rattle.plan_reading.specs.laws.reading.PlanLength.{form-sized, sized, read-form}
 use Rattle.plan_reading.specs.laws.reading.Steps.{step-more}
 use Rattle.plan_reading.specs.laws.reading.Onward.{onward, read-end, read-stop, read-more}
 
@@ -77,19 +77,19 @@ reads-from form mode (suc n) s at last d p m k enough e = go (reads-from form mo
         record { final = d; walk = Reads.done refl end; closes = sym (read-end form mode s at last d (length s) end) ∙ e }
 
 -- an accepted plan is read from the front to its end
+pub form-reads
+    : (form : Form) (mode : Mode) (s : List ℕ) (p : Plan) (ports flows : ℕ)
+    → readForm form mode s ≡ accepted p ports flows
+    → Ends form s 0 blank (accepted p ports flows)
+form-reads form mode s p m k e =
+    reads-from form (modeIn form mode) (length s) s 0 0 blank p m k (omega arith)
+    (sym (form-sized form mode s (sized form mode s p m k e)) ∙ e)
+
 pub read-as
     : (mode : Mode) (s : List ℕ) (p : Plan) (ports flows : ℕ)
     → readAs mode s ≡ accepted p ports flows
     → Ends (formBy s) s 0 blank (accepted p ports flows)
-unfolding readAs
-read-as mode s p m k e = go (within 1 maxBytes (length s)) e
-  where
-    go
-        : (b : Bool)
-        → elim b [ true ↦ readFrom (formBy s) mode (length s) s 0 0 blank | false ↦ rejected 1 0 ] ≡ accepted p m k
-        → Ends (formBy s) s 0 blank (accepted p m k)
-    go true e = reads-from (formBy s) mode (length s) s 0 0 blank p m k (omega arith) e
-    go false e = let z : _≡_ {A = ℕ} 0 1 = cc in absurd (omega arith)
+read-as mode s p m k e = form-reads (formBy s) mode s p m k (sym (read-form mode s) ∙ e)
 
 pub accepted-reads
     : (s : List ℕ) (p : Plan) (ports flows : ℕ)

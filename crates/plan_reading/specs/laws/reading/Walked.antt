@@ -23,35 +23,34 @@ use Rattle.plan_reading.specs.laws.order.Late.{past-end}
 use Rattle.plan_reading.specs.laws.order.Order.{flagged-blank}
 use Rattle.plan_reading.specs.laws.order.Rows.{row-refused, row-field}
 use Rattle.plan_reading.specs.laws.rows.SavedRow.{EntryOk, AllOk, addedAll}
-use Rattle.plan_reading.specs.laws.rows.RowRead.{row-fields, row-reads}
+use Rattle.plan_reading.specs.laws.rows.RowRead.{row-read, row-reads}
 use Rattle.plan_reading.specs.laws.rows.RowParts.{partsRow, row-tables, Free, done, then, free-fresh}
 use Rattle.plan_reading.specs.laws.saved.Tidy.{fresh-tidy}
 
 -- a walk over fields is one over such a row
-walk-free
+pub walk-free
     : (form : Form) (s : List ℕ) (n : ℕ) {at : ℕ} {d e : Draft}
     → Reads form s at d e
     → length s ≤ at + n
-    → Free d (fieldsFrom form n s at) × (addedAll d (fieldsFrom form n s at) ≡ e)
+    → Free form d (fieldsFrom form n s at) × (addedAll d (fieldsFrom form n s at) ≡ e)
 unfolding addedAll
 walk-free form s n {at} (done same end) enough = rw (row-refused form n s at 2 at (past-end form s at end)) (done, same)
 walk-free form s zero (one x next less stands free no-repeat rest) enough = absurd (omega arith)
 walk-free form s (suc n) {at} {d} {e} (one x next less stands free no-repeat rest) enough =
     let t = walk-free form s n rest (omega (arith, found-forward form s at x next stands)) in
-    let ok : EntryOk (entryOf x (routeAt (x .kind) s at)) =
+    let ok : EntryOk form (entryOf x (routeAt (x .kind) s at)) =
     record { numbers = found-numbers form s at x next stands; fits = found-route form s at x next stands; no-repeat = no-repeat } in
     rw (row-field form n s at x next stands) (then ok free (t .0), t .1)
 
 -- so the parts of a row of fields in range that rises are fresh
-pub fresh-row : (es : List Entry) → AllOk es → rising es ≡ true → Fresh (partsRow es)
-unfolding fieldsIn
-fresh-row es ok up =
+pub fresh-row : {form : Form} (es : List Entry) → AllOk form es → rising es ≡ true → Fresh (partsRow es)
+fresh-row {form} es ok up =
     free-fresh blank flagged-blank
-    (subst (Free blank) (row-fields es ok) (walk-free (formBy (rowBytes es)) (rowBytes es) (length (rowBytes es)) (row-reads es ok up) (omega arith) .0))
+    (subst (Free form blank) (row-read es ok) (walk-free form (rowBytes es) (length (rowBytes es)) (row-reads es ok up) (omega arith) .0))
 
 -- the fields of an accepted plan, and the tables that they leave
 pub record AcceptedRow (s : List ℕ) (p : Plan) : Type 0 where
-  pub free : Free blank (fieldsIn s)
+  pub free : Free (formBy s) blank (fieldsIn s)
   pub leaves : addedAll blank (fieldsIn s) .tables ≡ p
   pub fresh : Fresh (partsRow (fieldsIn s))
   pub tables : tablesOf (partsRow (fieldsIn s)) ≡ p

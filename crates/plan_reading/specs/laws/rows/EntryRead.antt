@@ -21,7 +21,7 @@ use Rattle.plan_reading.specs.laws.fields.Decoded.{decoded2, value-lengt
 use Rattle.plan_reading.specs.laws.rows.SavedRow.{EntryOk}
 
 -- a field's bytes by themselves
-module _ (e : Entry) (ok : EntryOk e) where
+module _ {form : Form} (e : Entry) (ok : EntryOk form e) where
   -- they are its head and its value
   pub entry-length : length (bytesOf e) ≡ headSize + sizeOf (e .field)
   unfolding bytesOf
@@ -43,7 +43,7 @@ module _ (e : Entry) (ok : EntryOk e) where
   entry-is-field = record { headed = omega (arith, entry-length); whole = omega (arith, entry-length, entry-size) }
 
 -- between other bytes
-module _ (front rest : List ℕ) (e : Entry) (ok : EntryOk e) where
+module _ {form : Form} (front rest : List ℕ) (e : Entry) (ok : EntryOk form e) where
   abbrev there : List ℕ
   there = front ++ (bytesOf e ++ rest)
 
@@ -61,13 +61,13 @@ module _ (front rest : List ℕ) (e : Entry) (ok : EntryOk e) where
       whole there (length front)
       (omega (arith, size-there, entry-length e ok, length-append front (bytesOf e ++ rest), length-append (bytesOf e) rest))
 
-  pub field-there : (form : Form) → fieldAt form there (length front) ≡ field (e .field) (length front + length (bytesOf e))
-  field-there form =
+  pub field-there : fieldAt form there (length front) ≡ field (e .field) (length front + length (bytesOf e))
+  field-there =
       let next : length front + headSize + sizeAt there (length front) ≡ length front + length (bytesOf e) =
       omega (arith, size-there, entry-length e ok) in
       field-whole form there (length front) whole-there
       ∙ rw (next, tag-there, value-there)
-      (value-decoded (e .field) (e .route) (ok .numbers) (ok .fits) form (length front) (length front + length (bytesOf e)))
+      (value-decoded (e .field) (e .route) (ok .numbers) (ok .fits) (length front) (length front + length (bytesOf e)))
 
   -- with its route
   pub route-there : routeAt (e .field .kind) there (length front) ≡ e .route

@@ -82,11 +82,10 @@ module _ (rates periods s : List ℕ) where
 
   -- test 9 finds none in a plan whose fields name only what is present
   pub none-absent
-      : {d e : Draft}
-      → Reads (formBy s) s 0 d e
-      → AllPresent rates periods (fieldsIn s)
+      : {form : Form} {d e : Draft}
+      → Reads form s 0 d e
+      → AllPresent rates periods (fieldsFrom form (length s) s 0)
       → length s ≤ firstAbsent rates periods s
-  unfolding fieldsIn
   none-absent reads there =
       let all = walk-there (length s) reads (omega arith) there in
       rw (first-extra rates periods s (all .routes) (all .jitters)) (all .extras)

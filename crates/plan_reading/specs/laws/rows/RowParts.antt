@@ -5,6 +5,7 @@ use mathlib.Core.Path.{_≡_, refl, sym, ap, _∙_}
 use mathlib.Core.Logic.{_≢_}
 use mathlib.Core.List.{List, [], _∷_, _++_}
 use mathlib.Core.Bool.{true, false, true≢false}
+use Rattle.cqf.specs.Form.{Form}
 use Rattle.cqf.specs.Plan.{Plan}
 use Rattle.plan_reading.specs.Part.{Part, partsOf}
 use Rattle.plan_reading.specs.Key.{keyOf}
@@ -14,8 +15,8 @@ use Rattle.plan_reading.specs.Ranges.{PartOk}
 use Rattle.plan_reading.specs.Strict.{Entry}
 use Rattle.plan_reading.specs.laws.fields.Ranged.{All, all-append, all-map}
 use Rattle.plan_reading.specs.laws.fields.ByPart.{partKey, Apart, Separate}
-use Rattle.plan_reading.specs.laws.fields.Kinds.{parts-ok, parts-keyed, own-separate}
-use Rattle.plan_reading.specs.laws.stores.Commute.{apart-parts}
+use Rattle.plan_reading.specs.laws.fields.Kinds.{parts-ok, parts-owned, own-separate}
+use Rattle.plan_reading.specs.laws.stores.Commute.{Of, apart-parts}
 use Rattle.plan_reading.specs.laws.stores.Stored.{Flagged, added-flagged, key-taken, key-stays}
 use Rattle.plan_reading.specs.laws.stores.Fresh.{Fresh}
 use Rattle.plan_reading.specs.laws.rows.SavedRow.{EntryOk, AllOk, none, more, addedAll}
@@ -36,11 +37,16 @@ row-tables d (e ∷ es) =
     row-tables (added d (e .field) (e .route)) es ∙ sym (store-append (d .tables) (partsOf (e .field) (e .route)) (partsRow es))
 
 -- fields in range that may be added one after the other: none is there before
-pub data Free : Draft → List Entry → Type 0 where
-  done : {d : Draft} → Free d []
-  then : {d : Draft} {e : Entry} {es : List Entry} → EntryOk e → taken d (e .field) ≡ false → Free (added d (e .field) (e .route)) es → Free d (e ∷ es)
+pub data Free (form : Form) : Draft → List Entry → Type 0 where
+  done : {d : Draft} → Free form d []
+  then
+      : {d : Draft} {e : Entry} {es : List Entry}
+      → EntryOk form e
+      → taken d (e .field) ≡ false
+      → Free form (added d (e .field) (e .route)) es
+      → Free form d (e ∷ es)
 
-pub free-ok : {d : Draft} {es : List Entry} → Free d es → AllOk es
+pub free-ok : {form : Form} {d : Draft} {es : List Entry} → Free form d es → AllOk form es
 free-ok done = none
 free-ok (then ok free rest) = more ok (free-ok rest)
 
@@ -49,7 +55,7 @@ abbrev Other : ℕ → List Entry → Type 0
 Other key [] = Unit {0}
 Other key (e ∷ es) = (key ≢ keyOf (e .field)) × Other key es
 
-free-other : (d : Draft) (key : ℕ) {es : List Entry} → Flagged d → hasKey d key ≡ true → Free d es → Other key es
+free-other : {form : Form} (d : Draft) (key : ℕ) {es : List Entry} → Flagged d → hasKey d key ≡ true → Free form d es → Other key es
 free-other d key flags there done = tt
 free-other d key flags there (then {e = e} ok free rest) = (
   λ same. true≢false (sym (sym (ap (hasKey d) same) ∙ there) ∙ free),
@@ -58,20 +64,20 @@ free-other d key flags there (then {e = e} ok free rest) = (
 )
 
 -- parts of fields of other keys have other keys
-apart-row : (x : Part) (key : ℕ) → partKey x ≡ key → (es : List Entry) → Other key es → Apart x (partsRow es)
-apart-row x key is [] h = tt
-apart-row x key is (e ∷ es) h =
+apart-row : {form : Form} (x : Part) (key : ℕ) → Of form key x → {es : List Entry} → AllOk form es → Other key es → Apart x (partsRow es)
+apart-row x key is none h = tt
+apart-row {form} x key is (more {e = e} {es = es} ok rest) h =
     all-append (λ y. partKey x ≢ partKey y) (partsOf (e .field) (e .route)) (partsRow es)
-    (apart-parts x key (keyOf (e .field)) (h .0) is (partsOf (e .field) (e .route)) (parts-keyed (e .field) (e .route)))
-    (apart-row x key is es (h .1))
+    (apart-parts form x key (keyOf (e .field)) (h .0) is (partsOf (e .field) (e .route)) (parts-owned (e .field) (ok .numbers) (e .route)))
+    (apart-row x key is rest (h .1))
 
 separate-append : (xs ys : List Part) → Separate xs → Separate ys → All (λ x. Apart x ys) xs → Separate (xs ++ ys)
 separate-append [] ys a b c = b
 separate-append (x ∷ xs) ys a b c = (all-append (λ y. partKey x ≢ partKey y) xs ys (a .0) (c .0), separate-append xs ys (a .1) b (c .1))
 
-pub free-fresh : (d : Draft) {es : List Entry} → Flagged d → Free d es → Fresh (partsRow es)
+pub free-fresh : {form : Form} (d : Draft) {es : List Entry} → Flagged d → Free form d es → Fresh (partsRow es)
 free-fresh d flags done = record { ok = tt; separate = tt }
-free-fresh d flags (then {e = e} {es = es} ok free rest) =
+free-fresh {form} d flags (then {e = e} {es = es} ok free rest) =
     let x = e .field in
     let r = e .route in
     let after = free-fresh (added d x r) (added-flagged d x r flags) rest in
@@ -80,5 +86,6 @@ free-fresh d flags (then {e = e} {es = es} ok free rest) =
       ok = all-append PartOk (partsOf x r) (partsRow es) (parts-ok x (ok .numbers) r (ok .fits)) (after .ok);
       separate =
           separate-append (partsOf x r) (partsRow es) (own-separate x r) (after .separate)
-          (all-map (λ u. partKey u ≡ keyOf x) (λ u. Apart u (partsRow es)) (partsOf x r) (λ u is. apart-row u (keyOf x) is es others) (parts-keyed x r));
+          (all-map (Of form (keyOf x)) (λ u. Apart u (partsRow es)) (partsOf x r) (λ u is. apart-row u (keyOf x) is (free-ok rest) others)
+          (parts-owned x (ok .numbers) r));
     }

@@ -35,10 +35,10 @@ unfolding rowBytes
 holds-none s at h = ap length (h .bytes ∙ append-nil (h .front)) ∙ sym (h .offset)
 
 -- the field at the front is read, and the others follow it
-module _ (form : Form) (s : List ℕ) (at : ℕ) (e : Entry) (es : List Entry) (ok : EntryOk e) (h : Holds s at (e ∷ es)) where
+module _ (form : Form) (s : List ℕ) (at : ℕ) (e : Entry) (es : List Entry) (ok : EntryOk form e) (h : Holds s at (e ∷ es)) where
   front-field : fieldAt form s at ≡ field (e .field) (at + length (bytesOf e))
   unfolding rowBytes
-  front-field = rw (h .bytes, h .offset) (field-there (h .front) (rowBytes es) e ok form)
+  front-field = rw (h .bytes, h .offset) (field-there (h .front) (rowBytes es) e ok)
 
   front-route : routeAt (e .field .kind) s at ≡ e .route
   unfolding rowBytes
@@ -60,7 +60,7 @@ module _ (form : Form) (s : List ℕ) (at : ℕ) (e : Entry) (es : List Entry) (
       omega (arith, whole, h .offset, length-append (bytesOf e) (rowBytes es), entry-length e ok)
 
 -- the fields that are read
-row-from : (form : Form) (n : ℕ) (s : List ℕ) (at : ℕ) {es : List Entry} → AllOk es → Holds s at es → length s ≤ at + n → fieldsFrom form n s at ≡ es
+row-from : (form : Form) (n : ℕ) (s : List ℕ) (at : ℕ) {es : List Entry} → AllOk form es → Holds s at es → length s ≤ at + n → fieldsFrom form n s at ≡ es
 row-from form n s at none h enough = row-refused form n s at 2 at (past-end form s at (omega (arith, holds-none s at h)))
 row-from form zero s at (more {e = e} {es = es} ok rest) h enough = absurd (omega (arith, front-inside form s at e es ok h))
 row-from form (suc n) s at (more {e = e} {es = es} ok rest) h enough =
@@ -72,18 +72,22 @@ row-from form (suc n) s at (more {e = e} {es = es} ok rest) h enough =
 whole-row : (es : List Entry) → Holds (rowBytes es) 0 es
 whole-row es = record { front = []; bytes = refl; offset = refl }
 
-pub row-fields : (es : List Entry) → AllOk es → fieldsIn (rowBytes es) ≡ es
+-- all of them, read as a plan of their form
+pub row-read : {form : Form} (es : List Entry) → AllOk form es → fieldsFrom form (length (rowBytes es)) (rowBytes es) 0 ≡ es
+row-read {form} es ok = row-from form (length (rowBytes es)) (rowBytes es) 0 ok (whole-row es) (omega arith)
+
+-- and where their bytes tell the form
+pub row-fields : {form : Form} (es : List Entry) → AllOk form es → formBy (rowBytes es) ≡ form → fieldsIn (rowBytes es) ≡ es
 unfolding fieldsIn
-row-fields es ok = row-from (formBy (rowBytes es)) (length (rowBytes es)) (rowBytes es) 0 ok (whole-row es) (omega arith)
+row-fields es ok told = ap (λ (f : Form). fieldsFrom f (length (rowBytes es)) (rowBytes es) 0) told ∙ row-read es ok
 
 -- a row that rises is in order
-pub row-in-order : (es : List Entry) → AllOk es → rising es ≡ true → InOrder (rowBytes es)
-row-in-order es ok up = ap rising (row-fields es ok) ∙ up
+pub row-in-order : {form : Form} (es : List Entry) → AllOk form es → formBy (rowBytes es) ≡ form → rising es ≡ true → InOrder (rowBytes es)
+row-in-order es ok told up = ap rising (row-fields es ok told) ∙ up
 
-pub row-ascends : (es : List Entry) → AllOk es → rising es ≡ true → Ascends 0 es
-unfolding fieldsIn
-row-ascends es ok up =
-    subst (Ascends 0) (row-fields es ok) (rising-from (formBy (rowBytes es)) (length (rowBytes es)) (rowBytes es) 0 (row-in-order es ok up))
+pub row-ascends : {form : Form} (es : List Entry) → AllOk form es → rising es ≡ true → Ascends form 0 es
+row-ascends {form} es ok up =
+    subst (Ascends form 0) (row-read es ok) (rising-from form (length (rowBytes es)) (rowBytes es) 0 (ap rising (row-read es ok) ∙ up))
 
 -- no key from this one on is taken
 abbrev Free : Draft → ℕ → Type 0
@@ -107,8 +111,8 @@ free-added d x r least free from key after =
 -- the walk over the row
 walk-row
     : (form : Form) (s : List ℕ) (at least : ℕ) (d : Draft) {es : List Entry}
-    → AllOk es
-    → Ascends least es
+    → AllOk form es
+    → Ascends form least es
     → Free d least
     → Holds s at es
     → Reads form s at d (addedAll d es)
@@ -126,5 +130,5 @@ walk-row form s at least d (more {e = e} {es = es} ok rest) (next k low up) free
     (free-added d (e .field) (e .route) least free low)
     (holds-rest form s at e es ok h)))
 
-pub row-reads : (es : List Entry) → AllOk es → rising es ≡ true → Reads (formBy (rowBytes es)) (rowBytes es) 0 blank (addedAll blank es)
-row-reads es ok up = walk-row (formBy (rowBytes es)) (rowBytes es) 0 0 blank ok (row-ascends es ok up) free-blank (whole-row es)
+pub row-reads : {form : Form} (es : List Entry) → AllOk form es → rising es ≡ true → Reads form (rowBytes es) 0 blank (addedAll blank es)
+row-reads {form} es ok up = walk-row form (rowBytes es) 0 0 blank ok (row-ascends es ok up) free-blank (whole-row es)

@@ -32,7 +32,7 @@ module _ (tag : ℕ) (v : List ℕ) (o : Octets v) where
       ap (λ (m : ℕ). take (2 * m) w) hops
       ∙ encoded2s w (octets-drop (numbersSize k) v o) 0 (length w / 2) (omega arith)
 
-  value-bytes : (x : Field) → Passes tag v x → v ≡ valueOf x (routeIn (x .kind) v)
+  value-bytes : {form : Form} (x : Field) → Passes form tag v x → v ≡ valueOf x (routeIn (x .kind) v)
   unfolding valueOf
   value-bytes x k =
       let n = numbersSize (x .kind) in

@@ -5,6 +5,7 @@ use mathlib.Core.List.{List, [], _∷_}
 use mathlib.Core.Bool.{false}
 use native.Mathlib.Omega.{arith}
 use lib.Dec.{ltb}
+use Rattle.cqf.specs.Form.{Form}
 use Rattle.cqf.specs.Bounded.{countTo}
 use Rattle.cqf.specs.Limits.{portSlots, flowSlots}
 use Rattle.cqf.specs.Plan.{Plan, noPlan, rateOf, periodOf}
@@ -39,13 +40,13 @@ counts-blank =
       flows = record { size = sized-none .periods; is = sym (countTo-none flowSlots _ (λ i l. rw (zeros flowSlots i))); free = λ i l e. zeros flowSlots i };
     }
 
-counts-added : (d : Draft) (x : Field) (r : List ℕ) → NumbersOk x → taken d x ≡ false → Counts d → Counts (added d x r)
+counts-added : {form : Form} (d : Draft) (x : Field) (r : List ℕ) → NumbersOk form x → taken d x ≡ false → Counts d → Counts (added d x r)
 unfolding added
 counts-added d x r ok fresh c =
     let both = counted x ok r (d .tables) (d .seen) (omega (arith, c .flags, key-below x ok)) fresh (c .ports) (c .flows) in
     record { flags = added-flagged d x r (c .flags); ports = both .0; flows = both .1 }
 
-counts-row : (d : Draft) (es : List Entry) → Free d es → Counts d → Counts (addedAll d es)
+counts-row : {form : Form} (d : Draft) (es : List Entry) → Free form d es → Counts d → Counts (addedAll d es)
 unfolding addedAll
 counts-row d [] done c = c
 counts-row d (e ∷ es) (then ok free rest) c =

@@ -11,6 +11,7 @@ use lib.ListN.{length, length-set}
 use lib.Seq.{getD-set-same, getD-set-other}
 use borrow.Author.Tests.{eq-eqb, ne-eqb}
 use Rattle.cqf.specs.Bounded.{countTo}
+use Rattle.cqf.specs.Form.{older, formNumber, formFits}
 use Rattle.cqf.specs.Limits.{portSlots, flowSlots, lengthOk}
 use Rattle.cqf.specs.Plan.{Plan, clocksEqual, rateOf, extraOf, periodOf, jitterOf, present, validPlan}
 use Rattle.cqf.specs.Reprice.{withLength}
@@ -21,7 +22,6 @@ use Rattle.plan_reading.specs.Saved.{when, collect, headerPart, portPart
 use Rattle.plan_reading.specs.Relength.{relengthed, relengthedBytes}
 use Rattle.plan_reading.specs.Sized.{Sized}
 use Rattle.plan_reading.specs.Tidy.{Tidy}
-use Rattle.plan_reading.specs.laws.saved.SavedLength.{saved-length}
 use Rattle.plan_reading.specs.laws.saved.SavedRead.{saved-held}
 
 module _ (g : Part → Part) where
@@ -100,11 +100,11 @@ module _ (p : Plan) (f bytes : ℕ) (slot : f < length (p .lengths)) where
       clock-same))))
       ∙ sym (saved-is q)
 
-  pub bytes-changed : relengthedBytes p (suc f) bytes ≡ savedBytes (withLength p f bytes)
+  pub bytes-changed : relengthedBytes older p (suc f) bytes ≡ savedBytes (withLength p f bytes)
   unfolding relengthedBytes savedBytes
   bytes-changed = ap partBytes parts-changed
 
-  sized-changed : Sized p → Sized (withLength p f bytes)
+  pub sized-changed : Sized p → Sized (withLength p f bytes)
   unfolding withLength
   sized-changed s =
       record {
@@ -119,20 +119,21 @@ module _ (p : Plan) (f bytes : ℕ) (slot : f < length (p .lengths)) where
         routes = s .routes;
       }
 
--- the changed bytes of a valid plan are accepted by either reading, with as many ports and flows, and hold the plan with that length
+-- the changed bytes of a valid plan that fits the older form are accepted by either reading, with as many ports and flows, and hold the plan with that length
 pub changed-read
     : (p : Plan) (f bytes : ℕ)
     → validPlan p ≡ true
     → Sized p
     → Tidy p
+    → formFits (formNumber older) (p .hops) ≡ true
     → present p f ≡ true
     → lengthOk bytes ≡ true
     → (mode : Mode)
-    → readAs mode (relengthedBytes p (suc f) bytes)
+    → readAs mode (relengthedBytes older p (suc f) bytes)
     ≡ accepted (withLength p f bytes) (countTo portSlots (λ q. ltb 0 (rateOf p q))) (countTo flowSlots (λ f. ltb 0 (periodOf p f)))
 unfolding withLength
-changed-read p f bytes valid sized tidy there ok mode =
+changed-read p f bytes valid sized tidy fits there ok mode =
     let slot = length-slot p valid f there in
     let changed = length-valid p valid f there bytes ok in
     ap (readAs mode) (bytes-changed p f bytes slot)
-    ∙ saved-held (withLength p f bytes) changed (sized-changed p f bytes slot sized) (saved-length (withLength p f bytes) changed) tidy mode
+    ∙ saved-held (withLength p f bytes) changed (sized-changed p f bytes slot sized) fits tidy mode

@@ -6,11 +6,12 @@ use mathlib.Core.Logic.{_⊎_, inl, inr}
 use mathlib.Core.List.{List, List·Memᴰ, List·Memᴰ·head, List·Memᴰ·tail, List·Memᴰ·not-nil, Memᴰ·cast}
 use mathlib.Core.Option.{some}
 use native.Mathlib.Omega.{arith}
+use Rattle.cqf.specs.Form.{Form, older}
 use Rattle.cqf.specs.Limits.{portSlots, flowSlots}
 use Rattle.cqf.specs.Plan.{Clock, Plan, noPlan, equalClocks}
 use Rattle.cqf.specs.laws.Ranges.{top-positive}
 use Rattle.plan.specs.Bytes.{Octets}
-use Rattle.plan.specs.Layout.{Kind}
+use Rattle.plan.specs.Layout.{Kind, formBy}
 use Rattle.plan_reading.specs.Part.{Part, header, port, flow, extra, jitter, clock}
 use Rattle.plan_reading.specs.Rank.{numberOf}
 use Rattle.plan_reading.specs.Store.{putsTop, putsClock, store}
@@ -103,7 +104,7 @@ module _ (xs : List Part) (fresh : Fresh xs) (headed : Headed xs) where
           found _ (s .0) (clock (u .0)) (h .stands) (s .1) (u .1) refl refl
 
 -- an accepted plan has a header
-header-there : (xs : List Part) → 1 ≤ tablesOf xs .top → Headed xs
+pub header-there : (xs : List Part) → 1 ≤ tablesOf xs .top → Headed xs
 unfolding store noPlan
 header-there xs some-top = go (alone-source (λ r. r .top) putsTop (λ r x. refl) noPlan xs)
   where
@@ -120,7 +121,7 @@ tells-spelled (extra n b) ok says = let some : b ≡ 0 → ⊥ = λ z. says (z, 
 tells-spelled (jitter n j) ok says = let some : j ≡ 0 → ⊥ = λ z. says (z, tt) in omega arith
 tells-spelled (clock k) ok says = λ z. says (z, tt)
 
-ok-at : {e : Entry} {es : List Entry} → AllOk es → List·Memᴰ e es → EntryOk e
+pub ok-at : {form : Form} {e : Entry} {es : List Entry} → AllOk form es → List·Memᴰ e es → EntryOk form e
 ok-at none m = absurd (List·Memᴰ·not-nil m)
 ok-at (more ok rest) (List·Memᴰ·head same) = rw same ok
 ok-at (more ok rest) (List·Memᴰ·tail m) = ok-at rest m
@@ -128,8 +129,8 @@ ok-at (more ok rest) (List·Memᴰ·tail m) = ok-at rest m
 -- the plan that a row in strict order leaves is saved as the row
 module _ (xs : List Part) (fresh : Fresh xs) (headed : Headed xs) where
   pub row-back
-      : AllOk (spellAll xs)
-      → Ascends 0 (spellAll xs)
+      : AllOk older (spellAll xs)
+      → Ascends older 0 (spellAll xs)
       → ((x : Part) → List·Memᴰ x xs → Tells x)
       → savedFields (tablesOf xs) ≡ spellAll xs
   row-back ok up tells =
@@ -142,18 +143,21 @@ module _ (xs : List Part) (fresh : Fresh xs) (headed : Headed xs) where
       let h : Says (tablesOf xs) (t .0) = record { stands = fresh-stands fresh (t .1); tells = tells (t .0) (t .1) } in
       Memᴰ·cast (t .2) (spell-in (savedParts (tablesOf xs)) (says-saved (tablesOf xs) (t .0) h)))
 
--- A plan that the strict reading accepts, and in which no field says what its absence says, is saved as the bytes that were read.
+-- A plan of the older form that the strict reading accepts, and in which no field says what its absence says, is saved as the bytes that were read.
 pub saved-back
     : (s : List ℕ) (p : Plan) (ports flows : ℕ)
     → Octets s
     → readAs strict s ≡ accepted p ports flows
+    → formBy s ≡ older
     → NoneSaysNothing s
     → savedBytes p ≡ s
 unfolding savedBytes
-saved-back s p m k octets e tells =
+saved-back s p m k octets e told tells =
     let a = accepted-row strict s p m k e in
     let xs = partsRow (fieldsIn s) in
-    let spelled : spellAll xs ≡ fieldsIn s = row-spelled (free-ok (a .free)) in
+    let ok : AllOk older (fieldsIn s) = subst (λ (f : Form). AllOk f (fieldsIn s)) told (free-ok (a .free)) in
+    let up : Ascends older 0 (fieldsIn s) = subst (λ (f : Form). Ascends f 0 (fieldsIn s)) told (keys-ascend s p m k e) in
+    let spelled : spellAll xs ≡ fieldsIn s = row-spelled ok in
     let valid = accepted-valid s p m k (read-loosely strict s p m k e) in
     let headed = header-there xs (rw (a .tables) (top-positive p valid)) in
     let own : (x : Part) → List·Memᴰ x xs → Tells x =
@@ -161,7 +165,7 @@ saved-back s p m k octets e tells =
     tells-spelled x (all-at PartOk xs (a .fresh .ok) i)
     (tells (spell x) (subst (λ (es : List Entry). List·Memᴰ (spell x) es) spelled (spell-in xs i))) in
     let row : savedFields (tablesOf xs) ≡ spellAll xs =
-    row-back xs (a .fresh) headed (rw spelled (free-ok (a .free))) (rw spelled (keys-ascend s p m k e)) own in
+    row-back xs (a .fresh) headed (rw spelled ok) (rw spelled up) own in
     ap (λ (r : Plan). rowBytes (savedFields r)) (sym (a .tables))
     ∙ ap rowBytes (row ∙ spelled)
     ∙ sym (accepted-bytes strict s p m k octets e)

@@ -5,10 +5,13 @@ use mathlib.Core.Logic.{_⊎_, inl, inr}
 use mathlib.Core.List.{List, [], _∷_, _++_}
 use mathlib.Core.Bool.{Bool, true, false, not}
 use native.Mathlib.Omega.{arith}
-use lib.Dec.{ltb}
-use lib.ListN.{length, length-append}
+use borrow.Author.Tests.{leb-true}
+use lib.Dec.{leb, ltb}
+use lib.ListN.{length, getD, length-append}
+use Rattle.cqf.specs.Form.{Form, older, newer, formNumber, mostHopsIn, formFits}
 use Rattle.cqf.specs.Limits.{portSlots, flowSlots, maxHops, routeStride}
 use Rattle.cqf.specs.Plan.{Plan, clocksEqual, rateOf, extraOf, periodOf, jitterOf, hopsOf, routeOf, validPlan}
+use Rattle.cqf.specs.laws.Bounded.{allTo-at}
 use Rattle.cqf.specs.laws.Lists.{sublist-length}
 use Rattle.cqf.specs.laws.Valid.{Empty, Held, slot-cases}
 use Rattle.plan.specs.Bytes.{headSize}
@@ -19,6 +22,12 @@ use Rattle.plan_reading.specs.FieldBytes.{bytes2s, valueOf, bytesOf, row
 use Rattle.plan_reading.specs.Saved.{spell, when, collect, headerPart, portPart, flowPart, extraPart, jitterPart, clockPart, portParts, flowParts, extraParts, jitterParts, clockParts, savedParts, partBytes, savedBytes}
 use Rattle.plan_reading.specs.laws.fields.Decoded.{ports-length}
 use Rattle.plan_reading.specs.laws.saved.Says.{jittersOn, extrasOn, flowsOn, portsOn}
+
+-- a plan that fits a form has no longer routes than the form allows
+pub fits-hops : (form : Form) (hops : List ℕ) → formFits (formNumber form) hops ≡ true → (f : ℕ) → f < flowSlots → getD hops f 0 ≤ mostHopsIn form
+unfolding formFits
+fits-hops older hops fits f l = leb-true _ _ (allTo-at flowSlots (λ f. leb (getD hops f 0) (mostHopsIn older)) fits f l)
+fits-hops newer hops fits f l = leb-true _ _ (allTo-at flowSlots (λ f. leb (getD hops f 0) (mostHopsIn newer)) fits f l)
 
 -- the length of the bytes of parts: one by one, and list by list
 part-length : (x : Part) (xs : List Part) → length (partBytes (x ∷ xs)) ≡ length (bytesOf (spell x)) + length (partBytes xs)
@@ -88,5 +97,6 @@ module _ (p : Plan) where
       go (inl e) = omega (arith, e .hops)
       go (inr e) = e .hops-most
 
-  pub saved-length : validPlan p ≡ true → length (savedBytes p) ≤ maxBytes
-  saved-length valid = omega (arith, saved-most (valid-hops valid))
+  -- a plan that can have been read in the older form is saved in it as no more bytes than a plan may have
+  pub saved-length : formFits (formNumber older) (p .hops) ≡ true → length (savedBytes p) ≤ maxBytes
+  saved-length fits = omega (arith, saved-most (λ f l. fits-hops older (p .hops) fits f l))

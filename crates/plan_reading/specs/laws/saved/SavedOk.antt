@@ -1,6 +1,6 @@
 -- The fields as which a valid plan is saved: each in range, in strict order, the header first, a flow among them, and every port
 -- and flow that they name in the plan.
-use Prim.Native.Nat.{ℕ, _-_, _*_, _<_}
+use Prim.Native.Nat.{ℕ, _-_, _*_, _≤_, _<_}
 use mathlib.Core.Path.{_≡_, refl, sym, ap, _∙_}
 use mathlib.Core.Logic.{inl, inr}
 use mathlib.Core.List.{List, [], _∷_, List·Memᴰ, List·Memᴰ·head, List·Memᴰ·tail}
@@ -10,11 +10,12 @@ use borrow.Author.Tests.{lt-ltb}
 use lib.Dec.{ltb}
 use lib.ListN.{length, getD}
 use Rattle.cqf.specs.Bounded.{every, distinct}
+use Rattle.cqf.specs.Form.{older, mostHopsIn}
 use Rattle.cqf.specs.Limits.{portSlots, flowSlots, routeStride, guardOk, topOk, portOk, rateOk, lengthOk, blockingOk, extraOk, flowOk, periodOk, countOk, jitterOk, hopsOk}
 use Rattle.cqf.specs.Plan.{Plan, clockOk, rateOf, periodOf, hopsOf, present, portIn, validPlan}
 use Rattle.cqf.specs.laws.Bounded.{anyTo-true}
 use Rattle.cqf.specs.laws.Lists.{sublist-length}
-use Rattle.cqf.specs.laws.Route.{rate-at, portIn-there}
+use Rattle.cqf.specs.laws.Route.{portIn-there}
 use Rattle.plan_reading.specs.Part.{Part, header, port, flow, extra, jitter, clock}
 use Rattle.plan_reading.specs.Ranges.{PartOk}
 use Rattle.plan_reading.specs.Reading.{hasFlow}
@@ -22,7 +23,7 @@ use Rattle.plan_reading.specs.Strict.{rising}
 use Rattle.plan_reading.specs.Saved.{spell, spellAll, headerPart, flowPart, savedParts, savedFields}
 use Rattle.plan_reading.specs.laws.fields.Within.{within-low, within-high, slot-below}
 use Rattle.plan_reading.specs.laws.validity.Held.{parts, port-held, flow-held}
-use Rattle.plan_reading.specs.laws.reading.Absent.{NamesPresent}
+use Rattle.plan_reading.specs.laws.reading.Absent.{flow-there, NamesPresent}
 use Rattle.plan_reading.specs.laws.rows.RowAbsent.{AllPresent, none, more}
 use Rattle.plan_reading.specs.laws.rows.SavedRow.{EntryOk, AllOk}
 use Rattle.plan_reading.specs.laws.rows.Spelled.{RoutePart, spell-ok, spelled-part, all-spelled}
@@ -38,15 +39,10 @@ ports-numbered rates (n ∷ r) h =
     let t = and-eq-true-iff (portIn rates n) (every (portIn rates) r) .0 h in
     and-eq-true-iff (portOk n) (every portOk r) .1 (and-eq-true-iff (portOk n) _ .0 (t .0) .0, ports-numbered rates r (t .1))
 
--- flow n, from 1 on, stands in slot n - 1
-flow-there : (periods : List ℕ) (n : ℕ) → flowOk n ≡ true → 0 < getD periods (n - 1) 0 → hasFlow periods n ≡ true
-flow-there periods n ok there =
-    let l : 0 < getD (0 ∷ periods) n 0 = omega (arith, rate-at periods n (within-low 1 flowSlots n ok)) in
-    and-eq-true-iff (flowOk n) (ltb 0 (getD (0 ∷ periods) n 0)) .1 (ok, lt-ltb 0 (getD (0 ∷ periods) n 0) l)
-
-module _ (p : Plan) (valid : validPlan p ≡ true) where
+-- of a plan whose routes a field of the older form can name
+module _ (p : Plan) (valid : validPlan p ≡ true) (few : (f : ℕ) → f < flowSlots → hopsOf p f ≤ mostHopsIn older) where
   -- each part that it says is in range
-  part-ok : (x : Part) → Says p x → PartOk x × RoutePart x
+  pub part-ok : (x : Part) → Says p x → PartOk x × RoutePart x
   part-ok (header g t) h = (
     record { guard = ap guardOk (sym (h .stands .0)) ∙ parts p valid .guard; top = ap topOk (sym (h .stands .1)) ∙ parts p valid .top },
     tt,
@@ -68,7 +64,7 @@ module _ (p : Plan) (valid : validPlan p ≡ true) where
           length = ap lengthOk (sym (s .3)) ∙ k .bytes;
           hops = ap hopsOk (sym long) ∙ k .hops;
         },
-        (ports, ap not once),
+        (ports, ap not once, omega (arith, long, few (n - 1) (slot-below flowSlots n (s .0)))),
       )
   part-ok (extra n b) h =
       let s = h .stands in
@@ -80,7 +76,7 @@ module _ (p : Plan) (valid : validPlan p ≡ true) where
       (record { number = s .0; ns = ap jitterOk (sym (s .1)) ∙ k .jitter }, tt)
   part-ok (clock c) h = (ap clockOk (sym (h .stands)) ∙ parts p valid .clock, tt)
 
-  pub says-ok : (x : Part) → Says p x → EntryOk (spell x)
+  pub says-ok : (x : Part) → Says p x → EntryOk older (spell x)
   says-ok x h = let t = part-ok x h in spell-ok x (t .0) (t .1)
 
   -- and names what is in the plan
@@ -115,17 +111,17 @@ module _ (p : Plan) (valid : validPlan p ≡ true) where
           more {e = spell x} (rw (spelled-part x) (all x (List·Memᴰ·head refl), tt)) (all-present xs (λ y m. all y (List·Memᴰ·tail m)))
 
   -- all are in range and in strict order
-  pub saved-ok : AllOk (savedFields p)
+  pub saved-ok : AllOk older (savedFields p)
   saved-ok = all-spelled (savedParts p) (λ x m. says-ok x (saved-says p m))
 
   pub saved-rising : rising (savedFields p) ≡ true
   saved-rising = saved-in-order p (λ x h. says-ok x h .numbers)
 
-  -- the flow in some slot is among them
-  pub saved-flow : (f : ℕ) × List·Memᴰ (flowPart p f) (savedParts p)
-  saved-flow =
-      let s = anyTo-true flowSlots (present p) (parts p valid .some) in
-      (s .0, says-saved p (flowPart p (s .0)) (flow-says p (s .0) (s .1) (and-eq-true-iff (ltb (s .0) flowSlots) _ .0 (s .2) .1)))
+-- the flow in some slot is among the parts
+pub saved-flow : (p : Plan) → validPlan p ≡ true → (f : ℕ) × List·Memᴰ (flowPart p f) (savedParts p)
+saved-flow p valid =
+    let s = anyTo-true flowSlots (present p) (parts p valid .some) in
+    (s .0, says-saved p (flowPart p (s .0)) (flow-says p (s .0) (s .1) (and-eq-true-iff (ltb (s .0) flowSlots) _ .0 (s .2) .1)))
 
 -- the first is the header
 pub saved-header : (p : Plan) → savedFields p ≡ spell (headerPart p) ∷ spellAll (portsOn p)

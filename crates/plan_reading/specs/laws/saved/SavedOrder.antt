@@ -5,6 +5,7 @@ use mathlib.Core.List.{List, [], _∷_, _++_}
 use mathlib.Core.Bool.{Bool, true, false, not}
 use native.Mathlib.Omega.{arith}
 use lib.Dec.{ltb}
+use Rattle.cqf.specs.Form.{older}
 use Rattle.cqf.specs.Limits.{portSlots, flowSlots}
 use Rattle.cqf.specs.Plan.{Plan, clocksEqual, rateOf, extraOf, periodOf, jitterOf}
 use Rattle.plan_reading.specs.Key.{headerKey, portKeys, flowKeys, extraKeys, jitterKeys, clockKey, keySlots, keyOf}
@@ -21,12 +22,12 @@ data Spans : ℕ → ℕ → List Part → Type 0 where
   none : {low high : ℕ} → low ≤ high → Spans low high []
   next
       : {low high : ℕ} {x : Part} {xs : List Part}
-      → NumbersOk (spell x .field)
+      → NumbersOk older (spell x .field)
       → low ≤ keyOf (spell x .field)
       → Spans (suc (keyOf (spell x .field))) high xs
       → Spans low high (x ∷ xs)
 
-spans-ascends : {low high : ℕ} {xs : List Part} → Spans low high xs → Ascends low (spellAll xs)
+spans-ascends : {low high : ℕ} {xs : List Part} → Spans low high xs → Ascends older low (spellAll xs)
 spans-ascends (none l) = Ascends.none
 spans-ascends (next k l rest) = Ascends.next k l (spans-ascends rest)
 
@@ -39,7 +40,7 @@ spans-append (none l) after = spans-from l after
 spans-append (next k l rest) after = next k l (spans-append rest after)
 
 -- a field for each slot, or none
-spans-when : (test : Bool) (x : Part) (key : ℕ) → (test ≡ true → NumbersOk (spell x .field)) → keyOf (spell x .field) ≡ key → Spans key (suc key) (when test x)
+spans-when : (test : Bool) (x : Part) (key : ℕ) → (test ≡ true → NumbersOk older (spell x .field)) → keyOf (spell x .field) ≡ key → Spans key (suc key) (when test x)
 spans-when true x key ok same = let k : suc (keyOf (spell x .field)) ≤ suc key = omega arith in next {low = key} {x = x} (ok refl) (omega arith) (none k)
 spans-when false x key ok same = let k : key ≤ suc key = omega arith in none k
 
@@ -53,7 +54,7 @@ spans-collect low (suc n) at all =
     let same : low + suc n ≡ suc (low + n) = omega arith in
     rw same (spans-append (spans-collect low n at (λ i l. all i (omega arith))) (all n (omega arith)))
 
-module _ (p : Plan) (ok : (x : Part) → Says p x → NumbersOk (spell x .field)) where
+module _ (p : Plan) (ok : (x : Part) → Says p x → NumbersOk older (spell x .field)) where
   slot : (test : Bool) (x : Part) (key : ℕ) → (test ≡ true → Says p x) → keyOf (spell x .field) ≡ key → Spans key (suc key) (when test x)
   slot test x key says same = spans-when test x key (λ h. ok x (says h)) same
 
@@ -75,7 +76,7 @@ module _ (p : Plan) (ok : (x : Part) → Says p x → NumbersOk (spell x .field)
       (λ f l. slot (ltb 0 (jitterOf p f)) (jitterPart p f) (jitterKeys + f) (jitter-says p f l) (omega arith)))
       (slot (not (clocksEqual p)) (clockPart p) clockKey (clock-says p) refl)))))
 
-  pub saved-ascends : Ascends 0 (savedFields p)
+  pub saved-ascends : Ascends older 0 (savedFields p)
   saved-ascends = spans-ascends saved-spans
 
   pub saved-in-order : rising (savedFields p) ≡ true

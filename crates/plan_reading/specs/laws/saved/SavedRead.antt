@@ -1,15 +1,15 @@
--- A valid plan is saved as bytes that either reading accepts, and that hold the same plan.
-use Prim.Native.Nat.{ℕ, _≤_}
+-- A valid plan that fits the older form is saved in it as bytes that either reading accepts, and that hold the same plan.
+use Prim.Native.Nat.{ℕ, _≤_, _<_}
 use mathlib.Core.Path.{_≡_, refl, sym, ap, _∙_}
 use mathlib.Core.List.{List}
 use mathlib.Core.Bool.{true}
 use lib.Dec.{ltb}
-use lib.ListN.{length}
 use Rattle.cqf.specs.Bounded.{countTo}
+use Rattle.cqf.specs.Form.{older, formNumber, mostHopsIn, formFits}
 use Rattle.cqf.specs.Limits.{portSlots, flowSlots}
-use Rattle.cqf.specs.Plan.{Plan, rateOf, periodOf, validPlan}
+use Rattle.cqf.specs.Plan.{Plan, rateOf, periodOf, hopsOf, validPlan}
 use Rattle.plan_reading.specs.Draft.{blank}
-use Rattle.plan_reading.specs.Reading.{accepted, Mode, readAs, maxBytes}
+use Rattle.plan_reading.specs.Reading.{accepted, Mode, readAs}
 use Rattle.plan_reading.specs.Saved.{spell, spellAll, headerPart, savedParts, savedFields, savedBytes}
 use Rattle.plan_reading.specs.Tidy.{Tidy, tidied}
 use Rattle.plan_reading.specs.Sized.{Sized}
@@ -20,7 +20,7 @@ use Rattle.plan_reading.specs.laws.rows.RowParts.{row-tables}
 use Rattle.plan_reading.specs.laws.rows.Spelled.{spelled-parts}
 use Rattle.plan_reading.specs.laws.rows.RowAccepted.{Row, row-accepted}
 use Rattle.plan_reading.specs.laws.stores.Sources.{tablesOf}
-use Rattle.plan_reading.specs.laws.saved.SavedLength.{saved-length}
+use Rattle.plan_reading.specs.laws.saved.SavedLength.{fits-hops, saved-length}
 use Rattle.plan_reading.specs.laws.saved.Says.{portsOn}
 use Rattle.plan_reading.specs.laws.saved.SavedOk.{saved-ok, saved-rising, saved-present, saved-header}
 use Rattle.plan_reading.specs.laws.saved.Tidy.{tidied-same}
@@ -30,26 +30,34 @@ use Rattle.plan_reading.specs.laws.saved.Counts.{ports-counted, flows-co
 use Rattle.plan_reading.specs.laws.saved.SavedCounts.{saved-ports, saved-flows, saved-some}
 
 -- the tables that the saved fields leave
-fields-tables : (p : Plan) → validPlan p ≡ true → Sized p → addedAll blank (savedFields p) .tables ≡ tidied p
+fields-tables
+    : (p : Plan)
+    → validPlan p ≡ true
+    → ((f : ℕ) → f < flowSlots → hopsOf p f ≤ mostHopsIn older)
+    → Sized p
+    → addedAll blank (savedFields p) .tables ≡ tidied p
 unfolding blank
-fields-tables p valid sized =
-    row-tables blank (savedFields p) ∙ ap tablesOf (spelled-parts (savedParts p)) ∙ saved-tables p valid sized
+fields-tables p valid few sized =
+    row-tables blank (savedFields p) ∙ ap tablesOf (spelled-parts (savedParts p)) ∙ saved-tables p valid few sized
 
--- where the bytes are no more than a plan may have
-module _ (p : Plan) (valid : validPlan p ≡ true) (sized : Sized p) (room : length (savedBytes p) ≤ maxBytes) where
-  saved-row : Row (savedFields p)
+-- of a plan that can have been read in the older form
+module _ (p : Plan) (valid : validPlan p ≡ true) (sized : Sized p) (fits : formFits (formNumber older) (p .hops) ≡ true) where
+  few : (f : ℕ) → f < flowSlots → hopsOf p f ≤ mostHopsIn older
+  few = fits-hops older (p .hops) fits
+
+  saved-row : Row older (savedFields p)
   unfolding savedBytes tidied
   saved-row =
       record {
-        ok = saved-ok p valid;
-        in-order = saved-rising p valid;
-        most = room;
+        ok = saved-ok p valid few;
+        in-order = saved-rising p valid few;
+        most = saved-length p fits;
         first = spell (headerPart p);
         others = spellAll (portsOn p);
         begins = saved-header p;
         header = refl;
         with-flow = saved-some p valid;
-        present = rw (fields-tables p valid sized) (saved-present p valid);
+        present = rw (fields-tables p valid few sized) (saved-present p valid few);
       }
 
   -- the plan with the places past its routes 0, and as many ports and flows as it has
@@ -60,7 +68,7 @@ module _ (p : Plan) (valid : validPlan p ≡ true) (sized : Sized p) (room : len
   unfolding savedBytes
   saved-read mode =
       row-accepted mode (savedFields p) saved-row
-      ∙ (λ i. accepted (fields-tables p valid sized i) (saved-ports p i) (saved-flows p i))
+      ∙ (λ i. accepted (fields-tables p valid few sized i) (saved-ports p i) (saved-flows p i))
 
   -- the plan itself, where it is tidy
   pub saved-held
@@ -76,8 +84,9 @@ module _ (p : Plan) (valid : validPlan p ≡ true) (sized : Sized p) (room : len
 pub saved-again
     : (mode other : Mode) (s : List ℕ) (p : Plan) (ports flows : ℕ)
     → readAs mode s ≡ accepted p ports flows
+    → formFits (formNumber older) (p .hops) ≡ true
     → readAs other (savedBytes p) ≡ accepted p ports flows
-saved-again mode other s p m k e =
+saved-again mode other s p m k e fits =
     let valid = accepted-valid s p m k (read-loosely mode s p m k e) in
-    saved-held p valid (accepted-sized mode s p m k e) (saved-length p valid) (accepted-tidy mode s p m k e) other
+    saved-held p valid (accepted-sized mode s p m k e) fits (accepted-tidy mode s p m k e) other
     ∙ (λ i. accepted p (sym (ports-counted mode s p m k e) i) (sym (flows-counted mode s p m k e) i))

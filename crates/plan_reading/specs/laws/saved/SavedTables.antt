@@ -1,5 +1,5 @@
 -- The fields as which a valid plan is saved leave the plan's own tables, with the places past the routes 0.
-use Prim.Native.Nat.{ℕ, _+_, _*_, _/_, _%_, _<_}
+use Prim.Native.Nat.{ℕ, _+_, _*_, _/_, _%_, _<_, _≤_}
 use mathlib.Core.Path.{_≡_, refl, sym, ap, _∙_, subst}
 use mathlib.Core.Logic.{_⊎_, inl, inr}
 use mathlib.Core.List.{List}
@@ -10,6 +10,7 @@ use borrow.Author.Tests.{ltb-true, ltb-false}
 use lib.Dec.{ltb}
 use lib.ListN.{getD}
 use Rattle.cqf.specs.Bounded.{tabulate}
+use Rattle.cqf.specs.Form.{older, mostHopsIn}
 use Rattle.cqf.specs.Limits.{portSlots, flowSlots, routeStride}
 use Rattle.cqf.specs.Plan.{Clock, Plan, noPlan, equalClocks, clocksEqual, hopsOf, validPlan}
 use Rattle.cqf.specs.laws.Lists.{sublist-at}
@@ -117,11 +118,16 @@ module _ (p : Plan) (valid : validPlan p ≡ true) (xs : List Part) (row : RowOf
       }
 
 -- the parts of which a plan is saved are such a row
-pub saved-tables : (p : Plan) → validPlan p ≡ true → Sized p → tablesOf (savedParts p) ≡ tidied p
-saved-tables p valid =
+pub saved-tables
+    : (p : Plan)
+    → validPlan p ≡ true
+    → ((f : ℕ) → f < flowSlots → hopsOf p f ≤ mostHopsIn older)
+    → Sized p
+    → tablesOf (savedParts p) ≡ tidied p
+saved-tables p valid few =
     left-tables p valid (savedParts p)
     (record {
-      fresh = rw (spelled-parts (savedParts p)) at (fresh-row (savedFields p) (saved-ok p valid) (saved-rising p valid));
+      fresh = rw (spelled-parts (savedParts p)) at (fresh-row (savedFields p) (saved-ok p valid few) (saved-rising p valid few));
       stand = λ m. saved-says p m .stands;
       said = says-saved p;
     })

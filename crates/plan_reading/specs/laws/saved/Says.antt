@@ -33,6 +33,9 @@ module _ (p : Plan) where
   saidAt Kind.extra n = extraPart p (n - 1)
   saidAt Kind.jitter n = jitterPart p (n - 1)
   saidAt Kind.clock n = clockPart p
+  saidAt Kind.header2 n = headerPart p
+  saidAt Kind.port2 n = portPart p (n - 1)
+  saidAt Kind.flow2 n = flowPart p (n - 1)
 
   -- the parts from the jitters on, from the extra bytes on, from the flows on, and all but the header
   abbrev pub jittersOn : List Part

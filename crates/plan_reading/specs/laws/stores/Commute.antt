@@ -9,6 +9,7 @@ use Prim.Native.Nat.{ℕ, _+_, _-_, _*_, _≤_}
 use native.Mathlib.Omega.{arith}
 use lib.ListN.{length}
 use lib.Seq.{set-comm, getD-set-same, getD-set-other}
+use Rattle.cqf.specs.Form.{Form}
 use Rattle.cqf.specs.Limits.{portSlots, flowSlots, routeStride, portOk, flowOk}
 use Rattle.cqf.specs.Plan.{Clock, Plan}
 use Rattle.plan.specs.Field.{Field}
@@ -19,8 +20,8 @@ use Rattle.plan_reading.specs.Store.{headerNumber, portNumber, flowNumbe
 use Rattle.plan_reading.specs.Draft.{Draft, taken, added, portsIn, flowsIn, sumOf}
 use Rattle.plan_reading.specs.Ranges.{NumbersOk, RouteFits, PartOk}
 use Rattle.plan_reading.specs.laws.fields.Within.{within-low, within-high}
-use Rattle.plan_reading.specs.laws.fields.ByPart.{of-header, of-port, of-flow, of-extra, of-jitter, of-clock, partKey, Apart}
-use Rattle.plan_reading.specs.laws.fields.Kinds.{key-below, parts-ok, parts-keyed}
+use Rattle.plan_reading.specs.laws.fields.ByPart.{of-header, of-port, of-flow, of-extra, of-jitter, of-clock, partKey, owner, Apart}
+use Rattle.plan_reading.specs.laws.fields.Kinds.{key-below, parts-ok, parts-owned}
 use Rattle.plan_reading.specs.laws.fields.Ranged.{All, all-map}
 use Rattle.plan_reading.specs.laws.stores.Puts.{Block, Placed, put-comm, Owned, given-comm}
 
@@ -31,9 +32,9 @@ taken-apart d x y r differ = rw (getD-set-other (d .seen) (keyOf x) (keyOf y) 1 
 
 -- fields of which neither is refused for the other have different keys
 pub fresh-apart
-    : (d : Draft) (x y : Field) (r : List ℕ)
+    : {form : Form} (d : Draft) (x y : Field) (r : List ℕ)
     → length (d .seen) ≡ keySlots
-    → NumbersOk x
+    → NumbersOk form x
     → taken (added d x r) y ≡ false
     → keyOf x ≢ keyOf y
 unfolding added
@@ -183,22 +184,30 @@ stores-comm [] ys p k m differ = refl
 stores-comm (x ∷ xs) ys p k m differ =
     stores-comm xs ys (store p x) (k .1) m (differ .1) ∙ ap (λ (q : Plan). storeAll q xs) (one-all x ys p (k .0) m (differ .0))
 
--- a part of one key and parts of another, and so the parts of two fields of different keys
-pub apart-parts : (x : Part) (k m : ℕ) → k ≢ m → partKey x ≡ k → (ys : List Part) → All (λ y. partKey y ≡ m) ys → Apart x ys
-apart-parts x k m differ is ys h =
-    all-map (λ y. partKey y ≡ m) (λ y. partKey x ≢ partKey y) ys (λ y e same. differ (sym is ∙ same ∙ e)) h
+-- a part of a field of one key and parts of one of another, and so the parts of two fields of different keys
+abbrev pub Of : Form → ℕ → Part → Type 0
+Of form key u = owner form (partKey u) ≡ key
 
-parts-apart : (x y : Field) (v w : List ℕ) → keyOf x ≢ keyOf y → All (λ u. Apart u (partsOf y w)) (partsOf x v)
-parts-apart x y v w differ =
-    all-map (λ u. partKey u ≡ keyOf x) (λ u. Apart u (partsOf y w)) (partsOf x v)
-    (λ u is. apart-parts u (keyOf x) (keyOf y) differ is (partsOf y w) (parts-keyed y w))
-    (parts-keyed x v)
+pub apart-parts : (form : Form) (x : Part) (k m : ℕ) → k ≢ m → Of form k x → (ys : List Part) → All (Of form m) ys → Apart x ys
+apart-parts form x k m differ is ys h =
+    all-map (Of form m) (λ y. partKey x ≢ partKey y) ys (λ y e same. differ (sym is ∙ ap (owner form) same ∙ e)) h
+
+parts-apart
+    : {form : Form} (x y : Field) (v w : List ℕ)
+    → NumbersOk form x
+    → NumbersOk form y
+    → keyOf x ≢ keyOf y
+    → All (λ u. Apart u (partsOf y w)) (partsOf x v)
+parts-apart {form} x y v w k m differ =
+    all-map (Of form (keyOf x)) (λ u. Apart u (partsOf y w)) (partsOf x v)
+    (λ u is. apart-parts form u (keyOf x) (keyOf y) differ is (partsOf y w) (parts-owned y m w))
+    (parts-owned x k v)
 
 -- so the order of two fields of different keys is free
 pub added-comm
-    : (x y : Field) (v w : List ℕ)
-    → NumbersOk x
-    → NumbersOk y
+    : {form : Form} (x y : Field) (v w : List ℕ)
+    → NumbersOk form x
+    → NumbersOk form y
     → RouteFits x v
     → RouteFits y w
     → keyOf x ≢ keyOf y
@@ -206,7 +215,7 @@ pub added-comm
     → added (added d x v) y w ≡ added (added d y w) x v
 unfolding added
 added-comm x y v w k m a b differ d =
-    let tables = stores-comm (partsOf x v) (partsOf y w) (d .tables) (parts-ok x k v a) (parts-ok y m w b) (parts-apart x y v w differ) in
+    let tables = stores-comm (partsOf x v) (partsOf y w) (d .tables) (parts-ok x k v a) (parts-ok y m w b) (parts-apart x y v w k m differ) in
     let seen = set-comm (d .seen) (keyOf x) (keyOf y) 1 1 differ in
     let ports : d .ports + sumOf portsIn (partsOf x v) + sumOf portsIn (partsOf y w) ≡ d .ports + sumOf portsIn (partsOf y w) + sumOf portsIn (partsOf x v) = omega arith in
     let flows : d .flows + sumOf flowsIn (partsOf x v) + sumOf flowsIn (partsOf y w) ≡ d .flows + sumOf flowsIn (partsOf y w) + sumOf flowsIn (partsOf x v) = omega arith in

@@ -5,6 +5,7 @@ use mathlib.Core.List.{List, [], _∷_}
 use native.Mathlib.Omega.{arith}
 use lib.ListN.{getD, set, getD-replicate}
 use lib.Seq.{set-getD}
+use Rattle.cqf.specs.Form.{Form}
 use Rattle.cqf.specs.Limits.{portSlots, flowSlots}
 use Rattle.cqf.specs.Plan.{Clock, Plan, noPlan, equalClocks}
 use Rattle.plan.specs.Bytes.{tagAt, valueAt}
@@ -79,14 +80,19 @@ alike-added d e x r h =
     }
 
 -- the same fields leave of them two that are alike
-stored-alike : {bs : List (List ℕ)} {d e f g : Draft} → Alike d f → Stored bs d e → Stored bs f g → Alike e g
+stored-alike
+    : {form other : Form} {bs : List (List ℕ)} {d e f g : Draft}
+    → Alike d f
+    → Stored form bs d e
+    → Stored other bs f g
+    → Alike e g
 stored-alike {d = d} {e = e} {f = f} {g = g} h (nothing p) (nothing q) =
     subst (λ (z : Draft). Alike z g) p (subst (λ (z : Draft). Alike d z) q h)
-stored-alike {e = e} {f = f} {g = g} h (next {b = b} {bs = bs} {d = d} x k fresh rest) (next y m _ other) =
+stored-alike {other = form} {e = e} {f = f} {g = g} h (next {b = b} {bs = bs} {d = d} x k fresh rest) (next y m _ other) =
     let r = routeIn (x .kind) (valueAt b 0) in
     let same : y ≡ x = passes-once (tagAt b 0) (valueAt b 0) y x m k in
     stored-alike {d = added d x r} {e = e} {f = added f x r} {g = g} (alike-added d f x r h) rest
-    (subst (λ (z : Field). Stored bs (added f z (routeIn (z .kind) (valueAt b 0))) g) same other)
+    (subst (λ (z : Field). Stored form bs (added f z (routeIn (z .kind) (valueAt b 0))) g) same other)
 
 -- parts that say nothing leave empty tables, and none is counted
 part-nothing : (x : Part) → PartOk x → Nothing x → (store noPlan x ≡ noPlan) × (portsIn x ≡ 0) × (flowsIn x ≡ 0)
@@ -110,7 +116,7 @@ parts-nothing (x ∷ xs) ok void =
     (ap (λ (p : Plan). storeAll p xs) (t .0) ∙ u .0, omega (arith, t .1, u .1), omega (arith, t .2, u .2))
 
 -- it in a draft that nothing was read into
-blank-alike : (x : Field) (r : List ℕ) → NumbersOk x → RouteFits x r → SaysNothing x → Alike (added blank x r) blank
+blank-alike : {form : Form} (x : Field) (r : List ℕ) → NumbersOk form x → RouteFits x r → SaysNothing x → Alike (added blank x r) blank
 unfolding added blank
 blank-alike x r ok fits void =
     let t = parts-nothing (partsOf x r) (parts-ok x ok r fits) (routeless x r void) in
@@ -120,17 +126,17 @@ blank-alike x r ok fits void =
 
 -- the fields but the first, where that says nothing
 without-zero
-    : (x : Field) (zero : List ℕ) (others : List (List ℕ)) (e f : Draft)
-    → Passes (tagAt zero 0) (valueAt zero 0) x
+    : {form other : Form} (x : Field) (zero : List ℕ) (others : List (List ℕ)) (e f : Draft)
+    → Passes form (tagAt zero 0) (valueAt zero 0) x
     → SaysNothing x
-    → Stored (zero ∷ others) blank e
-    → Stored others blank f
+    → Stored form (zero ∷ others) blank e
+    → Stored other others blank f
     → Alike e f
-without-zero x zero others e f says nought (next y k fresh rest) other =
+without-zero {form} x zero others e f says nought (next y k fresh rest) other =
     let r = routeIn (x .kind) (valueAt zero 0) in
     let same : y ≡ x = passes-once (tagAt zero 0) (valueAt zero 0) y x k says in
     stored-alike {d = added blank x r} {e = e} {f = blank} {g = f} (blank-alike x r (says .ok) (says .route) nought)
-    (subst (λ (z : Field). Stored others (added blank z (routeIn (z .kind) (valueAt zero 0))) e) same rest)
+    (subst (λ (z : Field). Stored form others (added blank z (routeIn (z .kind) (valueAt zero 0))) e) same rest)
     other
 
 but-first : {b : List ℕ} {bs : List (List ℕ)} → AllFields (b ∷ bs) → AllFields bs
