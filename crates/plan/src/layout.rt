@@ -1,9 +1,10 @@
 // The wire format: tags, where each number stands in the value of its field, and sizes; and where the route of a field starts.
 
 use crate::Field;
+use crate::Form;
 ghost use mathlib.Core.Path.{_≡_};
-ghost use Rattle.plan.specs.Layout.{numbersSize};
-ghost use Rattle.plan.specs.Answer.{fieldOf};
+ghost use Rattle.plan.specs.Layout.{numbersSize, flowKind};
+ghost use Rattle.plan.specs.Answer.{fieldOf, formOf};
 
 // Tag (1 byte) and length (2 bytes).
 pub const SIZE_AT: usize = 1;
@@ -98,6 +99,16 @@ pub const FLOW2_JITTER_AT: usize = FLOW_SIZE;
 
 // Its value before its route.
 pub const FLOW2_SIZE: usize = FLOW2_JITTER_AT + 4;
+
+// Where the route starts in the value of a flow of a plan of this form.
+pub fn flow_start(form: Form) -> usize
+    ensures { λ r. ⌜ r ≡ numbersSize (flowKind (formOf form)) ⌝ }
+{
+    match form {
+        Form::Older => FLOW_SIZE,
+        Form::Newer => FLOW2_SIZE,
+    }
+}
 
 // Where the route of a field starts in its value: behind its other numbers.
 pub fn route_start(field: Field) -> usize

@@ -11,6 +11,7 @@ pub mod split; // split.rt: a field's head, and its value as a part of the plan
 pub mod route; // route.rt: a flow's route
 pub mod required; // required.rt: the header, ports and flows
 pub mod optional; // optional.rt: fields that a plan may leave out
+pub mod newer; // newer.rt: the fields of the newer form
 pub mod read; // read.rt: a whole field, tests 2 to 5
 
 pub use forms::form_by;

@@ -97,7 +97,7 @@ pub(crate) fn jitter_of(value: &[u8], at: usize, next: usize) -> FieldRead
     }
 }
 
-fn clock_in_range(x: Clock) -> bool
+pub(crate) fn clock_in_range(x: Clock) -> bool
     ensures { λ r. ⌜ r ≡ inRanges (layout Kind.clock .numbers) (x .drift ∷ x .«timing_jitter» ∷ x .«sync_error» ∷ []) ⌝ }
 {
     clock_ok(x)

@@ -8,10 +8,16 @@ use crate::forms::form_by;
 use crate::layout::CLOCK_TAG;
 use crate::layout::EXTRA_TAG;
 use crate::layout::FLOW_TAG;
+use crate::layout::FLOW2_TAG;
 use crate::layout::HEAD_SIZE;
 use crate::layout::HEADER_TAG;
+use crate::layout::HEADER2_TAG;
 use crate::layout::JITTER_TAG;
 use crate::layout::PORT_TAG;
+use crate::layout::PORT2_TAG;
+use crate::newer::flow2_of;
+use crate::newer::header2_of;
+use crate::newer::port2_of;
 use crate::optional::clock_of;
 use crate::optional::extra_of;
 use crate::optional::jitter_of;
@@ -21,13 +27,14 @@ use crate::required::port_of;
 use crate::split::field_value;
 use crate::split::split_head;
 ghost use mathlib.Core.Path.{_≡_};
+ghost use Rattle.cqf.specs.Form.{older, newer};
 ghost use Rattle.plan.specs.Layout.{formBy};
 ghost use Rattle.plan.specs.Field.{fieldIn, fieldAt};
 ghost use Rattle.plan.specs.Answer.{formOf, fieldReadOf};
 
-// The field by its tag in a plan of this form, with its value: tests 3, 4 and 5.
-fn field_of(form: Form, tag: u8, value: &[u8], at: usize, next: usize) -> FieldRead
-    ensures { λ r. ⌜ fieldReadOf r ≡ fieldIn (formOf form) tag (now (value .entry)) at next ⌝ }
+// The field by its tag in a plan of the older form, with its value: tests 3, 4 and 5.
+fn older_field(tag: u8, value: &[u8], at: usize, next: usize) -> FieldRead
+    ensures { λ r. ⌜ fieldReadOf r ≡ fieldIn older tag (now (value .entry)) at next ⌝ }
 {
     if tag == HEADER_TAG {
         return header_of(value, at, next);
@@ -50,6 +57,34 @@ fn field_of(form: Form, tag: u8, value: &[u8], at: usize, next: usize) -> FieldR
     FieldRead::Refused {
         fault: Fault::UnknownTag,
         offset: at,
+    }
+}
+
+// The same in a plan of the newer form.
+fn newer_field(tag: u8, value: &[u8], at: usize, next: usize) -> FieldRead
+    ensures { λ r. ⌜ fieldReadOf r ≡ fieldIn newer tag (now (value .entry)) at next ⌝ }
+{
+    if tag == HEADER2_TAG {
+        return header2_of(value, at, next);
+    }
+    if tag == PORT2_TAG {
+        return port2_of(value, at, next);
+    }
+    if tag == FLOW2_TAG {
+        return flow2_of(value, at, next);
+    }
+    FieldRead::Refused {
+        fault: Fault::UnknownTag,
+        offset: at,
+    }
+}
+
+fn field_of(form: Form, tag: u8, value: &[u8], at: usize, next: usize) -> FieldRead
+    ensures { λ r. ⌜ fieldReadOf r ≡ fieldIn (formOf form) tag (now (value .entry)) at next ⌝ }
+{
+    match form {
+        Form::Older => older_field(tag, value, at, next),
+        Form::Newer => newer_field(tag, value, at, next),
     }
 }
 

@@ -38,7 +38,7 @@ ghost use Rattle.plan.specs.Layout.{Kind, layout};
 ghost use Rattle.plan.specs.Field.{inRanges, valueIn};
 ghost use Rattle.plan.specs.Answer.{fieldReadOf};
 
-fn header_in_range(x: Header) -> bool
+pub(crate) fn header_in_range(x: Header) -> bool
     ensures { λ r. ⌜ r ≡ inRanges (layout Kind.header .numbers) (x .guard ∷ x .top ∷ []) ⌝ }
 {
     if !guard_ok(x.guard) {
@@ -72,7 +72,7 @@ pub(crate) fn header_of(value: &[u8], at: usize, next: usize) -> FieldRead
     }
 }
 
-fn port_in_range(x: Port) -> bool
+pub(crate) fn port_in_range(x: Port) -> bool
     ensures { λ r. ⌜ r ≡ inRanges (layout Kind.port .numbers) (x .number ∷ x .rate ∷ x .blocking ∷ []) ⌝ }
 {
     if !port_ok(x.number) {
@@ -111,7 +111,7 @@ pub(crate) fn port_of(value: &[u8], at: usize, next: usize) -> FieldRead
 }
 
 // The numbers of a flow, without its route.
-fn flow_in_range(x: Flow) -> bool
+pub(crate) fn flow_in_range(x: Flow) -> bool
     ensures { λ r. ⌜ r ≡ inRanges (layout Kind.flow .numbers) (x .number ∷ x .period ∷ x .count ∷ x .length ∷ []) ⌝ }
 {
     if !flow_ok(x.number) {

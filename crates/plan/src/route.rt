@@ -1,7 +1,10 @@
 // A flow's route: the bytes behind the other numbers of its field's value, two for each port.
 
-use crate::layout::FLOW_SIZE;
+use crate::Form;
+use crate::layout::FLOW2_MAX_HOPS;
+use crate::layout::FLOW2_SIZE;
 use crate::layout::HOP_SIZE;
+use crate::layout::flow_start;
 use crate::number::be16;
 use numbers::limits::port_ok;
 ghost use mathlib.Core.Path.{_≡_};
@@ -11,6 +14,7 @@ ghost use Rattle.cqf.specs.Bounded.{elem, every, distinct};
 ghost use Rattle.cqf.specs.Limits.{portOk};
 ghost use Rattle.plan.specs.Layout.{Kind};
 ghost use Rattle.plan.specs.Field.{hopsIn, sizeOk, routeLength, routePorts, routePort, repeats};
+ghost use Rattle.plan.specs.Answer.{formOf};
 
 // How many ports a flow field names, by the length of its value: one case for each length that it may have, and 0 for any other.
 pub(crate) fn hops_by_length(size: usize) -> u8
@@ -35,6 +39,23 @@ pub(crate) fn hops_by_length(size: usize) -> u8
         42 => 16,
         _ => 0,
     }
+}
+
+// The same of a flow of the newer form, by arithmetic.
+pub(crate) fn flow2_hops(size: usize) -> u8
+    ensures { λ r. ⌜ r ≡ cond (sizeOk Kind.flow2 size) (hopsIn Kind.flow2 size) 0 ⌝ }
+{
+    if size < FLOW2_SIZE + HOP_SIZE {
+        return 0;
+    }
+    if FLOW2_SIZE + HOP_SIZE * FLOW2_MAX_HOPS < size {
+        return 0;
+    }
+    let hops = (size - FLOW2_SIZE) / HOP_SIZE;
+    if FLOW2_SIZE + HOP_SIZE * hops != size {
+        return 0;
+    }
+    hops as u8
 }
 
 // The route's own bytes in a value whose other numbers end there; none where the value is too short for them.
@@ -110,9 +131,9 @@ pub fn route_repeats(route: &[u8]) -> bool
     false
 }
 
-// Test 7 of a flow's value.
-pub fn repeats_port(value: &[u8]) -> bool
-    ensures { λ r. ⌜ r ≡ repeats (now (value .entry)) ⌝ }
+// Test 7 of the value of a flow, in a plan of this form.
+pub fn repeats_port(form: Form, value: &[u8]) -> bool
+    ensures { λ r. ⌜ r ≡ repeats (formOf form) (now (value .entry)) ⌝ }
 {
-    route_repeats(route_bytes(value, FLOW_SIZE))
+    route_repeats(route_bytes(value, flow_start(form)))
 }

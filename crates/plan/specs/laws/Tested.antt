@@ -1,9 +1,9 @@
 -- Laws of the tests 2 to 5: which of the answers they lead to.
 use Prim.Native.Nat.{ℕ, _+_, _*_}
 use mathlib.Core.Path.{_≡_, refl, sym, ap, _∙_}
-use mathlib.Core.List.{List, [], _∷_}
+use mathlib.Core.List.{List, [], _∷_, _++_}
 use mathlib.Core.Option.{some, none}
-use mathlib.Core.Bool.{Bool, true, false, and-true, and-eq-true-iff}
+use mathlib.Core.Bool.{Bool, true, false, _&&_, and-true, and-assoc, and-eq-true-iff}
 use mathlib.Mathlib.Data.Bool.Basic.{eq-false-of-not-eq-true}
 use native.Mathlib.Omega.{arith}
 use borrow.Author.Tests.{eq-eqb, ne-eqb, eqb-true}
@@ -12,8 +12,19 @@ use lib.ListN.{length, drop-of-length-le}
 use Rattle.cqf.specs.Bounded.{every}
 use Rattle.plan.specs.Bytes.{headSize, tagAt, sizeAt, wholeAt, valueAt}
 use Rattle.cqf.specs.Form.{Form, older, newer}
-use Rattle.plan.specs.Layout.{Kind, layout, numbersSize, hopsAllowed, everyKind, kinds}
+use Rattle.plan.specs.Layout.{Number, Kind, layout, numbersSize, hopsAllowed, everyKind, kinds}
 use Rattle.plan.specs.Field.{field, refused, numbersAt, inRanges, hopsIn, routePorts, routeIn, fieldBy, sizeOk, rangesOk, valueIn, kindBy, kindRead, fieldIn, fieldAt}
+
+-- numbers that follow others are in range where both are
+pub both-ranges
+    : (cs ds : List Number) (ms ns : List ℕ)
+    → length ms ≡ length cs
+    → inRanges (cs ++ ds) (ms ++ ns) ≡ (inRanges cs ms && inRanges ds ns)
+both-ranges [] ds [] ns e = refl
+both-ranges [] ds (m ∷ ms) ns e = absurd (omega arith)
+both-ranges (c ∷ cs) ds [] ns e = absurd (omega arith)
+both-ranges (c ∷ cs) ds (m ∷ ms) ns e =
+    ap (λ (b : Bool). c .ok m && b) (both-ranges cs ds ms ns (omega arith)) ∙ sym (and-assoc (c .ok m) (inRanges cs ms) (inRanges ds ns))
 
 -- test 2
 module _ (form : Form) (s : List ℕ) (at : ℕ) where

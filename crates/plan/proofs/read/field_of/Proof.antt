@@ -1,55 +1,15 @@
--- `field_of` meets its contract: test 3, and the field by its tag.
-use mathlib.Core.Path.{_≡_, sym, _∙_}
+-- `field_of` meets its contract, form by form.
 use borrow.Author.Needs.{needs}
-use Rattle.plan.specs.Layout.{Kind, layout}
-use Rattle.plan.specs.laws.Tested.{tag-known, tag-unknown}
 use Rattle.plan.proofs.read.field_of.Statement.{statement}
 use Rattle.plan.proofs.read.field_of.Tie as tie
 
 returns : tie.Need-returns
-returns c = c .header-of .ensures ∙ sym (tag-known _ _ _ _ Kind.header _ (c .before .if1 .taken))
+returns c = rw (c .before .enum-told .given .1) (c .older-field .ensures)
 
 returns-2 : tie.Need-returns-2
-returns-2 c = c .port-of .ensures ∙ sym (tag-known _ _ _ _ Kind.port _ (c .before .if2 .taken))
-
-returns-3 : tie.Need-returns-3
-returns-3 c = c .flow-of .ensures ∙ sym (tag-known _ _ _ _ Kind.flow _ (c .before .if3 .taken))
-
-returns-4 : tie.Need-returns-4
-returns-4 c = c .extra-of .ensures ∙ sym (tag-known _ _ _ _ Kind.extra _ (c .before .if4 .taken))
-
-returns-5 : tie.Need-returns-5
-returns-5 c = c .jitter-of .ensures ∙ sym (tag-known _ _ _ _ Kind.jitter _ (c .before .if5 .taken))
-
-returns-6 : tie.Need-returns-6
-returns-6 c = c .clock-of .ensures ∙ sym (tag-known _ _ _ _ Kind.clock _ (c .before .if6 .taken))
-
--- the tag of no kind
-unknown : (c : tie.Else6) → (k : Kind) → c .before .before .before .before .before .before .before .args .tag ≡ layout k .tag → ⊥
-unknown c Kind.header = c .before .before .before .before .before .if1 .left
-unknown c Kind.port = c .before .before .before .before .if2 .left
-unknown c Kind.flow = c .before .before .before .if3 .left
-unknown c Kind.extra = c .before .before .if4 .left
-unknown c Kind.jitter = c .before .if5 .left
-unknown c Kind.clock = c .if6 .left
-
-returns-7 : tie.Need-returns-7
-returns-7 c = sym (tag-unknown _ _ _ _ _ (unknown c))
+returns-2 c = rw (c .before .enum-told2 .given .1) (c .newer-field .ensures)
 
 pub field-of-spec : {M : Type 1} → statement M
 field-of-spec =
     tie.close
-    (tie.spec
-    (λ c κs. search needs)
-    returns
-    (λ c κs. search needs)
-    returns-2
-    (λ c κs. search needs)
-    returns-3
-    (λ c κs. search needs)
-    returns-4
-    (λ c κs. search needs)
-    returns-5
-    (λ c κs. search needs)
-    returns-6
-    returns-7)
+    (tie.spec (λ c. search needs) (λ c κs. search needs) (λ c. search needs) (λ c κs. search needs) returns returns-2)

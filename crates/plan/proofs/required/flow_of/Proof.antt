@@ -1,6 +1,6 @@
 -- `flow_of` meets its contract: test 4, then test 5 on the numbers that were read and on the route.
 use Prim.Native.Nat.{_≤_}
-use mathlib.Core.Path.{_≡_, sym, _∙_}
+use mathlib.Core.Path.{_≡_, refl, sym, _∙_}
 use mathlib.Core.Bool.{true}
 use native.Mathlib.Omega.{arith}
 use borrow.Author.Needs.{needs}
@@ -20,14 +20,14 @@ use Rattle.plan.proofs.required.flow_of.Tie as tie
 sized : (c : tie.Else1) →
     let n = length (now (c .before .before .before .args .value)) in
     sizeOk Kind.flow n ≡ true
-sized c = allowed-length (length (now (c .before .before .before .args .value))) (c .before .hops-by-length .result) (c .before .hops-by-length .ensures) (c .if1 .left)
+sized c = allowed-length Kind.flow (length (now (c .before .before .before .args .value))) (c .before .hops-by-length .result) (c .before .hops-by-length .ensures) (c .if1 .left)
 
 counted : (c : tie.Else1) → c .before .hops-by-length .result ≡ hopsIn Kind.flow (length (now (c .before .before .before .args .value)))
 counted c = rw (sized c) at (c .before .hops-by-length .ensures)
 
 -- so the numbers before the route are there
 long : (c : tie.Else1) → numbersSize Kind.flow ≤ length (now (c .before .before .before .args .value))
-long c = allowed-long _ (sized c)
+long c = allowed-long Kind.flow _ (sized c)
 
 -- the numbers that were tested are those in the value
 tested : (c : tie.After-flow-in-range) →
@@ -41,7 +41,7 @@ tested c =
 returns : tie.Need-returns
 returns c =
     let n = length (now (c .before .before .before .args .value)) in
-    sym (value-length _ _ _ Kind.flow (refused-length n (sym (c .before .hops-by-length .ensures) ∙ c .if1 .taken)))
+    sym (value-length _ _ _ Kind.flow (refused-length Kind.flow 15 refl n (sym (c .before .hops-by-length .ensures) ∙ c .if1 .taken)))
 
 be16-requires : tie.Need-be16-requires
 be16-requires c κs = omega (arith, long c)

@@ -1,5 +1,5 @@
 -- `hops_by_length` meets its contract: each length of the list by computing, and any other by the list.
-use mathlib.Core.Path.{_≡_}
+use mathlib.Core.Path.{_≡_, refl}
 use Prim.Native.Nat.{ℕ, _+_, _*_, _≤_}
 use native.Mathlib.Omega.{arith}
 use Rattle.plan.specs.Layout.{Kind, layout, numbersSize}
@@ -62,26 +62,26 @@ none : (c : lts.At-match-rest reads.Pre reads.Post) → (h : ℕ) → 1 ≤ h �
 none c h low high e =
     let size = c .before .args .size in
     let r = c .match .rest in
-    let p1 = past size h 1 e (r .0 .0 .0 .0 .0 .0 .0 .0 .0 .0 .0 .0 .0 .0 .0 .1) low in
-    let p2 = past size h 2 e (r .0 .0 .0 .0 .0 .0 .0 .0 .0 .0 .0 .0 .0 .0 .1) p1 in
-    let p3 = past size h 3 e (r .0 .0 .0 .0 .0 .0 .0 .0 .0 .0 .0 .0 .0 .1) p2 in
-    let p4 = past size h 4 e (r .0 .0 .0 .0 .0 .0 .0 .0 .0 .0 .0 .0 .1) p3 in
-    let p5 = past size h 5 e (r .0 .0 .0 .0 .0 .0 .0 .0 .0 .0 .0 .1) p4 in
-    let p6 = past size h 6 e (r .0 .0 .0 .0 .0 .0 .0 .0 .0 .0 .1) p5 in
-    let p7 = past size h 7 e (r .0 .0 .0 .0 .0 .0 .0 .0 .0 .1) p6 in
-    let p8 = past size h 8 e (r .0 .0 .0 .0 .0 .0 .0 .0 .1) p7 in
-    let p9 = past size h 9 e (r .0 .0 .0 .0 .0 .0 .0 .1) p8 in
-    let p10 = past size h 10 e (r .0 .0 .0 .0 .0 .0 .1) p9 in
-    let p11 = past size h 11 e (r .0 .0 .0 .0 .0 .1) p10 in
-    let p12 = past size h 12 e (r .0 .0 .0 .0 .1) p11 in
-    let p13 = past size h 13 e (r .0 .0 .0 .1) p12 in
-    let p14 = past size h 14 e (r .0 .0 .1) p13 in
-    let p15 = past size h 15 e (r .0 .1) p14 in
-    let p16 = past size h 16 e (r .1) p15 in
+    let p1 = past Kind.flow size h 1 e (r .0 .0 .0 .0 .0 .0 .0 .0 .0 .0 .0 .0 .0 .0 .0 .1) low in
+    let p2 = past Kind.flow size h 2 e (r .0 .0 .0 .0 .0 .0 .0 .0 .0 .0 .0 .0 .0 .0 .1) p1 in
+    let p3 = past Kind.flow size h 3 e (r .0 .0 .0 .0 .0 .0 .0 .0 .0 .0 .0 .0 .0 .1) p2 in
+    let p4 = past Kind.flow size h 4 e (r .0 .0 .0 .0 .0 .0 .0 .0 .0 .0 .0 .0 .1) p3 in
+    let p5 = past Kind.flow size h 5 e (r .0 .0 .0 .0 .0 .0 .0 .0 .0 .0 .0 .1) p4 in
+    let p6 = past Kind.flow size h 6 e (r .0 .0 .0 .0 .0 .0 .0 .0 .0 .0 .1) p5 in
+    let p7 = past Kind.flow size h 7 e (r .0 .0 .0 .0 .0 .0 .0 .0 .0 .1) p6 in
+    let p8 = past Kind.flow size h 8 e (r .0 .0 .0 .0 .0 .0 .0 .0 .1) p7 in
+    let p9 = past Kind.flow size h 9 e (r .0 .0 .0 .0 .0 .0 .0 .1) p8 in
+    let p10 = past Kind.flow size h 10 e (r .0 .0 .0 .0 .0 .0 .1) p9 in
+    let p11 = past Kind.flow size h 11 e (r .0 .0 .0 .0 .0 .1) p10 in
+    let p12 = past Kind.flow size h 12 e (r .0 .0 .0 .0 .1) p11 in
+    let p13 = past Kind.flow size h 13 e (r .0 .0 .0 .1) p12 in
+    let p14 = past Kind.flow size h 14 e (r .0 .0 .1) p13 in
+    let p15 = past Kind.flow size h 15 e (r .0 .1) p14 in
+    let p16 = past Kind.flow size h 16 e (r .1) p15 in
     omega (arith, p16)
 
 returns-17 : tie.Need-returns-17
-returns-17 c = rw (other-length (c .before .args .size) (none c))
+returns-17 c = rw (other-length Kind.flow 15 refl (c .before .args .size) (none c))
 
 pub hops-by-length-spec : {M : Type 1} → statement M
 hops-by-length-spec =
