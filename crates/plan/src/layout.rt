@@ -101,7 +101,7 @@ pub const FLOW2_JITTER_AT: usize = FLOW_SIZE;
 pub const FLOW2_SIZE: usize = FLOW2_JITTER_AT + 4;
 
 // Where the route starts in the value of a flow of a plan of this form.
-pub fn flow_start(form: Form) -> usize
+pub(crate) fn flow_start(form: Form) -> usize
     ensures { λ r. ⌜ r ≡ numbersSize (flowKind (formOf form)) ⌝ }
 {
     match form {
