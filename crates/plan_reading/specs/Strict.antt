@@ -2,7 +2,7 @@
 -- where they do not.
 use Prim.Native.Nat.{ℕ, zero, suc}
 use mathlib.Core.Path.{_≡_}
-use mathlib.Core.List.{List, [], _∷_, List·Permᴰ}
+use mathlib.Core.List.{List, [], _∷_, _++_, List·Permᴰ}
 use mathlib.Core.Bool.{Bool, true, false, cond, _&&_, _||_}
 use lib.Dec.{leb, ltb, eqb}
 use lib.ListN.{length}
@@ -11,6 +11,7 @@ use Rattle.cqf.specs.Plan.{Plan}
 use Rattle.cqf.specs.Form.{Form}
 use Rattle.plan.specs.Layout.{formBy}
 use Rattle.plan.specs.Field.{Field, field, refused, fieldAt}
+use Rattle.plan_reading.specs.Part.{Part, partsOf}
 use Rattle.plan_reading.specs.Rank.{before}
 use Rattle.plan_reading.specs.Reading.{PlanRead, accepted, rejected, Mode, routeAt, readAs}
 
@@ -28,6 +29,11 @@ pub record Entry : Type 0 where
 
 abbrev pub entryOf : Field → List ℕ → Entry
 entryOf x r = record { field = x; route = r }
+
+-- what the fields of a row say
+abbrev pub partsRow : List Entry → List Part
+partsRow [] = []
+partsRow (e ∷ es) = partsOf (e .field) (e .route) ++ partsRow es
 
 -- the fields from this offset on, as far as each passes the tests 2 to 5. The first number bounds how many are read: the plan's
 -- length is enough.

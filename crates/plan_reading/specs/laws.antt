@@ -6,3 +6,4 @@ pub mod validity
 pub mod order
 pub mod rows
 pub mod saved
+pub mod newer

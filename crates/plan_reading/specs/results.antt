@@ -1,2 +1,3 @@
 -- What is proved of the strict reading.
 pub mod StrictTheorem
+pub mod FormTheorem

@@ -111,6 +111,22 @@ ascends-from {least} {f = f} (next {e = e} {es = es} k low up) m = go (ascends-f
     go rest (inl same) = rw same low
     go rest (inr m) = omega (arith, rest m)
 
+-- and no other has its key
+pub ascends-once
+    : {form : Form} {least : ℕ} {es : List Entry} {e f : Entry}
+    → Ascends form least es
+    → List·Memᴰ e es
+    → List·Memᴰ f es
+    → keyOf (e .field) ≡ keyOf (f .field)
+    → e ≡ f
+ascends-once none m n same = absurd (List·Memᴰ·not-nil m)
+ascends-once (next k low up) (List·Memᴰ·head p) (List·Memᴰ·head q) same = p ∙ sym q
+ascends-once (next k low up) (List·Memᴰ·head p) (List·Memᴰ·tail n) same =
+    absurd (omega (arith, ascends-from up n, ap (λ (g : Entry). keyOf (g .field)) p))
+ascends-once (next k low up) (List·Memᴰ·tail m) (List·Memᴰ·head q) same =
+    absurd (omega (arith, ascends-from up m, ap (λ (g : Entry). keyOf (g .field)) q))
+ascends-once (next k low up) (List·Memᴰ·tail m) (List·Memᴰ·tail n) same = ascends-once up m n same
+
 -- two of them that hold the same fields are equal
 abbrev Holds : List Entry → List Entry → Type 0
 Holds es fs = (f : Entry) → List·Memᴰ f es → List·Memᴰ f fs

@@ -24,7 +24,7 @@ use Rattle.plan_reading.specs.Sized.{Sized}
 use Rattle.plan_reading.specs.Draft.{Draft, blank, hasKey, added}
 use Rattle.plan_reading.specs.Ranges.{NumbersOk, RouteFits, PartOk}
 use Rattle.plan_reading.specs.Reading.{accepted, Mode, strict, modeIn, routeAt, readFrom, readForm, readAs}
-use Rattle.plan_reading.specs.Strict.{Entry, entryOf, fieldsFrom, fieldsIn}
+use Rattle.plan_reading.specs.Strict.{Entry, entryOf, fieldsFrom, fieldsIn, partsRow}
 use Rattle.plan_reading.specs.laws.fields.Within.{within-low, within-high, slot-below}
 use Rattle.plan_reading.specs.laws.fields.Passes.{field-passes}
 use Rattle.plan_reading.specs.laws.fields.Ranged.{All, all-append}
@@ -39,7 +39,7 @@ use Rattle.plan_reading.specs.laws.order.Order.{flagged-blank}
 use Rattle.plan_reading.specs.laws.order.Rows.{row-field, Ascends, none, next}
 use Rattle.plan_reading.specs.laws.order.InOrder.{strict-ascends}
 use Rattle.plan_reading.specs.laws.rows.SavedRow.{AllOk, none, more, addedAll}
-use Rattle.plan_reading.specs.laws.rows.RowParts.{partsRow, free-ok}
+use Rattle.plan_reading.specs.laws.rows.RowParts.{free-ok}
 use Rattle.plan_reading.specs.laws.rows.Spelled.{newer-older}
 
 -- a tag of the older form is not that of the newer one's header

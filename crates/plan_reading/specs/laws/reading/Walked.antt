@@ -10,7 +10,7 @@ use Rattle.cqf.specs.Form.{Form}
 use Rattle.plan.specs.Layout.{formBy}
 use Rattle.plan_reading.specs.Draft.{Draft, blank}
 use Rattle.plan_reading.specs.Reading.{accepted, Mode, routeAt, readAs}
-use Rattle.plan_reading.specs.Strict.{Entry, entryOf, fieldsFrom, fieldsIn, rising}
+use Rattle.plan_reading.specs.Strict.{Entry, entryOf, fieldsFrom, fieldsIn, rising, partsRow}
 use Rattle.plan_reading.specs.FieldBytes.{rowBytes}
 use Rattle.plan_reading.specs.Tidy.{Tidy}
 use Rattle.plan_reading.specs.Sized.{Sized}
@@ -24,7 +24,7 @@ use Rattle.plan_reading.specs.laws.order.Order.{flagged-blank}
 use Rattle.plan_reading.specs.laws.order.Rows.{row-refused, row-field}
 use Rattle.plan_reading.specs.laws.rows.SavedRow.{EntryOk, AllOk, addedAll}
 use Rattle.plan_reading.specs.laws.rows.RowRead.{row-read, row-reads}
-use Rattle.plan_reading.specs.laws.rows.RowParts.{partsRow, row-tables, Free, done, then, free-fresh}
+use Rattle.plan_reading.specs.laws.rows.RowParts.{row-tables, Free, done, then, free-fresh}
 use Rattle.plan_reading.specs.laws.saved.Tidy.{fresh-tidy}
 
 -- a walk over fields is one over such a row

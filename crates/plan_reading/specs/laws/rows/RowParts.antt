@@ -12,7 +12,7 @@ use Rattle.plan_reading.specs.Key.{keyOf}
 use Rattle.plan_reading.specs.Store.{store, storeAll}
 use Rattle.plan_reading.specs.Draft.{Draft, hasKey, taken, added}
 use Rattle.plan_reading.specs.Ranges.{PartOk}
-use Rattle.plan_reading.specs.Strict.{Entry}
+use Rattle.plan_reading.specs.Strict.{Entry, partsRow}
 use Rattle.plan_reading.specs.laws.fields.Ranged.{All, all-append, all-map}
 use Rattle.plan_reading.specs.laws.fields.ByPart.{partKey, Apart, Separate}
 use Rattle.plan_reading.specs.laws.fields.Kinds.{parts-ok, parts-owned, own-separate}
@@ -20,10 +20,6 @@ use Rattle.plan_reading.specs.laws.stores.Commute.{Of, apart-parts}
 use Rattle.plan_reading.specs.laws.stores.Stored.{Flagged, added-flagged, key-taken, key-stays}
 use Rattle.plan_reading.specs.laws.stores.Fresh.{Fresh}
 use Rattle.plan_reading.specs.laws.rows.SavedRow.{EntryOk, AllOk, none, more, addedAll}
-
-abbrev pub partsRow : List Entry → List Part
-partsRow [] = []
-partsRow (e ∷ es) = partsOf (e .field) (e .route) ++ partsRow es
 
 pub store-append : (p : Plan) (xs ys : List Part) → storeAll p (xs ++ ys) ≡ storeAll (storeAll p xs) ys
 unfolding storeAll

@@ -15,19 +15,18 @@ use Rattle.plan.specs.Field.{inRanges}
 use Rattle.plan_reading.specs.Part.{Part, header, port, flow, extra, jitter, clock, partsBy, partsOf}
 use Rattle.plan_reading.specs.Draft.{fieldRepeats}
 use Rattle.plan_reading.specs.Ranges.{RouteOk, PartOk}
-use Rattle.plan_reading.specs.Strict.{Entry, entryOf}
+use Rattle.plan_reading.specs.Strict.{Entry, entryOf, partsRow}
 use Rattle.plan_reading.specs.Saved.{spell, spellAll}
 use Rattle.plan_reading.specs.laws.fields.Within.{within-low}
 use Rattle.plan_reading.specs.laws.fields.Passes.{and-three}
 use Rattle.plan_reading.specs.laws.rows.SavedRow.{EntryOk, AllOk, none, more}
-use Rattle.plan_reading.specs.laws.rows.RowParts.{partsRow}
 
 -- the two forms are different
 pub newer-older : newer ≡ older → ⊥
 newer-older e = let z : _≡_ {A = ℕ} 1 0 = ap formNumber e in omega arith
 
 -- a field without a route
-plain-ok
+pub plain-ok
     : (k : Kind) (ns : List ℕ)
     → inRanges (layout k .numbers) ns ≡ true
     → layout k .mostHops ≡ 0
@@ -94,7 +93,7 @@ all-spelled [] all = none
 all-spelled (x ∷ xs) all = more (all x (List·Memᴰ·head refl)) (all-spelled xs (λ y m. all y (List·Memᴰ·tail m)))
 
 -- numbers in range are as many as their row of the table
-abbrev listed : List Number → ℕ → List ℕ → List ℕ
+abbrev pub listed : List Number → ℕ → List ℕ → List ℕ
 listed [] i ns = []
 listed (c ∷ cs) i ns = getD ns i 0 ∷ listed cs (suc i) ns
 
@@ -102,7 +101,7 @@ shifted : (cs : List Number) (i n : ℕ) (ns : List ℕ) → listed cs (suc i) (
 shifted [] i n ns = refl
 shifted (c ∷ cs) i n ns = ap (λ (l : List ℕ). getD ns i 0 ∷ l) (shifted cs (suc i) n ns)
 
-all-listed : (cs : List Number) (ns : List ℕ) → inRanges cs ns ≡ true → listed cs 0 ns ≡ ns
+pub all-listed : (cs : List Number) (ns : List ℕ) → inRanges cs ns ≡ true → listed cs 0 ns ≡ ns
 all-listed [] [] e = refl
 all-listed [] (n ∷ ns) e = absurd (true≢false (sym e))
 all-listed (c ∷ cs) [] e = absurd (true≢false (sym e))
@@ -111,10 +110,10 @@ all-listed (c ∷ cs) (n ∷ ns) e =
 
 -- a field of the older form in range is the one that says its parts
 module _ (ns : List ℕ) (h : ℕ) (r : List ℕ) (on : RouteOk h r) where
-  no-hops : hopsAllowed 0 h ≡ true → 0 ≡ h
+  pub no-hops : hopsAllowed 0 h ≡ true → 0 ≡ h
   no-hops e = sym (eqb-true h 0 e)
 
-  no-route : hopsAllowed 0 h ≡ true → [] ≡ r
+  pub no-route : hopsAllowed 0 h ≡ true → [] ≡ r
   no-route e = go r (on .hops ∙ sym (no-hops e))
     where
       go : (l : List ℕ) → length l ≡ 0 → [] ≡ l

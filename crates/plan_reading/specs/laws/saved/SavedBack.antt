@@ -18,7 +18,7 @@ use Rattle.plan_reading.specs.Store.{putsTop, putsClock, store}
 use Rattle.plan_reading.specs.FieldOrder.{SaysNothing}
 use Rattle.plan_reading.specs.Ranges.{PartOk}
 use Rattle.plan_reading.specs.Reading.{accepted, strict, readAs}
-use Rattle.plan_reading.specs.Strict.{Entry, fieldsIn}
+use Rattle.plan_reading.specs.Strict.{Entry, fieldsIn, partsRow}
 use Rattle.plan_reading.specs.FieldBytes.{rowBytes}
 use Rattle.plan_reading.specs.Saved.{spell, spellAll, savedParts, savedFields, savedBytes, NoneSaysNothing}
 use Rattle.plan_reading.specs.laws.fields.Within.{within-low}
@@ -27,7 +27,7 @@ use Rattle.plan_reading.specs.laws.validity.Valid.{accepted-valid}
 use Rattle.plan_reading.specs.laws.order.Rows.{Ascends}
 use Rattle.plan_reading.specs.laws.order.InOrder.{ascends-same}
 use Rattle.plan_reading.specs.laws.rows.SavedRow.{EntryOk, AllOk, none, more}
-use Rattle.plan_reading.specs.laws.rows.RowParts.{partsRow, free-ok}
+use Rattle.plan_reading.specs.laws.rows.RowParts.{free-ok}
 use Rattle.plan_reading.specs.laws.rows.Spelled.{spell-in, spell-of, row-spelled}
 use Rattle.plan_reading.specs.results.StrictTheorem.{read-loosely, keys-ascend, accepted-bytes}
 use Rattle.plan_reading.specs.laws.saved.Entries.{Stands, Tells, Says}

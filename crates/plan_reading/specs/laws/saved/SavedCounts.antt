@@ -11,10 +11,9 @@ use Rattle.cqf.specs.Plan.{Plan, clocksEqual, rateOf, extraOf, periodOf, jitter
 use Rattle.plan.specs.Field.{Field}
 use Rattle.plan_reading.specs.Part.{Part, partsOf}
 use Rattle.plan_reading.specs.Draft.{Draft, blank, portsIn, flowsIn, sumOf, added}
-use Rattle.plan_reading.specs.Strict.{Entry}
+use Rattle.plan_reading.specs.Strict.{Entry, partsRow}
 use Rattle.plan_reading.specs.Saved.{spell, when, collect, headerPart, portPart, flowPart, extraPart, jitterPart, clockPart, portParts, flowParts, extraParts, jitterParts, clockParts, savedParts, savedFields}
 use Rattle.plan_reading.specs.laws.rows.SavedRow.{addedAll}
-use Rattle.plan_reading.specs.laws.rows.RowParts.{partsRow}
 use Rattle.plan_reading.specs.laws.rows.Spelled.{spelled-parts, spell-in}
 use Rattle.plan_reading.specs.laws.rows.RowAccepted.{some-flow}
 use Rattle.plan_reading.specs.laws.saved.Says.{jittersOn, extrasOn, flowsOn}
@@ -49,7 +48,7 @@ module _ (g : Part → ℕ) where
       both false = refl
 
   -- what a row adds to a number of the draft that counts so
-  sum-added
+  pub sum-added
       : (count : Draft → ℕ)
       → ((d : Draft) (x : Field) (r : List ℕ) → count (added d x r) ≡ count d + sumOf g (partsOf x r))
       → (d : Draft) (es : List Entry)

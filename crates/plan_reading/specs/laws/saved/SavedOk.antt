@@ -32,7 +32,7 @@ use Rattle.plan_reading.specs.laws.saved.Says.{portsOn, flow-says, saved
 use Rattle.plan_reading.specs.laws.saved.SavedOrder.{saved-in-order}
 
 -- ports of the plan have numbers in range
-ports-numbered : (rates r : List ℕ) → every (portIn rates) r ≡ true → every portOk r ≡ true
+pub ports-numbered : (rates r : List ℕ) → every (portIn rates) r ≡ true → every portOk r ≡ true
 unfolding every
 ports-numbered rates [] h = refl
 ports-numbered rates (n ∷ r) h =

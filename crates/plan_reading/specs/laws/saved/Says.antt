@@ -18,10 +18,10 @@ use Rattle.plan_reading.specs.laws.fields.Within.{within-low, slot-below
 use Rattle.plan_reading.specs.laws.saved.Entries.{Stands, Tells, Says, collect-slot, slot-collect, when-only, when-there, clocks-differ, differ-clocks}
 
 -- the number of slot i, and its slot
-numbered : (slots i : ℕ) → i < slots → within 1 slots (suc i) ≡ true
+pub numbered : (slots i : ℕ) → i < slots → within 1 slots (suc i) ≡ true
 numbered slots i l = rw (le-leb 1 (suc i) (omega arith), le-leb (suc i) slots l)
 
-back : (i : ℕ) → suc i - 1 ≡ i
+pub back : (i : ℕ) → suc i - 1 ≡ i
 back i = omega arith
 
 module _ (p : Plan) where
@@ -121,7 +121,7 @@ module _ (p : Plan) where
       first (inr m) = ports (List·Memᴰ·append-cases (collect portSlots (portParts p)) m)
 
   -- each that stands in the tables is the one of its kind and number
-  stands-at : (x : Part) → Stands p x → x ≡ saidAt (spell x .field .kind) (numberOf (spell x .field))
+  pub stands-at : (x : Part) → Stands p x → x ≡ saidAt (spell x .field .kind) (numberOf (spell x .field))
   stands-at (header g t) h = sym (λ i. header (h .0 i) (h .1 i))
   stands-at (port n v b) h =
       let own : suc (n - 1) ≡ n = omega (arith, within-low 1 portSlots n (h .0)) in

@@ -26,7 +26,7 @@ use Rattle.plan_reading.specs.Store.{store, storeAll}
 use Rattle.plan_reading.specs.Draft.{Draft, blank, hasKey, fieldRepeats, flowsIn, sumOf, added}
 use Rattle.plan_reading.specs.Ranges.{NumbersOk, PartOk}
 use Rattle.plan_reading.specs.Reading.{accepted, routeAt, readPlan}
-use Rattle.plan_reading.specs.Strict.{fieldsFrom}
+use Rattle.plan_reading.specs.Strict.{fieldsFrom, partsRow}
 use Rattle.plan_reading.specs.laws.fields.Within.{within-low, within-high, slot-below}
 use Rattle.plan_reading.specs.laws.fields.Passes.{Passes, field-is-whole, field-passes}
 use Rattle.plan_reading.specs.laws.fields.Ranged.{All, all-at, all-split, all-of}
@@ -41,7 +41,7 @@ use Rattle.plan_reading.specs.laws.reading.Absent.{flow-there, NamedTher
 use Rattle.plan_reading.specs.laws.reading.Walked.{walk-free}
 use Rattle.plan_reading.specs.laws.order.Rows.{row-field}
 use Rattle.plan_reading.specs.laws.order.Order.{flagged-blank}
-use Rattle.plan_reading.specs.laws.rows.RowParts.{partsRow, row-tables, free-fresh}
+use Rattle.plan_reading.specs.laws.rows.RowParts.{row-tables, free-fresh}
 use Rattle.plan_reading.specs.laws.stores.Sources.{tablesOf}
 use Rattle.plan_reading.specs.laws.stores.Fresh.{Fresh, fresh-stands}
 use Rattle.plan_reading.specs.laws.saved.Entries.{Stands}
