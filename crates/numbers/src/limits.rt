@@ -30,6 +30,9 @@ const MAX_JITTER: u64 = 10_000_000;
 
 pub const MAX_HOPS: u64 = 24;
 
+// In a plan of the older form.
+pub const OLDER_MAX_HOPS: u64 = 16;
+
 pub fn between(lo: u64, hi: u64, n: u64) -> bool
     ensures { λ r. ⌜ r ≡ within lo hi n ⌝ }
 {

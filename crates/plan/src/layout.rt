@@ -35,7 +35,7 @@ pub const PORT_SIZE: usize = BLOCKING_AT + 2;
 pub const FLOW_TAG: u8 = 3;
 
 // The most ports that a flow's field names.
-pub const MAX_HOPS: usize = 16;
+pub const MAX_HOPS: usize = numbers::limits::OLDER_MAX_HOPS as usize;
 
 pub const FLOW_AT: usize = 0;
 
@@ -93,7 +93,7 @@ pub const PORT2_SIZE: usize = PORT2_EXTRA_AT + 2;
 
 pub const FLOW2_TAG: u8 = 0x13;
 
-pub const FLOW2_MAX_HOPS: usize = 24;
+pub const FLOW2_MAX_HOPS: usize = numbers::limits::MAX_HOPS as usize;
 
 pub const FLOW2_JITTER_AT: usize = FLOW_SIZE;
 

@@ -13,9 +13,11 @@ pub const STRIDE: usize = 24;
 
 pub mod columns; // columns.rt: the type of each column
 mod valid; // valid.rt: whether the tables hold a plan that the rules accept
+mod forms; // forms.rt: the top by the form
 mod ports; // ports.rt: the slots of the ports
 mod flows; // flows.rt: the slots of the flows
 
+pub use forms::held_top;
 pub use valid::valid_tables;
 
 // The held plan: port n in slot n - 1, flow n in slot n - 1, a flow's route at its slot times the stride. An absent port has rate 0,
