@@ -16,16 +16,18 @@ use Rattle.plan_reading.specs.Part.{Part, header, port, flow, extra, jit
 use Rattle.plan_reading.specs.FieldOrder.{Nothing}
 use Rattle.plan_reading.specs.Ranges.{PartOk}
 use Rattle.plan_reading.specs.Reading.{accepted, Mode, readAs, maxBytes}
-use Rattle.plan_reading.specs.Strict.{fieldsIn, partsRow}
-use Rattle.plan_reading.specs.Saved.{savedBytes, formBytes}
+use Rattle.plan_reading.specs.Strict.{Entry, fieldsIn, partsRow}
+use Rattle.plan_reading.specs.FieldBytes.{bytesOf, rowBytes}
+use Rattle.plan_reading.specs.Saved.{savedParts, savedBytes, newerFields, formBytes}
 use Rattle.plan_reading.specs.SameParts.{partsIn, SameParts}
 use Rattle.plan_reading.specs.laws.fields.Within.{within-low, within-high}
 use Rattle.plan_reading.specs.laws.fields.Ranged.{all-at}
 use Rattle.plan_reading.specs.laws.validity.Valid.{accepted-valid}
 use Rattle.plan_reading.specs.laws.reading.PlanLength.{sized, read-form}
+use Rattle.plan_reading.specs.laws.reading.Walk.{read-as}
 use Rattle.plan_reading.specs.laws.reading.Walked.{accepted-row, accepted-sized, accepted-tidy}
 use Rattle.plan_reading.specs.laws.reading.Fits.{read-fits}
-use Rattle.plan_reading.specs.laws.order.OutOfOrder.{newer-modes}
+use Rattle.plan_reading.specs.laws.rows.Written.{plan-long}
 use Rattle.plan_reading.specs.laws.stores.Sources.{tablesOf}
 use Rattle.plan_reading.specs.laws.stores.Fresh.{fresh-stands}
 use Rattle.plan_reading.specs.laws.saved.Entries.{Stands, Tells, Says, clocks-equal, clocks-differ}
@@ -35,13 +37,28 @@ use Rattle.plan_reading.specs.laws.saved.SavedBack.{Headed, part-there, 
 use Rattle.plan_reading.specs.laws.saved.SavedSlots.{RowOf}
 use Rattle.plan_reading.specs.laws.saved.SavedTables.{left-tables}
 use Rattle.plan_reading.specs.laws.saved.Tidy.{tidied-same}
-use Rattle.plan_reading.specs.laws.newer.Back.{newer-back}
+use Rattle.plan_reading.specs.laws.newer.Back.{newer-fields-back, newer-back}
+use Rattle.plan_reading.specs.laws.newer.Row.{newer-held}
+use Rattle.plan_reading.specs.laws.saved.Counts.{ports-counted, flows-counted}
 use Rattle.plan_reading.specs.results.StrictTheorem.{read-loosely}
 
-module _ (mode : Mode) (s : List ℕ) (p : Plan) (ports flows : ℕ) (octets : Octets s) (e : readAs mode s ≡ accepted p ports flows) where
+module _ (mode : Mode) (s : List ℕ) (p : Plan) (ports flows : ℕ) (e : readAs mode s ≡ accepted p ports flows) where
   -- A plan of the newer form is saved as the very bytes that were read.
-  pub newer-saved : formBy s ≡ newer → formBytes newer p ≡ s
-  newer-saved told = newer-back mode s p ports flows e told octets
+  pub newer-saved : formBy s ≡ newer → Octets s → formBytes newer p ≡ s
+  newer-saved told octets = newer-back mode s p ports flows e told octets
+
+  fits-in : (form : Form) → formBy s ≡ form → formFits (formNumber form) (p .hops) ≡ true
+  fits-in form told = subst (λ (f : Form). formFits (formNumber f) (p .hops) ≡ true) told (read-fits mode s p ports flows e)
+
+  newer-room : formBy s ≡ newer → length (formBytes newer p) ≤ maxBytes
+  unfolding formBytes fieldsIn
+  newer-room told =
+      omega (
+        arith,
+        ap (λ (es : List Entry). length (rowBytes es)) (newer-fields-back mode s p ports flows e told),
+        plan-long s (read-as mode s p ports flows e .walk),
+        within-high 1 maxBytes (length s) (sized (formBy s) mode s p ports flows (sym (read-form mode s) ∙ e)),
+      )
 
   -- A plan that was read is saved, in its form, as no more bytes than a plan may have.
   pub form-length : length (formBytes (formBy s) p) ≤ maxBytes
@@ -49,25 +66,29 @@ module _ (mode : Mode) (s : List ℕ) (p : Plan) (ports flows : ℕ) (octets : O
   form-length = go (formBy s) refl
     where
       go : (form : Form) → formBy s ≡ form → length (formBytes form p) ≤ maxBytes
-      go older told = saved-length p (subst (λ (f : Form). formFits (formNumber f) (p .hops) ≡ true) told (read-fits mode s p ports flows e))
-      go newer told =
-          omega (arith, within-high 1 maxBytes (length s) (sized (formBy s) mode s p ports flows (sym (read-form mode s) ∙ e)), ap length (newer-saved told))
+      go older told = saved-length p (fits-in older told)
+      go newer told = newer-room told
 
   -- Either reading accepts these bytes, and they hold the plan, with the same numbers of port and flow fields.
   pub form-again : (other : Mode) → readAs other (formBytes (formBy s) p) ≡ accepted p ports flows
   unfolding formBytes savedBytes
   form-again other = go (formBy s) refl
     where
-      either : formBy s ≡ newer → (a b : Mode) → readAs a s ≡ accepted p ports flows → readAs b s ≡ accepted p ports flows
-      either told Mode.loose Mode.loose h = h
-      either told Mode.strict Mode.strict h = h
-      either told Mode.loose Mode.strict h = sym (newer-modes s told) ∙ h
-      either told Mode.strict Mode.loose h = newer-modes s told ∙ h
-
       go : (form : Form) → formBy s ≡ form → readAs other (formBytes form p) ≡ accepted p ports flows
-      go older told =
-          saved-again mode other s p ports flows e (subst (λ (f : Form). formFits (formNumber f) (p .hops) ≡ true) told (read-fits mode s p ports flows e))
-      go newer told = ap (readAs other) (newer-saved told) ∙ either told mode other e
+      go older told = saved-again mode other s p ports flows e (fits-in older told)
+      go newer told =
+          newer-held p (accepted-valid s p ports flows (read-loosely mode s p ports flows e)) (accepted-sized mode s p ports flows e) (newer-room told)
+          (accepted-tidy mode s p ports flows e) other
+          ∙ (λ i. accepted p (sym (ports-counted mode s p ports flows e) i) (sym (flows-counted mode s p ports flows e) i))
+
+  -- and tell the form that was read.
+  pub form-kept : formBy (formBytes (formBy s) p) ≡ formBy s
+  unfolding formBytes savedParts newerFields rowBytes bytesOf formBy
+  form-kept = go (formBy s)
+    where
+      go : (form : Form) → formBy (formBytes form p) ≡ form
+      go older = refl
+      go newer = refl
 
 -- what a plan says stands among the parts of its bytes, and each of them that says more than its absence is said
 module _ (mode : Mode) (s : List ℕ) (p : Plan) (ports flows : ℕ) (e : readAs mode s ≡ accepted p ports flows) where

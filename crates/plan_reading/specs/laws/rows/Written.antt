@@ -2,10 +2,11 @@
 use Prim.Native.Nat.{ℕ, zero, suc, _+_, _*_, _/_, _≤_}
 use mathlib.Core.Path.{_≡_, sym, ap, ap₂, _∙_}
 use mathlib.Core.List.{List, _∷_, _++_}
+use mathlib.Core.Bool.{true}
 use native.Mathlib.Omega.{arith}
-use lib.ListN.{length, take, drop, length-take, length-drop, take-append-drop, drop-of-length-le}
+use lib.ListN.{length, take, drop, length-append, length-take, length-drop, take-append-drop, drop-of-length-le}
 use lib.Seq.{drop-cons, drop-drop, take-all}
-use Rattle.plan.specs.Bytes.{Octets, headSize, tagAt, sizeAt, valueAt}
+use Rattle.plan.specs.Bytes.{Octets, headSize, tagAt, sizeAt, wholeAt, valueAt}
 use Rattle.cqf.specs.Form.{Form}
 use Rattle.plan.specs.Layout.{formBy, Kind, layout, numbersSize}
 use Rattle.plan.specs.Field.{Field, field, routePorts, routeIn, fieldAt}
@@ -14,6 +15,9 @@ use Rattle.plan_reading.specs.Reading.{routeAt}
 use Rattle.plan_reading.specs.Strict.{entryOf, fieldsFrom}
 use Rattle.plan_reading.specs.FieldBytes.{bytes2, bytes2s, numbersBytes, sizeOf, valueOf, bytesOf, rowBytes}
 use Rattle.plan.specs.laws.Whole.{whole-fits}
+use Rattle.plan_reading.specs.laws.fields.Found.{found-numbers, found-route, found-forward, found-within}
+use Rattle.plan_reading.specs.laws.rows.SavedRow.{EntryOk}
+use Rattle.plan_reading.specs.laws.rows.EntryRead.{entry-length}
 use Rattle.plan_reading.specs.laws.fields.Passes.{Passes, field-is-whole, field-passes}
 use Rattle.plan_reading.specs.laws.reading.Walk.{Reads, done, one}
 use Rattle.plan_reading.specs.laws.order.Late.{past-end}
@@ -44,6 +48,13 @@ module _ (tag : ℕ) (v : List ℕ) (o : Octets v) where
       ∙ ap (λ (y : Field). numbersBytes (layout (x .kind) .numbers) (y .numbers)) (k .numbers))
       (ap (λ (m : ℕ). take (2 * x .hops) (drop m v)) start ∙ route-bytes (x .kind) (x .hops) (k .size))
 
+-- the value of a whole field is as long as its head says
+whole-value : (s : List ℕ) (at : ℕ) → wholeAt s at ≡ true → length (valueAt s at) ≡ sizeAt s at
+unfolding valueAt
+whole-value s at w =
+    let bound = whole-fits s at w in
+    omega (arith, length-take (sizeAt s at) (drop (at + headSize) s), length-drop (at + headSize) s)
+
 -- a whole field
 module _ (form : Form) (s : List ℕ) (o : Octets s) (at : ℕ) (x : Field) (next : ℕ) (e : fieldAt form s at ≡ field x next) where
   fits : at + headSize + sizeAt s at ≤ length s
@@ -54,10 +65,7 @@ module _ (form : Form) (s : List ℕ) (o : Octets s) (at : ℕ) (x : Field) (nex
   octets-value = octets-take (sizeAt s at) (drop (at + headSize) s) (octets-drop (at + headSize) s o)
 
   value-length : length (valueAt s at) ≡ sizeAt s at
-  unfolding valueAt
-  value-length =
-      let bound = fits in
-      omega (arith, length-take (sizeAt s at) (drop (at + headSize) s), length-drop (at + headSize) s)
+  value-length = whole-value s at (field-is-whole form s at x next e)
 
   head-bytes : take (headSize + sizeAt s at) (drop at s) ≡ tagAt s at ∷ (bytes2 (sizeAt s at) ++ valueAt s at)
   unfolding sizeAt valueAt
@@ -102,3 +110,33 @@ row-bytes {form} s o (suc n) {at} (one x next less stands fresh no-repeat rest) 
 
 pub plan-bytes : (s : List ℕ) {d e : Draft} → Octets s → Reads (formBy s) s 0 d e → s ≡ rowBytes (fieldsFrom (formBy s) (length s) s 0)
 plan-bytes s o reads = row-bytes s o (length s) reads (omega arith)
+
+-- whatever the bytes are, those of the fields are as many
+row-long
+    : {form : Form} (s : List ℕ) (n : ℕ) {at : ℕ} {d e : Draft}
+    → Reads form s at d e
+    → at ≤ length s
+    → length s ≤ at + n
+    → at + length (rowBytes (fieldsFrom form n s at)) ≡ length s
+unfolding rowBytes
+row-long {form} s n {at} (done same end) inside enough = rw (row-refused form n s at 2 at (past-end form s at end)) (omega arith)
+row-long s zero (one x next less stands fresh no-repeat rest) inside enough = absurd (omega arith)
+row-long {form} s (suc n) {at} (one x next less stands fresh no-repeat rest) inside enough =
+    let r = field-passes form s at x next stands in
+    let f = entryOf x (routeAt (x .kind) s at) in
+    let ok : EntryOk form f =
+    record { numbers = found-numbers form s at x next stands; fits = found-route form s at x next stands; no-repeat = no-repeat } in
+    let within = found-within form s at x next stands in
+    let size : length (valueAt s at) ≡ sizeAt s at = whole-value s at (field-is-whole form s at x next stands) in
+    rw (row-field form n s at x next stands)
+    (omega (
+      arith,
+      length-append (bytesOf f) (rowBytes (fieldsFrom form n s next)),
+      entry-length f ok,
+      r .passes .size,
+      r .follows,
+      row-long s n rest within (omega (arith, found-forward form s at x next stands)),
+    ))
+
+pub plan-long : {form : Form} (s : List ℕ) {d e : Draft} → Reads form s 0 d e → length (rowBytes (fieldsFrom form (length s) s 0)) ≡ length s
+plan-long s reads = omega (arith, row-long s (length s) reads (omega arith) (omega arith))
