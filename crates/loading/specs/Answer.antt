@@ -4,11 +4,12 @@ use mathlib.Core.Path.{_≡_}
 use mathlib.Core.List.{List, [], _∷_}
 use mathlib.Core.Bool.{Bool, true, false}
 use Rattle.cqf.specs.Plan.{Plan}
+use Rattle.cqf.specs.Form.{Form}
 use Rattle.plan.specs.Answer.{faultNumber}
 use Rattle.plan_reading.specs.Reading.{Mode, loose, strict}
 use Rattle.tables.specs.Tables.{planOf}
 use Rattle.answers.specs.Answer.{Answer, result, refusal}
-use Rattle.loading.specs.Outcome.{Fields, loadAnswer, loadLeaves, loadForm}
+use Rattle.loading.specs.Outcome.{Fields, formAnswer, formLeaves, formLeft, loadAnswer, loadLeaves, loadForm}
 use Rattle.loading.specs.declared.LoadAnswer.{LoadAnswer}
 use Rattle.loading.specs.declared.LoadOutcome.{LoadOutcome}
 
@@ -27,3 +28,9 @@ pub record Loads (mode : Mode) (held : Plan) (form : ℕ) (bytes : List ℕ) (ou
   pub leaves : planOf (outcome .planner) ≡ loadLeaves mode held bytes
   pub formed : outcome .planner .form ≡ loadForm mode form bytes
   pub answers : loadOf (outcome .answer) ≡ loadAnswer mode bytes
+
+-- the same of bytes read as a plan of this form
+pub record LoadsForm (form : Form) (mode : Mode) (held : Plan) (number : ℕ) (bytes : List ℕ) (outcome : LoadOutcome) : Type 0 where
+  pub leaves : planOf (outcome .planner) ≡ formLeaves form mode held bytes
+  pub formed : outcome .planner .form ≡ formLeft form mode number bytes
+  pub answers : loadOf (outcome .answer) ≡ formAnswer form mode bytes

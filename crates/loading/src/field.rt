@@ -17,7 +17,7 @@ use tables::columns;
 ghost use Prim.Native.Nat.{_≤_};
 ghost use mathlib.Core.Path.{_≡_};
 ghost use Rattle.plan.specs.Field.{field, fieldAt};
-ghost use Rattle.plan_reading.specs.Reading.{late, stepAt, maxBytes};
+ghost use Rattle.plan_reading.specs.Reading.{modeIn, late, stepAt, maxBytes};
 ghost use Rattle.plan.specs.Answer.{formOf, fieldOf};
 ghost use Rattle.loading.specs.Answer.{modeOf};
 ghost use Rattle.loading.specs.Loading.{draftOf, progressOf};
@@ -33,6 +33,16 @@ pub(crate) enum Progress {
         fault: Fault,
         offset: usize,
     },
+}
+
+// Whether a plan of this form is read strictly: one of the newer form always is.
+pub(crate) fn strict_in(form: Form, strict: bool) -> bool
+    ensures { λ r. ⌜ modeOf r ≡ modeIn (formOf form) (modeOf strict) ⌝ }
+{
+    match form {
+        Form::Older => strict,
+        Form::Newer => true,
+    }
 }
 
 // Test 12, of the strict reading only: whether a field should have stood earlier, last being the key of the field in front of it.

@@ -6,6 +6,8 @@ use plan::Head;
 use plan::layout::EXTRA_TAG;
 use plan::layout::FLOW_SIZE;
 use plan::layout::FLOW_TAG;
+use plan::layout::FLOW2_SIZE;
+use plan::layout::FLOW2_TAG;
 use plan::layout::HEAD_SIZE;
 use plan::layout::JITTER_TAG;
 use plan::number::first_number;
@@ -74,10 +76,13 @@ fn names_absent(plan: &[u8], at: usize, tag: u8, rates: &columns::Rates) -> bool
     requires { ⌜ (wholeAt (now plan) at ≡ true) × (tag ≡ tagAt (now plan) at) ⌝ }
     ensures { λ r. ⌜ r ≡ namesAbsent (now (rates .entry)) (now (plan .entry)) at ⌝ }
 {
-    if tag != FLOW_TAG {
-        return false;
+    if tag == FLOW_TAG {
+        return route_absent(route_bytes(field_value(plan, at), FLOW_SIZE), rates);
     }
-    route_absent(route_bytes(field_value(plan, at), FLOW_SIZE), rates)
+    if tag == FLOW2_TAG {
+        return route_absent(route_bytes(field_value(plan, at), FLOW2_SIZE), rates);
+    }
+    false
 }
 
 // Whether the whole field at this offset says the jitter of a flow not in the plan.

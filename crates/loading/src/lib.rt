@@ -6,9 +6,11 @@ mod reading; // reading.rt: a whole plan read into columns of its own
 mod field; // field.rt: one field, tested and stored
 mod first; // first.rt: the first field that is sought, as test 9 wants it
 mod store; // store.rt: a field stored into the columns
+mod slots; // slots.rt: the numbers of a port or a flow
 
 pub use reading::load;
 pub use reading::load_strict;
+pub use reading::read_form;
 pub use reading::read_plan;
 
 pub enum LoadAnswer {

@@ -6,12 +6,14 @@ use crate::LoadOutcome;
 use crate::MAX_BYTES;
 use crate::field::Progress;
 use crate::field::step;
+use crate::field::strict_in;
 use crate::first::first_absent;
 use crate::store::HEADER_KEY;
 use crate::store::KEYS;
 use crate::store::Totals;
 use numbers::clock::Clock;
 use plan::Fault;
+use plan::Form;
 use plan::form_by;
 use plan::form_number;
 use tables::FLOWS;
@@ -22,8 +24,9 @@ use tables::columns;
 ghost use mathlib.Core.Path.{_≡_};
 ghost use Rattle.cqf.specs.Bounded.{within};
 ghost use Rattle.plan_reading.specs.Reading.{loose, strict, maxBytes};
+ghost use Rattle.plan.specs.Answer.{formOf};
 ghost use Rattle.tables.specs.Tables.{planOf};
-ghost use Rattle.loading.specs.Answer.{Loads, modeOf};
+ghost use Rattle.loading.specs.Answer.{Loads, LoadsForm, modeOf};
 ghost use Rattle.loading.specs.Loading.{ClosesWith};
 
 // All fields are read: the tests 8 and 9.
@@ -71,10 +74,13 @@ fn size_ok(size: usize) -> bool
     size <= MAX_BYTES
 }
 
-// A load in either reading. The plan in these bytes is held in place of the one before, where the rules find no refusal; otherwise the planner is given
-// back as it came. The columns are fresh, and go into the planner once, where the plan is accepted.
-pub fn read_plan(strict: bool, planner: Planner, plan: &[u8]) -> LoadOutcome
-    ensures { λ r. ⌜ Loads (modeOf strict) (planOf planner) (planner .form) (now (plan .entry)) r ⌝ }
+// Bytes read as a plan of this form, in either reading. The plan in them is held in place of the one before, where the rules find no
+// refusal; otherwise the planner is given back as it came. The columns are fresh, and go into the planner once, where the plan is
+// accepted.
+pub fn read_form(form: Form, strict: bool, planner: Planner, plan: &[u8]) -> LoadOutcome
+    ensures { λ r. ⌜
+        LoadsForm (formOf form) (modeOf strict) (planOf planner) (planner .form) (now (plan .entry)) r
+        ⌝ }
 {
     if !size_ok(plan.len()) {
         return LoadOutcome {
@@ -85,7 +91,7 @@ pub fn read_plan(strict: bool, planner: Planner, plan: &[u8]) -> LoadOutcome
             },
         };
     }
-    let form = form_by(plan);
+    let strictly = strict_in(form, strict);
     let mut rates = [0u32; PORTS];
     let mut blockings = [0u16; PORTS];
     let mut extras = [0u8; PORTS];
@@ -112,7 +118,7 @@ pub fn read_plan(strict: bool, planner: Planner, plan: &[u8]) -> LoadOutcome
     while at < plan.len() {
         match step(
             form,
-            strict,
+            strictly,
             plan,
             at,
             last,
@@ -176,7 +182,14 @@ pub fn read_plan(strict: bool, planner: Planner, plan: &[u8]) -> LoadOutcome
     }
 }
 
-// The load: fields may stand in any order.
+// A load in either reading, by the form that the bytes tell.
+pub fn read_plan(strict: bool, planner: Planner, plan: &[u8]) -> LoadOutcome
+    ensures { λ r. ⌜ Loads (modeOf strict) (planOf planner) (planner .form) (now (plan .entry)) r ⌝ }
+{
+    read_form(form_by(plan), strict, planner, plan)
+}
+
+// The load: fields may stand in any order, but for those of a plan of the newer form.
 pub fn load(planner: Planner, plan: &[u8]) -> LoadOutcome
     ensures { λ r. ⌜ Loads loose (planOf planner) (planner .form) (now (plan .entry)) r ⌝ }
 {

@@ -1,30 +1,29 @@
 // A field stored into the columns of a plan that is being read.
 
+use crate::slots::store_extra;
+use crate::slots::store_flow;
+use crate::slots::store_flow2;
+use crate::slots::store_jitter;
+use crate::slots::store_port;
+use crate::slots::store_port2;
 use numbers::clock::Clock;
-use plan::Extra;
 use plan::Field;
-use plan::Flow;
-use plan::Jitter;
-use plan::Port;
-use plan::route::route_port;
 use tables::FLOWS;
 use tables::PORTS;
-use tables::STRIDE;
 use tables::columns;
-ghost use Prim.Native.Nat.{_+_, _-_, _*_, _≤_};
+ghost use Prim.Native.Nat.{_≤_};
 ghost use mathlib.Core.Path.{_≡_};
-ghost use lib.ListN.{set};
-ghost use lib.Seq.{sets};
-ghost use Rattle.cqf.specs.Limits.{flowSlots, routeStride};
+ghost use Rattle.plan.specs.Layout.{layout};
 ghost use Rattle.plan.specs.Field.{routePorts};
 ghost use Rattle.plan_reading.specs.Key.{keyOf};
 ghost use Rattle.plan_reading.specs.Draft.{added};
 ghost use Rattle.plan_reading.specs.Reading.{maxBytes};
-ghost use Rattle.plan_reading.specs.Ranges.{PortOk, FlowOk, ExtraOk, JitterOk, NumbersOk, RouteOk, RouteFits};
+ghost use Rattle.plan_reading.specs.Ranges.{NumbersOk, RouteFits};
 ghost use Rattle.plan.specs.Answer.{fieldOf};
 ghost use Rattle.loading.specs.Loading.{draftOf};
 
 // A flag for each key: the header's, the ports', the flows', those of the ports' extra bytes and of the flows' jitter, the clock's.
+// The newer form's fields have the keys of the older ones of their names.
 pub(crate) const HEADER_KEY: usize = 0;
 
 const CLOCK_KEY: usize = 1 + PORTS + FLOWS + PORTS + FLOWS;
@@ -50,76 +49,10 @@ pub(crate) fn key_of(field: Field) -> usize
         Field::Extra(x) => PORTS + FLOWS + x.number as usize,
         Field::Jitter(x) => PORTS + FLOWS + PORTS + x.number as usize,
         Field::Clock(_) => CLOCK_KEY,
+        Field::Header2(_) => HEADER_KEY,
+        Field::Port2(x) => HEADER_KEY + x.number as usize,
+        Field::Flow2(x) => PORTS + x.number as usize,
     }
-}
-
-fn store_port(rates: &mut columns::Rates, blockings: &mut columns::Blockings, x: Port)
-    requires { ⌜ PortOk (x .number) (x .rate) (x .blocking) ⌝ }
-    ensures { λ r. ⌜
-        (now (rates .exit) ≡ set (now (rates .entry)) (x .number - 1) (x .rate))
-        × (now (blockings .exit) ≡ set (now (blockings .entry)) (x .number - 1) (x .blocking))
-        ⌝ }
-{
-    let slot = (x.number - 1) as usize;
-    rates[slot] = x.rate;
-    blockings[slot] = x.blocking;
-}
-
-fn store_extra(extras: &mut columns::Extras, x: Extra)
-    requires { ⌜ ExtraOk (x .number) (x .extra) ⌝ }
-    ensures { λ r. ⌜ now (extras .exit) ≡ set (now (extras .entry)) (x .number - 1) (x .extra) ⌝ }
-{
-    let slot = (x.number - 1) as usize;
-    extras[slot] = x.extra as u8;
-}
-
-fn store_jitter(jitters: &mut columns::Jitters, x: Jitter)
-    requires { ⌜ JitterOk (x .number) (x .jitter) ⌝ }
-    ensures { λ r. ⌜ now (jitters .exit) ≡ set (now (jitters .entry)) (x .number - 1) (x .jitter) ⌝ }
-{
-    jitters[(x.number - 1) as usize] = x.jitter;
-}
-
-// The ports of a route, copied to position base of the routes and on.
-fn store_route(routes: &mut columns::Routes, base: usize, route: &[u8], hops: usize)
-    requires { ⌜ (base + hops ≤ flowSlots * routeStride) × RouteOk hops (routePorts (now route)) ⌝ }
-    ensures { λ r. ⌜ now (routes .exit) ≡ sets (now (routes .entry)) base (routePorts (now (route .entry))) ⌝ }
-{
-    let mut i = 0;
-    while i < hops {
-        let port = route_port(route, i);
-        routes[base + i] = port as u8;
-        i += 1;
-    }
-}
-
-fn store_flow(
-    periods: &mut columns::Periods,
-    counts: &mut columns::Counts,
-    lengths: &mut columns::Lengths,
-    hops: &mut columns::Hops,
-    routes: &mut columns::Routes,
-    x: Flow,
-    route: &[u8],
-)
-    requires { ⌜
-        FlowOk (x .number) (x .period) (x .count) (x .length) (x .hops) × RouteOk (x .hops) (routePorts (now route))
-        ⌝ }
-    ensures { λ r. ⌜
-        (now (periods .exit) ≡ set (now (periods .entry)) (x .number - 1) (x .period))
-        × (now (counts .exit) ≡ set (now (counts .entry)) (x .number - 1) (x .count))
-        × (now (lengths .exit) ≡ set (now (lengths .entry)) (x .number - 1) (x .length))
-        × (now (hops .exit) ≡ set (now (hops .entry)) (x .number - 1) (x .hops))
-        × (now (routes .exit) ≡ sets (now (routes .entry)) ((x .number - 1) * routeStride)
-        (routePorts (now (route .entry))))
-        ⌝ }
-{
-    let slot = (x.number - 1) as usize;
-    periods[slot] = x.period;
-    counts[slot] = x.count;
-    lengths[slot] = x.length;
-    hops[slot] = x.hops;
-    store_route(routes, slot * STRIDE, route, x.hops as usize);
 }
 
 // The field stored, with the bytes of its route, and its key marked as seen.
@@ -141,7 +74,7 @@ pub(crate) fn store_field(
     requires { ⌜
         (totals .ports ≤ maxBytes)
         × (totals .flows ≤ maxBytes)
-        × NumbersOk (fieldOf field)
+        × NumbersOk (layout (fieldOf field .kind) .form) (fieldOf field)
         × RouteFits (fieldOf field) (routePorts (now route))
         ⌝ }
     ensures { λ r. ⌜
@@ -183,6 +116,27 @@ pub(crate) fn store_field(
         }
         Field::Clock(x) => {
             sums.clock = x;
+            sums
+        }
+        Field::Header2(x) => {
+            let clock = Clock {
+                drift: x.drift,
+                timing_jitter: x.timing_jitter,
+                sync_error: x.sync_error,
+            };
+            sums.guard = x.guard;
+            sums.top = x.top;
+            sums.clock = clock;
+            sums
+        }
+        Field::Port2(x) => {
+            store_port2(rates, blockings, extras, x);
+            sums.ports = sums.ports + 1;
+            sums
+        }
+        Field::Flow2(x) => {
+            store_flow2(periods, counts, lengths, jitters, hops, routes, x, route);
+            sums.flows = sums.flows + 1;
             sums
         }
     }

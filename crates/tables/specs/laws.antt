@@ -1,2 +1,3 @@
--- Laws of tables that are filled port by port.
+-- Laws of tables: filled port by port, and by their form.
 pub mod Marks
+pub mod Forms

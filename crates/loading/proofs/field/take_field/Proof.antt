@@ -1,6 +1,6 @@
 -- `take_field` meets its contract: the tests 6, 12 and 7 of a field that was read, and the field stored.
 use Prim.Native.Nat.{ℕ}
-use mathlib.Core.Path.{_≡_, sym, ap, _∙_}
+use mathlib.Core.Path.{_≡_, refl, sym, ap, _∙_}
 use mathlib.Core.Bool.{false}
 use native.Mathlib.Omega.{arith}
 use borrow.Author.Tests.{lt-ltb, le-ltb}
@@ -96,7 +96,8 @@ store-field-requires : tie.Need-store-field-requires
 store-field-requires c κs =
     let route = past-7 c .before .before in
     let a = entry (past-6 (route .before .before .before)) in
-    (a .pre .0, a .pre .1, found-numbers _ _ _ _ _ (a .pre .2), rw (route-read route) (found-route _ _ _ _ _ (a .pre .2)))
+    let n = found-numbers _ _ _ _ _ (a .pre .2) in
+    (a .pre .0, a .pre .1, record { kind = refl; ranges = n .ranges; hops = n .hops }, rw (route-read route) (found-route _ _ _ _ _ (a .pre .2)))
 
 returns-4 : tie.Need-returns-4
 returns-4 c =

@@ -21,10 +21,26 @@ returns-5 c = rw (c .before .before .field4 .given .1)
 returns-6 : tie.Need-returns-6
 returns-6 c = rw (c .enum-told2 .given .1)
 
+returns-7 : tie.Need-returns-7
+returns-7 c = rw (c .enum-told3 .given .1)
+
+returns-8 : tie.Need-returns-8
+returns-8 c = rw (c .before .before .field5 .given .1)
+
+returns-9 : tie.Need-returns-9
+returns-9 c = rw (c .before .before .field6 .given .1)
+
 pub key-of-spec : {M : Type 1} → statement M
 key-of-spec =
     tie.close
     (tie.spec
+    (λ c. search needs)
+    (λ c. search needs)
+    (λ c. search needs)
+    (λ c. search needs)
+    (λ c. search needs)
+    (λ c. search needs)
+    (λ c. search needs)
     (λ c. search needs)
     (λ c. search needs)
     (λ c. search needs)
@@ -47,4 +63,7 @@ key-of-spec =
     returns-3
     returns-4
     returns-5
-    returns-6)
+    returns-6
+    returns-7
+    returns-8
+    returns-9)

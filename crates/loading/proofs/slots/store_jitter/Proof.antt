@@ -3,8 +3,8 @@ use native.Mathlib.Omega.{arith}
 use borrow.Author.Needs.{needs}
 use Rattle.cqf.specs.Limits.{flowSlots}
 use Rattle.plan_reading.specs.laws.fields.Within.{within-low, within-high}
-use Rattle.loading.proofs.store.store_jitter.Statement.{statement}
-use Rattle.loading.proofs.store.store_jitter.Tie as tie
+use Rattle.loading.proofs.slots.store_jitter.Statement.{statement}
+use Rattle.loading.proofs.slots.store_jitter.Tie as tie
 
 sub-jitters : tie.Need-sub-jitters
 sub-jitters c = omega (arith, within-low 1 flowSlots (c .before .args .x .number) (c .before .pre .number))

@@ -2,8 +2,8 @@
 use borrow.Author.Needs.{needs}
 use Rattle.cqf.specs.Limits.{portSlots}
 use Rattle.plan_reading.specs.laws.fields.Within.{within-low, slot-below}
-use Rattle.loading.proofs.store.store_port.Statement.{statement}
-use Rattle.loading.proofs.store.store_port.Tie as tie
+use Rattle.loading.proofs.slots.store_port.Statement.{statement}
+use Rattle.loading.proofs.slots.store_port.Tie as tie
 
 sub-slot : tie.Need-sub-slot
 sub-slot c = within-low 1 portSlots _ (c .before .pre .number)

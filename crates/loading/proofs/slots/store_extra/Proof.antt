@@ -3,8 +3,8 @@ use native.Mathlib.Omega.{arith}
 use borrow.Author.Needs.{needs}
 use Rattle.cqf.specs.Limits.{portSlots, maxExtra}
 use Rattle.plan_reading.specs.laws.fields.Within.{within-low, within-high, slot-below}
-use Rattle.loading.proofs.store.store_extra.Statement.{statement}
-use Rattle.loading.proofs.store.store_extra.Tie as tie
+use Rattle.loading.proofs.slots.store_extra.Statement.{statement}
+use Rattle.loading.proofs.slots.store_extra.Tie as tie
 
 sub-slot : tie.Need-sub-slot
 sub-slot c = within-low 1 portSlots _ (c .before .pre .number)

@@ -2,8 +2,8 @@
 use Rattle.cqf.specs.Limits.{flowSlots}
 use Rattle.plan_reading.specs.laws.fields.Within.{within-low, slot-below, sublist-below}
 use borrow.Author.Needs.{needs}
-use Rattle.loading.proofs.store.store_flow.Statement.{statement}
-use Rattle.loading.proofs.store.store_flow.Tie as tie
+use Rattle.loading.proofs.slots.store_flow.Statement.{statement}
+use Rattle.loading.proofs.slots.store_flow.Tie as tie
 
 sub-slot : tie.Need-sub-slot
 sub-slot c = within-low 1 flowSlots _ (c .before .before .pre .0 .number)

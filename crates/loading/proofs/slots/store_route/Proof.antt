@@ -11,8 +11,8 @@ use Rattle.cqf.specs.laws.Lists.{every-at}
 use Rattle.plan.specs.Field.{routePorts, routePort}
 use Rattle.plan_reading.specs.laws.fields.Within.{within-high}
 use Rattle.loading.specs.laws.Copy.{sets-take}
-use Rattle.loading.proofs.store.store_route.Statement.{statement}
-use Rattle.loading.proofs.store.store_route.Tie as tie
+use Rattle.loading.proofs.slots.store_route.Statement.{statement}
+use Rattle.loading.proofs.slots.store_route.Tie as tie
 
 abbrev Inv-loop : tie.InvT-loop
 Inv-loop routes₀ base route hops i₀ routes i = (i ≤ hops) × (routes ≡ sets routes₀ base (take i (routePorts route)))
