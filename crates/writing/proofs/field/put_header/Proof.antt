@@ -1,52 +1,12 @@
--- `put_header` meets its contract: the head, and each number behind what is there.
-use mathlib.Core.Path.{refl, sym, _∙_}
-use mathlib.Core.List.{_++_}
-use native.Mathlib.Omega.{arith}
+-- `put_header` meets its contract: the bytes are those of the field.
 use borrow.Author.Needs.{needs}
-use denote.Ref.{now}
-use Rattle.plan.specs.Layout.{Kind, layout, numbersSize}
-use Rattle.plan_reading.specs.Part.{header}
-use Rattle.plan_reading.specs.FieldBytes.{bytes4, valueOf, bytesOf}
-use Rattle.writing.specs.Fields.{headBytes, fieldBytes}
-use Rattle.writing.specs.laws.Laid.{laid-over, laid-short, lay-next}
+use Rattle.plan_reading.specs.FieldBytes.{valueOf, bytesOf}
 use Rattle.writing.proofs.field.put_header.Statement.{statement}
 use Rattle.writing.proofs.field.put_header.Tie as tie
 
 returns : tie.Need-returns
 unfolding bytesOf valueOf
-returns c =
-    let a = c .before .before .args in
-    sym (laid-short (fieldBytes (header (a .guard) (a .top))) (now (a .out)) (omega arith))
-
-returns-2 : tie.Need-returns-2
-unfolding bytesOf valueOf
-returns-2 c =
-    let second = c .before .before in
-    let first = second .before .before .before .before in
-    let head = first .before .before .before .before in
-    let a = head .before .before .before .before .args in
-    let entry = now (a .out) in
-    let h = headBytes (layout Kind.header .tag) (numbersSize Kind.header) in
-    let there = head .put-head .ensures ∙ laid-over h entry (omega arith) in
-    let after-first = lay-next h (bytes4 (a .guard)) entry 3 refl there (omega arith) (first .put4 .ensures) in
-    lay-next (h ++ bytes4 (a .guard)) (bytes4 (a .top)) entry 7 refl after-first (omega arith) (second .put42 .ensures)
-    ∙ sym (laid-over (fieldBytes (header (a .guard) (a .top))) entry (omega arith))
+returns c = c .before .before .begin-header .ensures
 
 pub put-header-spec : {M : Type 1} → statement M
-put-header-spec =
-    tie.close
-    (tie.spec
-    (λ c. search needs)
-    returns
-    (λ c. search needs)
-    (λ c κs. search needs)
-    (λ c. search needs)
-    (λ c. search needs)
-    (λ c. search needs)
-    (λ c κs. search needs)
-    (λ c. search needs)
-    (λ c. search needs)
-    (λ c. search needs)
-    (λ c κs. search needs)
-    (λ c. search needs)
-    returns-2)
+put-header-spec = tie.close (tie.spec (λ c. search needs) (λ c κs. search needs) (λ c. search needs) returns)

@@ -1,58 +1,12 @@
--- `put_port` meets its contract: the head, and each number behind what is there.
-use mathlib.Core.Path.{refl, sym, _∙_}
-use mathlib.Core.List.{_++_}
-use native.Mathlib.Omega.{arith}
+-- `put_port` meets its contract: the bytes are those of the field.
 use borrow.Author.Needs.{needs}
-use denote.Ref.{now}
-use Rattle.plan.specs.Layout.{Kind, layout, numbersSize}
-use Rattle.plan_reading.specs.Part.{port}
-use Rattle.plan_reading.specs.FieldBytes.{bytes2, bytes4, valueOf, bytesOf}
-use Rattle.writing.specs.Fields.{headBytes, fieldBytes}
-use Rattle.writing.specs.laws.Laid.{laid-over, laid-short, lay-next}
+use Rattle.plan_reading.specs.FieldBytes.{valueOf, bytesOf}
 use Rattle.writing.proofs.field.put_port.Statement.{statement}
 use Rattle.writing.proofs.field.put_port.Tie as tie
 
 returns : tie.Need-returns
 unfolding bytesOf valueOf
-returns c =
-    let a = c .before .before .args in
-    sym (laid-short (fieldBytes (port (a .number) (a .rate) (a .blocking))) (now (a .out)) (omega arith))
-
-returns-2 : tie.Need-returns-2
-unfolding bytesOf valueOf
-returns-2 c =
-    let third = c .before .before in
-    let second = third .before .before .before .before in
-    let first = second .before .before .before .before in
-    let head = first .before .before .before .before in
-    let a = head .before .before .before .before .args in
-    let entry = now (a .out) in
-    let h = headBytes (layout Kind.port .tag) (numbersSize Kind.port) in
-    let there = head .put-head .ensures ∙ laid-over h entry (omega arith) in
-    let after-first = lay-next h (bytes2 (a .number)) entry 3 refl there (omega arith) (first .put2 .ensures) in
-    let after-second = lay-next (h ++ bytes2 (a .number)) (bytes4 (a .rate)) entry 5 refl after-first (omega arith) (second .put4 .ensures) in
-    lay-next ((h ++ bytes2 (a .number)) ++ bytes4 (a .rate)) (bytes2 (a .blocking)) entry 9 refl after-second (omega arith) (third .put22 .ensures)
-    ∙ sym (laid-over (fieldBytes (port (a .number) (a .rate) (a .blocking))) entry (omega arith))
+returns c = c .before .before .begin-port .ensures
 
 pub put-port-spec : {M : Type 1} → statement M
-put-port-spec =
-    tie.close
-    (tie.spec
-    (λ c. search needs)
-    returns
-    (λ c. search needs)
-    (λ c κs. search needs)
-    (λ c. search needs)
-    (λ c. search needs)
-    (λ c. search needs)
-    (λ c κs. search needs)
-    (λ c. search needs)
-    (λ c. search needs)
-    (λ c. search needs)
-    (λ c κs. search needs)
-    (λ c. search needs)
-    (λ c. search needs)
-    (λ c. search needs)
-    (λ c κs. search needs)
-    (λ c. search needs)
-    returns-2)
+put-port-spec = tie.close (tie.spec (λ c. search needs) (λ c κs. search needs) (λ c. search needs) returns)
