@@ -1,18 +1,11 @@
 // The answers in their order, known before anything is written.
 use super::GatesAnswer;
 use questions::CheckAnswer;
+use writing::room::has_room;
 ghost use mathlib.Core.Path.{_≡_};
-ghost use lib.Dec.{leb};
 ghost use Rattle.questions.specs.Answer.{checkOf};
 ghost use Rattle.gate_writing.specs.Answer.{gatesOf};
 ghost use Rattle.gate_writing.specs.Outcome.{listBy, answerBy, isResult};
-
-// Whether a buffer of this length has room for so many bytes.
-fn has_room(size: usize, needed: usize) -> bool
-    ensures { λ r. ⌜ r ≡ leb needed size ⌝ }
-{
-    needed <= size
-}
 
 // Of an admissible duration: the queues, then the room.
 fn list_answer(queues: bool, needed: usize, size: usize) -> GatesAnswer

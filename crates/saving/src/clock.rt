@@ -7,10 +7,10 @@ ghost use mathlib.Core.Path.{_≡_};
 ghost use mathlib.Core.List.{[]};
 ghost use Rattle.cqf.specs.Plan.{clocksEqual};
 ghost use Rattle.numbers.specs.Clock.{clockOf};
-ghost use Rattle.plan_reading.specs.Saved.{partBytes, clockParts};
 ghost use Rattle.tables.specs.Columns.{columns};
 ghost use Rattle.writing.specs.Laid.{laid};
-ghost use Rattle.saving.specs.Slots.{clocksSize};
+ghost use Rattle.saving.specs.declared.kind.Kind.{Kind};
+ghost use Rattle.saving.specs.Slots.{slotBytes, slotSize};
 
 // Whether all three numbers are 0.
 fn clocks_equal(clock: Clock) -> bool
@@ -27,7 +27,7 @@ fn clocks_equal(clock: Clock) -> bool
 
 // How many bytes it is; 0 where it is left out.
 pub(crate) fn clocks_size(clock: Clock) -> usize
-    ensures { λ r. ⌜ r ≡ clocksSize (columns (clockOf clock) [] [] [] [] [] [] [] [] []) ⌝ }
+    ensures { λ r. ⌜ r ≡ slotSize Kind.Clock (columns (clockOf clock) [] [] [] [] [] [] [] [] []) 0 ⌝ }
 {
     if clocks_equal(clock) {
         return 0;
@@ -36,7 +36,7 @@ pub(crate) fn clocks_size(clock: Clock) -> usize
 }
 
 pub(crate) fn put_clocks(clock: Clock, out: &mut [u8])
-    ensures { λ r. ⌜ now (out .exit) ≡ laid (partBytes (clockParts (columns (clockOf clock) [] [] [] [] [] [] [] [] []))) (now (out .entry)) ⌝ }
+    ensures { λ r. ⌜ now (out .exit) ≡ laid (slotBytes Kind.Clock (columns (clockOf clock) [] [] [] [] [] [] [] [] []) 0) (now (out .entry)) ⌝ }
 {
     if clocks_equal(clock) {
         return;

@@ -3,24 +3,20 @@ use crate::SaveAnswer;
 use crate::whole::put_fields;
 use crate::whole::saved_size;
 use numbers::clock::Clock;
+use plan::Form;
 use tables::columns;
 use tables::valid_tables;
+use writing::room::has_room;
 ghost use mathlib.Core.Path.{_≡_};
-ghost use lib.Dec.{leb};
 ghost use Rattle.numbers.specs.Clock.{clockOf};
+ghost use Rattle.plan.specs.Answer.{formOf};
 ghost use Rattle.tables.specs.Columns.{planBy};
 ghost use Rattle.saving.specs.Outcome.{Saves};
 ghost use Rattle.saving.specs.Answer.{saveOf};
 
-// Whether a buffer of this length has room for so many bytes.
-fn has_room(size: usize, needed: usize) -> bool
-    ensures { λ r. ⌜ r ≡ leb needed size ⌝ }
-{
-    needed <= size
-}
-
-// The plan in these tables in strict order; 20 where they hold none, 13 where the buffer is too short for it.
+// The plan in these tables in strict order, in this form; 20 where they hold none, 13 where the buffer is too short for it.
 pub fn save_tables<'a>(
+    form: Form,
     guard: u32,
     top: u32,
     clock: Clock,
@@ -35,7 +31,7 @@ pub fn save_tables<'a>(
     routes: &'a columns::Routes,
     buffer: &mut [u8],
 ) -> SaveAnswer
-    ensures { λ r. ⌜ Saves (planBy guard top (clockOf clock) (now (rates .entry)) (now (blockings .entry)) (now (extras .entry)) (now (periods .entry)) (now (counts .entry)) (now (lengths .entry)) (now (jitters .entry)) (now (hops .entry)) (now (routes .entry))) (now (buffer .entry)) (saveOf r) (now (buffer .exit)) ⌝ }
+    ensures { λ r. ⌜ Saves (formOf form) (planBy guard top (clockOf clock) (now (rates .entry)) (now (blockings .entry)) (now (extras .entry)) (now (periods .entry)) (now (counts .entry)) (now (lengths .entry)) (now (jitters .entry)) (now (hops .entry)) (now (routes .entry))) (now (buffer .entry)) (saveOf r) (now (buffer .exit)) ⌝ }
 {
     if !valid_tables(
         guard,
@@ -53,11 +49,12 @@ pub fn save_tables<'a>(
     ) {
         return SaveAnswer::NoPlan;
     }
-    let needed = saved_size(clock, rates, extras, periods, jitters, hops);
+    let needed = saved_size(form, clock, rates, extras, periods, jitters, hops);
     if !has_room(buffer.len(), needed) {
         return SaveAnswer::ShortBuffer(needed);
     }
     put_fields(
+        form,
         guard,
         top,
         clock,

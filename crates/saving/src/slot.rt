@@ -1,4 +1,4 @@
-// The field of each kind that is saved of one slot, if there is one.
+// The field of each kind that the older form has for one slot, if there is one.
 use tables::STRIDE;
 use tables::columns;
 use writing::field::put_extra;
@@ -9,12 +9,12 @@ ghost use mathlib.Core.Path.{_≡_};
 ghost use mathlib.Core.List.{[]};
 ghost use Prim.Native.Nat.{_+_, _*_, _≤_, _<_};
 ghost use lib.ListN.{getD};
-ghost use Rattle.cqf.specs.Limits.{portSlots, flowSlots, routeStride, maxExtra};
+ghost use Rattle.cqf.specs.Limits.{portSlots, flowSlots, maxHops, routeStride, maxExtra};
 ghost use Rattle.cqf.specs.Plan.{equalClocks};
-ghost use Rattle.plan.specs.Layout.{Kind, layout};
-ghost use Rattle.plan_reading.specs.Saved.{partBytes, portParts, flowParts, extraParts, jitterParts};
 ghost use Rattle.tables.specs.Columns.{columns};
 ghost use Rattle.writing.specs.Laid.{laid};
+ghost use Rattle.saving.specs.declared.kind.Kind.{Kind};
+ghost use Rattle.saving.specs.Slots.{slotBytes};
 
 pub(crate) fn put_port_slot<'a>(
     slot: usize,
@@ -23,7 +23,7 @@ pub(crate) fn put_port_slot<'a>(
     out: &mut [u8],
 )
     requires { ⌜ slot < portSlots ⌝ }
-    ensures { λ r. ⌜ now (out .exit) ≡ laid (partBytes (portParts (columns equalClocks (now (rates .entry)) (now (blockings .entry)) [] [] [] [] [] [] []) slot)) (now (out .entry)) ⌝ }
+    ensures { λ r. ⌜ now (out .exit) ≡ laid (slotBytes Kind.Port (columns equalClocks (now (rates .entry)) (now (blockings .entry)) [] [] [] [] [] [] []) slot) (now (out .entry)) ⌝ }
 {
     let rate = rates[slot];
     if rate == 0 {
@@ -33,8 +33,8 @@ pub(crate) fn put_port_slot<'a>(
 }
 
 // Where the route of a flow ends in the table of routes.
-fn route_end(base: usize, hops: u8) -> usize
-    requires { ⌜ (base ≤ flowSlots * routeStride) × (hops ≤ layout Kind.flow .mostHops) ⌝ }
+pub(crate) fn route_end(base: usize, hops: u8) -> usize
+    requires { ⌜ (base ≤ flowSlots * routeStride) × (hops ≤ maxHops) ⌝ }
     ensures { λ r. ⌜ r ≡ base + hops ⌝ }
 {
     base + hops as usize
@@ -49,8 +49,8 @@ pub(crate) fn put_flow_slot<'a>(
     routes: &'a columns::Routes,
     out: &mut [u8],
 )
-    requires { ⌜ (slot < flowSlots) × (getD (now hops) slot 0 ≤ layout Kind.flow .mostHops) ⌝ }
-    ensures { λ r. ⌜ now (out .exit) ≡ laid (partBytes (flowParts (columns equalClocks [] [] [] (now (periods .entry)) (now (counts .entry)) (now (lengths .entry)) [] (now (hops .entry)) (now (routes .entry))) slot)) (now (out .entry)) ⌝ }
+    requires { ⌜ (slot < flowSlots) × (getD (now hops) slot 0 ≤ maxHops) ⌝ }
+    ensures { λ r. ⌜ now (out .exit) ≡ laid (slotBytes Kind.Flow (columns equalClocks [] [] [] (now (periods .entry)) (now (counts .entry)) (now (lengths .entry)) [] (now (hops .entry)) (now (routes .entry))) slot) (now (out .entry)) ⌝ }
 {
     let period = periods[slot];
     if period == 0 {
@@ -71,7 +71,7 @@ pub(crate) fn put_flow_slot<'a>(
 
 pub(crate) fn put_extra_slot<'a>(slot: usize, extras: &'a columns::Extras, out: &mut [u8])
     requires { ⌜ (slot < portSlots) × (getD (now extras) slot 0 ≤ maxExtra) ⌝ }
-    ensures { λ r. ⌜ now (out .exit) ≡ laid (partBytes (extraParts (columns equalClocks [] [] (now (extras .entry)) [] [] [] [] [] []) slot)) (now (out .entry)) ⌝ }
+    ensures { λ r. ⌜ now (out .exit) ≡ laid (slotBytes Kind.Extra (columns equalClocks [] [] (now (extras .entry)) [] [] [] [] [] []) slot) (now (out .entry)) ⌝ }
 {
     let bytes = extras[slot];
     if bytes == 0 {
@@ -82,7 +82,7 @@ pub(crate) fn put_extra_slot<'a>(slot: usize, extras: &'a columns::Extras, out: 
 
 pub(crate) fn put_jitter_slot<'a>(slot: usize, jitters: &'a columns::Jitters, out: &mut [u8])
     requires { ⌜ slot < flowSlots ⌝ }
-    ensures { λ r. ⌜ now (out .exit) ≡ laid (partBytes (jitterParts (columns equalClocks [] [] [] [] [] [] (now (jitters .entry)) [] []) slot)) (now (out .entry)) ⌝ }
+    ensures { λ r. ⌜ now (out .exit) ≡ laid (slotBytes Kind.Jitter (columns equalClocks [] [] [] [] [] [] (now (jitters .entry)) [] []) slot) (now (out .entry)) ⌝ }
 {
     let ns = jitters[slot];
     if ns == 0 {

@@ -1,27 +1,25 @@
-// All fields of a plan: the header, the ports, the flows, the extra bytes, the jitters, the clocks.
-use crate::clock::clocks_size;
-use crate::clock::put_clocks;
-use crate::kind::KINDS;
+// All fields of a plan in a form, kind by kind.
 use crate::kind::kind_at;
+use crate::kind::kinds;
 use crate::size::slots_size;
 use crate::slots::put_slots;
 use numbers::clock::Clock;
-use plan::layout::HEAD_SIZE;
-use plan::layout::HEADER_SIZE;
+use plan::Form;
 use tables::columns;
-use writing::field::put_header;
 ghost use mathlib.Core.Path.{_≡_};
 ghost use mathlib.Core.List.{[]};
 ghost use Prim.Native.Nat.{_≤_};
 ghost use lib.ListN.{length};
 ghost use Rattle.numbers.specs.Clock.{clockOf};
-ghost use Rattle.plan_reading.specs.Saved.{savedBytes};
+ghost use Rattle.plan.specs.Answer.{formOf};
+ghost use Rattle.plan_reading.specs.Saved.{formBytes};
 ghost use Rattle.tables.specs.Columns.{planBy, columns};
 ghost use Rattle.writing.specs.Laid.{over};
 ghost use Rattle.saving.specs.Slots.{savedSize, SlotsInRange};
 
 // How many bytes they are.
 pub(crate) fn saved_size<'a>(
+    form: Form,
     clock: Clock,
     rates: &'a columns::Rates,
     extras: &'a columns::Extras,
@@ -30,19 +28,29 @@ pub(crate) fn saved_size<'a>(
     hops: &'a columns::Hops,
 ) -> usize
     requires { ⌜ SlotsInRange (now extras) (now hops) ⌝ }
-    ensures { λ r. ⌜ r ≡ savedSize (columns (clockOf clock) (now (rates .entry)) [] (now (extras .entry)) (now (periods .entry)) [] [] (now (jitters .entry)) (now (hops .entry)) []) ⌝ }
+    ensures { λ r. ⌜ r ≡ savedSize (formOf form) (columns (clockOf clock) (now (rates .entry)) [] (now (extras .entry)) (now (periods .entry)) [] [] (now (jitters .entry)) (now (hops .entry)) []) ⌝ }
 {
-    let mut size = HEAD_SIZE + HEADER_SIZE;
+    let count = kinds(form);
+    let mut size: usize = 0;
     let mut k: usize = 0;
-    while k < KINDS {
-        size += slots_size(kind_at(k), rates, extras, periods, jitters, hops);
+    while k < count {
+        size += slots_size(
+            kind_at(form, k),
+            clock,
+            rates,
+            extras,
+            periods,
+            jitters,
+            hops,
+        );
         k += 1;
     }
-    size + clocks_size(clock)
+    size
 }
 
 // Each kind is written behind those before it.
 pub(crate) fn put_fields<'a>(
+    form: Form,
     guard: u32,
     top: u32,
     clock: Clock,
@@ -57,15 +65,18 @@ pub(crate) fn put_fields<'a>(
     routes: &'a columns::Routes,
     out: &mut [u8],
 )
-    requires { ⌜ SlotsInRange (now extras) (now hops) × (length (savedBytes (planBy guard top (clockOf clock) (now rates) (now blockings) (now extras) (now periods) (now counts) (now lengths) (now jitters) (now hops) (now routes))) ≤ length (now out)) ⌝ }
-    ensures { λ r. ⌜ now (out .exit) ≡ over (savedBytes (planBy guard top (clockOf clock) (now (rates .entry)) (now (blockings .entry)) (now (extras .entry)) (now (periods .entry)) (now (counts .entry)) (now (lengths .entry)) (now (jitters .entry)) (now (hops .entry)) (now (routes .entry)))) (now (out .entry)) ⌝ }
+    requires { ⌜ SlotsInRange (now extras) (now hops) × (length (formBytes (formOf form) (planBy guard top (clockOf clock) (now rates) (now blockings) (now extras) (now periods) (now counts) (now lengths) (now jitters) (now hops) (now routes))) ≤ length (now out)) ⌝ }
+    ensures { λ r. ⌜ now (out .exit) ≡ over (formBytes (formOf form) (planBy guard top (clockOf clock) (now (rates .entry)) (now (blockings .entry)) (now (extras .entry)) (now (periods .entry)) (now (counts .entry)) (now (lengths .entry)) (now (jitters .entry)) (now (hops .entry)) (now (routes .entry)))) (now (out .entry)) ⌝ }
 {
-    put_header(out, guard, top);
-    let mut at = HEAD_SIZE + HEADER_SIZE;
+    let count = kinds(form);
+    let mut at: usize = 0;
     let mut k: usize = 0;
-    while k < KINDS {
+    while k < count {
         at += put_slots(
-            kind_at(k),
+            kind_at(form, k),
+            guard,
+            top,
+            clock,
             rates,
             blockings,
             extras,
@@ -79,5 +90,4 @@ pub(crate) fn put_fields<'a>(
         );
         k += 1;
     }
-    put_clocks(clock, &mut out[at..]);
 }

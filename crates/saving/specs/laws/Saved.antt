@@ -7,8 +7,9 @@ use native.Mathlib.Omega.{arith}
 use borrow.Author.Tests.{le-leb, lt-leb}
 use lib.ListN.{length, take, drop}
 use lib.Seq.{take-at, drop-at}
+use Rattle.cqf.specs.Form.{Form}
 use Rattle.cqf.specs.Plan.{Plan, validPlan}
-use Rattle.plan_reading.specs.Saved.{savedBytes}
+use Rattle.plan_reading.specs.Saved.{formBytes}
 use Rattle.writing.specs.Laid.{over}
 use Rattle.writing.specs.laws.Laid.{laid-over, laid-short}
 use Rattle.writing.specs.laws.Answer.{Fits, written-fits}
@@ -16,48 +17,48 @@ use Rattle.answers.specs.Answer.{result, refusal}
 use Rattle.answers.specs.Refusals.{shortBuffer, noPlanHeld}
 use Rattle.saving.specs.Save.{saveAnswer, saveLeaves}
 
-module _ (p : Plan) (buffer : List ℕ) where
-  pub save-none : validPlan p ≡ false → saveAnswer p buffer ≡ refusal noPlanHeld (0 ∷ [])
+module _ (form : Form) (p : Plan) (buffer : List ℕ) where
+  pub save-none : validPlan p ≡ false → saveAnswer form p buffer ≡ refusal noPlanHeld (0 ∷ [])
   unfolding saveAnswer
   save-none e = rw e
 
-  pub save-keeps : validPlan p ≡ false → saveLeaves p buffer ≡ buffer
+  pub save-keeps : validPlan p ≡ false → saveLeaves form p buffer ≡ buffer
   unfolding saveLeaves
   save-keeps e = rw e
 
   module _ (valid : validPlan p ≡ true) where
-    pub save-short : length buffer < length (savedBytes p) → saveAnswer p buffer ≡ refusal shortBuffer (length (savedBytes p) ∷ [])
+    pub save-short : length buffer < length (formBytes form p) → saveAnswer form p buffer ≡ refusal shortBuffer (length (formBytes form p) ∷ [])
     unfolding saveAnswer
-    save-short l = rw (valid, lt-leb (length (savedBytes p)) (length buffer) l)
+    save-short l = rw (valid, lt-leb (length (formBytes form p)) (length buffer) l)
 
-    pub save-short-keeps : length buffer < length (savedBytes p) → saveLeaves p buffer ≡ buffer
+    pub save-short-keeps : length buffer < length (formBytes form p) → saveLeaves form p buffer ≡ buffer
     unfolding saveLeaves
-    save-short-keeps l = rw valid (laid-short (savedBytes p) buffer l)
+    save-short-keeps l = rw valid (laid-short (formBytes form p) buffer l)
 
-    pub save-written : length (savedBytes p) ≤ length buffer → saveAnswer p buffer ≡ result (length (savedBytes p))
+    pub save-written : length (formBytes form p) ≤ length buffer → saveAnswer form p buffer ≡ result (length (formBytes form p))
     unfolding saveAnswer
-    save-written l = rw (valid, le-leb (length (savedBytes p)) (length buffer) l)
+    save-written l = rw (valid, le-leb (length (formBytes form p)) (length buffer) l)
 
-    pub save-lays : length (savedBytes p) ≤ length buffer → saveLeaves p buffer ≡ over (savedBytes p) buffer
+    pub save-lays : length (formBytes form p) ≤ length buffer → saveLeaves form p buffer ≡ over (formBytes form p) buffer
     unfolding saveLeaves
-    save-lays l = rw valid (laid-over (savedBytes p) buffer l)
+    save-lays l = rw valid (laid-over (formBytes form p) buffer l)
 
     -- where the answer is a length, it is that of the saved plan, and there is room for it
-    save-fits : (n : ℕ) → saveAnswer p buffer ≡ result n → Fits (savedBytes p) buffer n
+    save-fits : (n : ℕ) → saveAnswer form p buffer ≡ result n → Fits (formBytes form p) buffer n
     unfolding saveAnswer
-    save-fits n e = written-fits (savedBytes p) buffer n (rw valid at e)
+    save-fits n e = written-fits (formBytes form p) buffer n (rw valid at e)
 
     -- and the first bytes are the saved plan, the others as they were
-    pub save-front : (n : ℕ) → saveAnswer p buffer ≡ result n → take n (saveLeaves p buffer) ≡ savedBytes p
+    pub save-front : (n : ℕ) → saveAnswer form p buffer ≡ result n → take n (saveLeaves form p buffer) ≡ formBytes form p
     save-front n e =
         let f = save-fits n e in
-        rw (save-lays (omega (arith, f .size, f .room))) (take-at (savedBytes p) (drop (length (savedBytes p)) buffer) n (sym (f .size)))
+        rw (save-lays (omega (arith, f .size, f .room))) (take-at (formBytes form p) (drop (length (formBytes form p)) buffer) n (sym (f .size)))
 
-    pub save-rest : (n : ℕ) → saveAnswer p buffer ≡ result n → drop n (saveLeaves p buffer) ≡ drop n buffer
+    pub save-rest : (n : ℕ) → saveAnswer form p buffer ≡ result n → drop n (saveLeaves form p buffer) ≡ drop n buffer
     save-rest n e =
         let f = save-fits n e in
         rw (save-lays (omega (arith, f .size, f .room)))
-        (drop-at (savedBytes p) (drop (length (savedBytes p)) buffer) n (sym (f .size)) ∙ rw (f .size))
+        (drop-at (formBytes form p) (drop (length (formBytes form p)) buffer) n (sym (f .size)) ∙ rw (f .size))
 
-    pub save-size : (n : ℕ) → saveAnswer p buffer ≡ result n → n ≡ length (savedBytes p)
+    pub save-size : (n : ℕ) → saveAnswer form p buffer ≡ result n → n ≡ length (formBytes form p)
     save-size n e = save-fits n e .size

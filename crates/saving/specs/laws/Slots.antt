@@ -10,35 +10,36 @@ use lib.Dec.{ltb}
 use lib.ListN.{length, getD, take, drop}
 use lib.Seq.{drop-cons}
 use Rattle.cqf.specs.Bounded.{sublist}
+use Rattle.cqf.specs.Limits.{maxHops}
 use Rattle.cqf.specs.laws.Lists.{sublist-length}
-use Rattle.plan.specs.Layout.{Kind, layout}
-use Rattle.plan_reading.specs.Part.{Part, flow}
+use Rattle.plan.specs.Layout.{Kind}
+use Rattle.plan_reading.specs.Strict.{Entry}
 use Rattle.plan_reading.specs.FieldBytes.{bytesOf, rowBytes}
-use Rattle.plan_reading.specs.Saved.{spell, partBytes, when}
+use Rattle.plan_reading.specs.Saved.{fieldWhen}
 use Rattle.writing.specs.Laid.{laid}
-use Rattle.writing.specs.Fields.{fieldBytes, flowBytes}
+use Rattle.writing.specs.Fields.{routedBytes, allowedBytes}
 use Rattle.writing.specs.laws.Laid.{laid-none}
-use Rattle.writing.specs.laws.Fields.{flow-named}
+use Rattle.writing.specs.laws.Fields.{route-named}
 
--- a part that stands where a test holds, and the buffer with its field
-module _ (x : Part) (buffer : List ℕ) where
-  pub test-none : (b : Bool) → b ≡ false → buffer ≡ laid (partBytes (when b x)) buffer
+-- a field that stands where a test holds, and the buffer with it
+module _ (x : Entry) (buffer : List ℕ) where
+  pub test-none : (b : Bool) → b ≡ false → buffer ≡ laid (rowBytes (fieldWhen b x)) buffer
   unfolding rowBytes
   test-none b fails = rw fails (sym (laid-none buffer))
 
-  pub test-one : (b : Bool) {exit : List ℕ} → b ≡ true → exit ≡ laid (bytesOf (spell x)) buffer → exit ≡ laid (partBytes (when b x)) buffer
+  pub test-one : (b : Bool) {exit : List ℕ} → b ≡ true → exit ≡ laid (bytesOf x) buffer → exit ≡ laid (rowBytes (fieldWhen b x)) buffer
   unfolding rowBytes
-  test-one b holds written = rw (holds, append-nil (bytesOf (spell x))) written
+  test-one b holds written = rw (holds, append-nil (bytesOf x)) written
 
   -- where a number is not 0
-  pub slot-none : (n : ℕ) → n ≡ 0 → buffer ≡ laid (partBytes (when (ltb 0 n) x)) buffer
+  pub slot-none : (n : ℕ) → n ≡ 0 → buffer ≡ laid (rowBytes (fieldWhen (ltb 0 n) x)) buffer
   slot-none n z = test-none (ltb 0 n) (le-ltb 0 n (omega arith))
 
   pub slot-one
       : (n : ℕ) {exit : List ℕ}
       → (n ≡ 0 → ⊥)
-      → exit ≡ laid (bytesOf (spell x)) buffer
-      → exit ≡ laid (partBytes (when (ltb 0 n) x)) buffer
+      → exit ≡ laid (bytesOf x) buffer
+      → exit ≡ laid (rowBytes (fieldWhen (ltb 0 n) x)) buffer
   slot-one n some written = test-one (ltb 0 n) (lt-ltb 0 n (omega arith)) written
 
 -- the ports of a route, as the part of the table that they are
@@ -51,15 +52,14 @@ sublist-part l base (suc h) fits =
 
 -- a flow over that part is the field of its slot
 pub flow-part
-    : (n period count bytes : ℕ) (l : List ℕ) (base h end : ℕ)
+    : (kind : Kind) (n : ℕ) (ns l : List ℕ) (base h end : ℕ)
     → end ≡ base + h
     → end ≤ length l
-    → h ≤ layout Kind.flow .mostHops
-    → flowBytes (n + 1) period count bytes (take (end - base) (drop base l))
-    ≡ fieldBytes (flow (suc n) period count bytes (sublist l base h))
-flow-part n period count bytes l base h end is fits few =
+    → h ≤ maxHops
+    → allowedBytes kind ((n + 1) ∷ ns) (take (end - base) (drop base l)) ≡ routedBytes kind (suc n ∷ ns) (sublist l base h)
+flow-part kind n ns l base h end is fits few =
     let r = sublist l base h in
     let many : end - base ≡ h = omega arith in
     let there = ap (λ (m : ℕ). take m (drop base l)) many ∙ sublist-part l base h (omega arith) in
     let size : length r ≡ h = sublist-length l base h in
-    rw (there, flow-named (n + 1) period count bytes r (omega arith), add-one n)
+    rw (there, route-named kind ((n + 1) ∷ ns) r (omega arith), add-one n)

@@ -6,7 +6,7 @@ use native.Mathlib.Omega.{arith}
 use borrow.Author.Tests.{le-leb, lt-leb}
 use borrow.Rule.Slice.PartMut.{midOf, putMid, mid-len}
 use lib.ListN.{length, take, drop, length-append, length-drop, drop-of-length-le}
-use lib.Seq.{take-at, drop-at, take-all, drop-drop, drop-append-add}
+use lib.Seq.{take-at, drop-at, take-all, drop-drop}
 use Rattle.writing.specs.Laid.{over, laid, Puts}
 
 -- where there is room, and where there is none
@@ -74,17 +74,3 @@ puts-more done bs entry n m {now} there room put =
     let lent : length (midOf n (length now - n) now) ≡ length now - n = mid-len n (length now) now (omega arith) in
     puts-next done bs entry n m there room (put .size)
     (put .bytes ∙ sym (laid-over bs (midOf n (length now - n) now) (omega arith)))
-
--- bytes over a buffer that has the first of them already
-pub over-again : (done bs entry : List ℕ) → over (done ++ bs) (over done entry) ≡ over (done ++ bs) entry
-over-again done bs entry =
-    ap (λ (l : List ℕ). (done ++ bs) ++ l)
-    (ap (λ (n : ℕ). drop n (over done entry)) (length-append done bs)
-    ∙ drop-append-add done (drop (length done) entry) (length bs)
-    ∙ drop-drop (length bs) (length done) entry
-    ∙ ap (λ (n : ℕ). drop n entry) (sym (length-append done bs)))
-
-pub over-parts : (done bs cs entry : List ℕ) {now : List ℕ} → now ≡ over done entry → over ((done ++ bs) ++ cs) now ≡ over ((done ++ bs) ++ cs) entry
-over-parts done bs cs entry {now} is =
-    let grouped : (done ++ bs) ++ cs ≡ done ++ (bs ++ cs) = append-assoc done bs cs in
-    ap₂ over grouped is ∙ over-again done (bs ++ cs) entry ∙ ap (λ (l : List ℕ). over l entry) (sym grouped)

@@ -8,20 +8,25 @@ use borrow.Author.Needs.{needs}
 use borrow.Author.Tests.{leb-true, leb-false, not-true, not-false}
 use denote.Ref.{now}
 use lib.ListN.{length}
+use Rattle.cqf.specs.Form.{Form}
 use Rattle.cqf.specs.Plan.{Plan, validPlan}
 use Rattle.numbers.specs.Clock.{clockOf}
-use Rattle.plan_reading.specs.Saved.{savedBytes}
+use Rattle.plan.specs.Answer.{formOf}
+use Rattle.plan_reading.specs.Saved.{formBytes}
 use Rattle.tables.specs.Columns.{planBy}
 use Rattle.saving.specs.laws.Whole.{size-needed, valid-range}
 use Rattle.saving.specs.laws.Outcome.{saves-none, saves-short, saves-written}
 use Rattle.saving.proofs.held.save_tables.Statement.{statement}
 use Rattle.saving.proofs.held.save_tables.Tie as tie
 
--- the plan of the tables, and the buffer as it comes
+-- the form, the plan of the tables, and the buffer as it comes
 abbrev plan : tie.Start → Plan
 plan s =
     let a = s .args in
     planBy (a .guard) (a .top) (clockOf (a .clock)) (a .rates .now) (a .blockings .now) (a .extras .now) (a .periods .now) (a .counts .now) (a .lengths .now) (a .jitters .now) (a .hops .now) (a .routes .now)
+
+abbrev form : tie.Start → Form
+form s = formOf (s .args .form)
 
 abbrev given : tie.Start → List ℕ
 given s = now (s .args .buffer)
@@ -37,8 +42,8 @@ valid c = sym (c .before .valid-tables .ensures) ∙ not-false _ (c .if1 .left)
 abbrev begin : tie.After-saved-size → tie.Start
 begin c = start (c .before .before)
 
-needed : (c : tie.After-saved-size) → c .saved-size .result ≡ length (savedBytes (plan (begin c)))
-needed c = c .saved-size .ensures ∙ size-needed (plan (begin c))
+needed : (c : tie.After-saved-size) → c .saved-size .result ≡ length (formBytes (form (begin c)) (plan (begin c)))
+needed c = c .saved-size .ensures ∙ size-needed (form (begin c)) (plan (begin c))
 
 room : (c : tie.Else2) → c .before .before .saved-size .result ≤ length (given (begin (c .before .before)))
 room c = leb-true _ _ (sym (c .before .has-room .ensures) ∙ not-false _ (c .if2 .left))
@@ -46,7 +51,7 @@ room c = leb-true _ _ (sym (c .before .has-room .ensures) ∙ not-false _ (c .if
 returns : tie.Need-returns
 returns c =
     let s = start (c .before) in
-    saves-none (plan s) (given s) (sym (c .before .valid-tables .ensures) ∙ not-true _ (c .if1 .taken))
+    saves-none (form s) (plan s) (given s) (sym (c .before .valid-tables .ensures) ∙ not-true _ (c .if1 .taken))
 
 saved-size-requires : tie.Need-saved-size-requires
 saved-size-requires c κs = valid-range (plan (start (c .before))) (valid c)
@@ -56,7 +61,7 @@ returns-2 c =
     let at = c .before .before in
     let s = begin at in
     let short = leb-false _ _ (sym (c .before .has-room .ensures) ∙ not-true _ (c .if2 .taken)) in
-    saves-short (plan s) (given s) (valid (at .before)) (at .saved-size .result) (needed at) short
+    saves-short (form s) (plan s) (given s) (valid (at .before)) (at .saved-size .result) (needed at) short
 
 put-fields-requires : tie.Need-put-fields-requires
 put-fields-requires c κs =
@@ -70,7 +75,7 @@ returns-3 c =
     let left = put .before .before in
     let at = left .before .before in
     let s = begin at in
-    saves-written (plan s) (given s) (valid (at .before)) (at .saved-size .result) (needed at) (room left) (put .put-fields .ensures)
+    saves-written (form s) (plan s) (given s) (valid (at .before)) (at .saved-size .result) (needed at) (room left) (put .put-fields .ensures)
 
 pub save-tables-spec : {M : Type 1} → statement M
 save-tables-spec =

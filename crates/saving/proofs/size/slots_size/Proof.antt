@@ -6,8 +6,9 @@ use native.Mathlib.Omega.{arith}
 use borrow.Author.Needs.{needs}
 use Rattle.cqf.specs.Bounded.{sumTo}
 use Rattle.cqf.specs.Limits.{flowSlots}
-use Rattle.cqf.specs.Plan.{Plan, equalClocks}
+use Rattle.cqf.specs.Plan.{Plan}
 use Rattle.cqf.specs.laws.Bounds.{sumTo-most}
+use Rattle.numbers.specs.Clock.{clockOf}
 use Rattle.tables.specs.Columns.{columns}
 use Rattle.saving.specs.Slots.{slotsOf, slotSize}
 use Rattle.saving.specs.laws.Sizes.{mostSize, slots-few, slot-most, sum-next}
@@ -15,16 +16,16 @@ use Rattle.saving.proofs.size.slots_size.Statement.{statement}
 use Rattle.saving.proofs.size.slots_size.Tie as tie
 
 abbrev Inv-loop : tie.InvT-loop
-Inv-loop kind rates extras periods jitters hops count size₀ slot₀ size slot =
-    (slot ≤ count) × (size ≡ sumTo slot (slotSize kind (columns equalClocks rates [] extras periods [] [] jitters hops [])))
+Inv-loop kind clock rates extras periods jitters hops count size₀ slot₀ size slot =
+    (slot ≤ count) × (size ≡ sumTo slot (slotSize kind (columns (clockOf clock) rates [] extras periods [] [] jitters hops [])))
 
 abbrev μ-loop : tie.MeasureT-loop
-μ-loop kind rates extras periods jitters hops count size₀ slot₀ size slot = count - slot
+μ-loop kind clock rates extras periods jitters hops count size₀ slot₀ size slot = count - slot
 
 -- the plan of the columns
 abbrev plan : tie.Start Inv-loop μ-loop → Plan
 plan s =
-    columns equalClocks (s .args .rates .now) [] (s .args .extras .now) (s .args .periods .now) [] [] (s .args .jitters .now) (s .args .hops .now) []
+    columns (clockOf (s .args .clock)) (s .args .rates .now) [] (s .args .extras .now) (s .args .periods .now) [] [] (s .args .jitters .now) (s .args .hops .now) []
 
 -- the slot at hand is one of the kind's
 below : (c : tie.In-loop Inv-loop μ-loop) → c .before .loop .slot < slotsOf (c .before .before .before .args .kind)

@@ -1,16 +1,18 @@
 -- `put_flow_slot` meets its contract, by whether the slot has the field.
 use mathlib.Core.Path.{ap, _∙_}
-use mathlib.Core.List.{List, []}
+use mathlib.Core.List.{List, [], _∷_}
 use Prim.Native.Nat.{ℕ, _*_}
 use native.Mathlib.Omega.{arith}
 use borrow.Author.Needs.{needs}
 use denote.Ref.{now}
 use Rattle.cqf.specs.Limits.{routeStride}
 use Rattle.cqf.specs.Plan.{Plan, equalClocks, periodOf, countOf, lengthOf, hopsOf}
-use Rattle.plan_reading.specs.Part.{Part}
-use Rattle.plan_reading.specs.Saved.{flowPart}
+use Rattle.plan.specs.Layout as wire
+use Rattle.plan_reading.specs.Strict.{Entry}
 use Rattle.tables.specs.Columns.{columns}
 use Rattle.writing.specs.Laid.{laid}
+use Rattle.saving.specs.declared.kind.Kind.{Kind}
+use Rattle.saving.specs.Slots.{fieldIn}
 use Rattle.saving.specs.laws.Slots.{slot-none, slot-one, flow-part}
 use Rattle.saving.proofs.slot.put_flow_slot.Statement.{statement}
 use Rattle.saving.proofs.slot.put_flow_slot.Tie as tie
@@ -20,16 +22,13 @@ abbrev plan : tie.Start → Plan
 plan s =
     columns equalClocks [] [] [] (s .args .periods .now) (s .args .counts .now) (s .args .lengths .now) [] (s .args .hops .now) (s .args .routes .now)
 
-abbrev part : tie.Start → Part
-part s =
-    let p = plan s in
-    let f = s .args .slot in
-    flowPart p f
+abbrev field : tie.Start → Entry
+field s = fieldIn Kind.Flow (plan s) (s .args .slot)
 
 returns : tie.Need-returns
 returns c =
     let s = c .before .before .before in
-    slot-none (part s) (now (s .args .out)) (periodOf (plan s) (s .args .slot)) (omega arith)
+    slot-none (field s) (now (s .args .out)) (periodOf (plan s) (s .args .slot)) (omega arith)
 
 returns-2 : tie.Need-returns-2
 returns-2 c =
@@ -41,10 +40,10 @@ returns-2 c =
     let f = s .args .slot in
     let e = now (s .args .out) in
     let end = ended .route-end in
-    slot-one (part s) e (periodOf p f) (left .if1 .left)
+    slot-one (field s) e (periodOf p f) (left .if1 .left)
     (written .put-flow .ensures
     ∙ ap (λ (bs : List ℕ). laid bs e)
-    (flow-part f (periodOf p f) (countOf p f) (lengthOf p f) (p .routes) (f * routeStride) (hopsOf p f) (end .result) (end .ensures) (omega (arith, end .ensures)) (s .pre .1)))
+    (flow-part wire.Kind.flow f (periodOf p f ∷ countOf p f ∷ lengthOf p f ∷ []) (p .routes) (f * routeStride) (hopsOf p f) (end .result) (end .ensures) (omega (arith, end .ensures)) (s .pre .1)))
 
 pub put-flow-slot-spec : {M : Type 1} → statement M
 put-flow-slot-spec =

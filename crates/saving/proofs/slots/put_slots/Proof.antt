@@ -6,32 +6,33 @@ use native.Mathlib.Omega.{arith}
 use borrow.Author.Needs.{needs}
 use denote.Ref.{now}
 use lib.ListN.{length, length-append}
-use Rattle.cqf.specs.Plan.{Plan, equalClocks}
+use Rattle.cqf.specs.Plan.{Plan}
 use Rattle.plan_reading.specs.FieldBytes.{rowBytes}
-use Rattle.plan_reading.specs.Saved.{partBytes, collect}
-use Rattle.tables.specs.Columns.{columns}
+use Rattle.plan_reading.specs.Saved.{collectFields}
+use Rattle.numbers.specs.Clock.{clockOf}
+use Rattle.tables.specs.Columns.{planBy}
 use Rattle.saving.specs.declared.kind.Kind.{Kind}
 use Rattle.writing.specs.Laid.{Puts}
-use Rattle.saving.specs.Slots.{slotsOf, partsOf, slotBytes}
+use Rattle.saving.specs.Slots.{slotsOf, fieldsIn, slotBytes}
 use Rattle.writing.specs.laws.Laid.{over-length, puts-next}
 use Rattle.saving.specs.laws.Sizes.{slot-length, slot-columns, collect-next, collect-room}
 use Rattle.saving.proofs.slots.put_slots.Statement.{statement}
 use Rattle.saving.proofs.slots.put_slots.Tie as tie
 
 abbrev Inv-loop : tie.InvT-loop
-Inv-loop kind rates blockings extras periods counts lengths jitters hops routes out₀ count at₀ slot₀ out at slot =
+Inv-loop kind guard top clock rates blockings extras periods counts lengths jitters hops routes out₀ count at₀ slot₀ out at slot =
     (slot ≤ count)
     × (length out ≡ length out₀)
-    × Puts (partBytes (collect slot (partsOf kind (columns equalClocks rates blockings extras periods counts lengths jitters hops routes)))) out₀ at out
+    × Puts (rowBytes (collectFields slot (fieldsIn kind (planBy guard top (clockOf clock) rates blockings extras periods counts lengths jitters hops routes)))) out₀ at out
 
 abbrev μ-loop : tie.MeasureT-loop
-μ-loop kind rates blockings extras periods counts lengths jitters hops routes out₀ count at₀ slot₀ out at slot = count - slot
+μ-loop kind guard top clock rates blockings extras periods counts lengths jitters hops routes out₀ count at₀ slot₀ out at slot = count - slot
 
 -- the plan of the columns
 abbrev plan : tie.Start Inv-loop μ-loop → Plan
 plan s =
     let a = s .args in
-    columns equalClocks (a .rates .now) (a .blockings .now) (a .extras .now) (a .periods .now) (a .counts .now) (a .lengths .now) (a .jitters .now) (a .hops .now) (a .routes .now)
+    planBy (a .guard) (a .top) (clockOf (a .clock)) (a .rates .now) (a .blockings .now) (a .extras .now) (a .periods .now) (a .counts .now) (a .lengths .now) (a .jitters .now) (a .hops .now) (a .routes .now)
 
 -- the turn at hand: where the function starts, the kind, the slot and the position
 module _ (c : tie.In-loop Inv-loop μ-loop) where
@@ -45,7 +46,7 @@ module _ (c : tie.In-loop Inv-loop μ-loop) where
   slot = c .before .loop .slot
 
   abbrev done : List ℕ
-  done = partBytes (collect slot (partsOf kind (plan begin)))
+  done = rowBytes (collectFields slot (fieldsIn kind (plan begin)))
 
   below : slot < slotsOf kind
   below = omega (arith, c .before .before .slots .ensures)
@@ -66,7 +67,7 @@ module _ (c : tie.After-slot-size Inv-loop μ-loop) where
       ∙ sym (slot-length (kind turn) (plan (begin turn)) (slot turn))
 
 loop-holds : tie.Need-loop-holds Inv-loop μ-loop
-unfolding collect rowBytes
+unfolding collectFields rowBytes
 loop-holds c = (omega arith, refl, record { size = refl; bytes = refl })
 
 sub-put-slot : tie.Need-sub-put-slot Inv-loop μ-loop
@@ -93,7 +94,7 @@ loop-again c =
     let e = now (begin at .args .out) in
     let bs = slotBytes (kind at) p (slot at) in
     let next = puts-next (done at) bs e (at .before .loop .at) (c .slot-size .result) (at .before .loop .inv .2) (room at) (size c) (c .before .before .before .put-slot .ensures) in
-    let all = collect-next (slot at) (partsOf (kind at) p) in
+    let all = collect-next (slot at) (fieldsIn (kind at) p) in
     (omega arith, ap length (next .bytes) ∙ over-length (done at ++ bs) e (omega (arith, length-append (done at) bs, at .before .loop .inv .2 .size, room at)), rw all next)
 
 returns : tie.Need-returns Inv-loop μ-loop

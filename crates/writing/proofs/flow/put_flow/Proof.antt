@@ -12,7 +12,7 @@ use Rattle.plan_reading.specs.laws.fields.Decoded.{ports-length}
 use Rattle.writing.specs.Laid.{over, laid}
 use Rattle.writing.specs.Fields.{headBytes, flowNumbers, allowedBytes}
 use Rattle.writing.specs.laws.Laid.{laid-over, laid-short, laid-none, lay-next}
-use Rattle.writing.specs.laws.Fields.{route-long, route-named, allowed-length}
+use Rattle.writing.specs.laws.Fields.{route-long, route-named, flow-length}
 use Rattle.writing.proofs.flow.put_flow.Statement.{statement}
 use Rattle.writing.proofs.flow.put_flow.Tie as tie
 
@@ -28,7 +28,7 @@ returns-2 c =
     let a = c .before .before .before .before .args in
     let r = now (a .route) in
     let ns = a .number ∷ a .period ∷ a .count ∷ a .bytes ∷ [] in
-    sym (laid-short (allowedBytes Kind.flow ns r) (now (a .out)) (omega (arith, allowed-length Kind.flow ns r refl (omega arith))))
+    sym (laid-short (allowedBytes Kind.flow ns r) (now (a .out)) (omega (arith, flow-length (a .number) (a .period) (a .count) (a .bytes) r (omega arith))))
 
 returns-3 : tie.Need-returns-3
 unfolding bytesOf valueOf
@@ -43,7 +43,7 @@ returns-3 c =
     let there = first .begin-flow .ensures ∙ laid-over begun e (omega arith) in
     lay-next begun (bytes2s r) e 13 refl there (omega (arith, ports-length r)) (last .put-route .ensures)
     ∙ ap (λ (bs : List ℕ). over bs e) (sym (route-named Kind.flow ns r (omega arith)))
-    ∙ sym (laid-over (allowedBytes Kind.flow ns r) e (omega (arith, allowed-length Kind.flow ns r refl (omega arith))))
+    ∙ sym (laid-over (allowedBytes Kind.flow ns r) e (omega (arith, flow-length (a .number) (a .period) (a .count) (a .bytes) r (omega arith))))
 
 pub put-flow-spec : {M : Type 1} → statement M
 put-flow-spec =

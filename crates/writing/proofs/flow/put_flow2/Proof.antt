@@ -12,7 +12,7 @@ use Rattle.plan_reading.specs.laws.fields.Decoded.{ports-length}
 use Rattle.writing.specs.Laid.{over, laid}
 use Rattle.writing.specs.Fields.{headBytes, flowNumbers, allowedBytes}
 use Rattle.writing.specs.laws.Laid.{laid-over, laid-short, laid-none, lay-next}
-use Rattle.writing.specs.laws.Fields.{route-long, route-named, allowed-length}
+use Rattle.writing.specs.laws.Fields.{route-long, route-named, flow2-length}
 use Rattle.writing.proofs.flow.put_flow2.Statement.{statement}
 use Rattle.writing.proofs.flow.put_flow2.Tie as tie
 
@@ -28,7 +28,7 @@ returns-2 c =
     let a = c .before .before .before .before .args in
     let r = now (a .route) in
     let ns = a .number ∷ a .period ∷ a .count ∷ a .bytes ∷ a .jitter ∷ [] in
-    sym (laid-short (allowedBytes Kind.flow2 ns r) (now (a .out)) (omega (arith, allowed-length Kind.flow2 ns r refl (omega arith))))
+    sym (laid-short (allowedBytes Kind.flow2 ns r) (now (a .out)) (omega (arith, flow2-length (a .number) (a .period) (a .count) (a .bytes) r (omega arith) (a .jitter))))
 
 returns-3 : tie.Need-returns-3
 unfolding bytesOf valueOf
@@ -45,7 +45,7 @@ returns-3 c =
     let after-jitter = lay-next begun (bytes4 (a .jitter)) e 13 refl there (omega arith) (second .put4 .ensures) in
     lay-next (begun ++ bytes4 (a .jitter)) (bytes2s r) e 17 refl after-jitter (omega (arith, ports-length r)) (last .put-route .ensures)
     ∙ ap (λ (bs : List ℕ). over bs e) (sym (route-named Kind.flow2 ns r (omega arith)))
-    ∙ sym (laid-over (allowedBytes Kind.flow2 ns r) e (omega (arith, allowed-length Kind.flow2 ns r refl (omega arith))))
+    ∙ sym (laid-over (allowedBytes Kind.flow2 ns r) e (omega (arith, flow2-length (a .number) (a .period) (a .count) (a .bytes) r (omega arith) (a .jitter))))
 
 pub put-flow2-spec : {M : Type 1} → statement M
 put-flow2-spec =
