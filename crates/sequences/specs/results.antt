@@ -3,6 +3,7 @@ pub mod Theorem
 pub mod NoPlan
 pub mod IterationsTheorem
 pub mod SaveTheorem
+pub mod FormsTheorem
 pub mod GatesTheorem
 pub mod LighterTheorem
 pub mod RepricedTheorem

@@ -2,7 +2,7 @@
 -- bytes where the form is the newer one; and two plans that say the same are one, whatever their forms.
 use Prim.Native.Nat.{ℕ, _-_, _≤_, _<_}
 use mathlib.Core.Path.{_≡_, refl, sym, ap, _∙_, subst}
-use mathlib.Core.List.{List, List·Memᴰ}
+use mathlib.Core.List.{List, [], _∷_, List·Memᴰ, List·Memᴰ·head}
 use mathlib.Core.Bool.{Bool, true, false, not}
 use native.Mathlib.Omega.{arith}
 use native.Mathlib.Decide.{decLt}
@@ -13,10 +13,10 @@ use Rattle.cqf.specs.laws.Ranges.{top-positive}
 use Rattle.plan.specs.Bytes.{Octets}
 use Rattle.plan.specs.Layout.{formBy}
 use Rattle.plan_reading.specs.Part.{Part, header, port, flow, extra, jitter, clock}
-use Rattle.plan_reading.specs.FieldOrder.{Nothing}
+use Rattle.plan_reading.specs.FieldOrder.{Nothing, SameFields}
 use Rattle.plan_reading.specs.Ranges.{PartOk}
 use Rattle.plan_reading.specs.Reading.{accepted, Mode, readAs, maxBytes}
-use Rattle.plan_reading.specs.Strict.{Entry, fieldsIn, partsRow}
+use Rattle.plan_reading.specs.Strict.{Accepts, Entry, fieldsFrom, fieldsIn, partsRow}
 use Rattle.plan_reading.specs.FieldBytes.{bytesOf, rowBytes}
 use Rattle.plan_reading.specs.Saved.{savedParts, savedBytes, newerFields, formBytes}
 use Rattle.plan_reading.specs.SameParts.{partsIn, SameParts}
@@ -27,13 +27,17 @@ use Rattle.plan_reading.specs.laws.reading.PlanLength.{sized, read-form}
 use Rattle.plan_reading.specs.laws.reading.Walk.{read-as}
 use Rattle.plan_reading.specs.laws.reading.Walked.{accepted-row, accepted-sized, accepted-tidy}
 use Rattle.plan_reading.specs.laws.reading.Fits.{read-fits}
+use Rattle.plan_reading.specs.laws.order.InOrder.{permuted-holds}
+use Rattle.plan_reading.specs.laws.order.Content.{same-content}
+use Rattle.plan_reading.specs.laws.rows.SavedRow.{AllOk}
+use Rattle.plan_reading.specs.laws.rows.RowParts.{free-ok}
 use Rattle.plan_reading.specs.laws.rows.Written.{plan-long}
 use Rattle.plan_reading.specs.laws.stores.Sources.{tablesOf}
 use Rattle.plan_reading.specs.laws.stores.Fresh.{fresh-stands}
 use Rattle.plan_reading.specs.laws.saved.Entries.{Stands, Tells, Says, clocks-equal, clocks-differ}
 use Rattle.plan_reading.specs.laws.saved.SavedLength.{saved-length}
 use Rattle.plan_reading.specs.laws.saved.SavedRead.{saved-again}
-use Rattle.plan_reading.specs.laws.saved.SavedBack.{Headed, part-there, header-there}
+use Rattle.plan_reading.specs.laws.saved.SavedBack.{Headed, part-there, header-there, ok-at}
 use Rattle.plan_reading.specs.laws.saved.SavedSlots.{RowOf}
 use Rattle.plan_reading.specs.laws.saved.SavedTables.{left-tables}
 use Rattle.plan_reading.specs.laws.saved.Tidy.{tidied-same}
@@ -41,6 +45,12 @@ use Rattle.plan_reading.specs.laws.newer.Back.{newer-fields-back, newer-
 use Rattle.plan_reading.specs.laws.newer.Row.{newer-held}
 use Rattle.plan_reading.specs.laws.saved.Counts.{ports-counted, flows-counted}
 use Rattle.plan_reading.specs.results.StrictTheorem.{read-loosely}
+
+-- the bytes of a saved plan tell the form in which it was saved
+pub bytes-tell : (form : Form) (p : Plan) → formBy (formBytes form p) ≡ form
+unfolding formBytes savedParts newerFields rowBytes bytesOf formBy
+bytes-tell older p = refl
+bytes-tell newer p = refl
 
 module _ (mode : Mode) (s : List ℕ) (p : Plan) (ports flows : ℕ) (e : readAs mode s ≡ accepted p ports flows) where
   -- A plan of the newer form is saved as the very bytes that were read.
@@ -83,12 +93,7 @@ module _ (mode : Mode) (s : List ℕ) (p : Plan) (ports flows : ℕ) (e : readAs
 
   -- and tell the form that was read.
   pub form-kept : formBy (formBytes (formBy s) p) ≡ formBy s
-  unfolding formBytes savedParts newerFields rowBytes bytesOf formBy
-  form-kept = go (formBy s)
-    where
-      go : (form : Form) → formBy (formBytes form p) ≡ form
-      go older = refl
-      go newer = refl
+  form-kept = bytes-tell (formBy s) p
 
 -- what a plan says stands among the parts of its bytes, and each of them that says more than its absence is said
 module _ (mode : Mode) (s : List ℕ) (p : Plan) (ports flows : ℕ) (e : readAs mode s ≡ accepted p ports flows) where
@@ -178,3 +183,24 @@ same-parts mode other s t p q m k n l a b same =
           stand = λ {x} i. stand x i;
           said = λ x h. same x (tells-something x (h .tells)) .0 (says-there mode s p m k a x h);
         }
+
+-- Two plans that are accepted and have the same fields, in any order, are of one form.
+pub same-told : (mode other : Mode) (s t : List ℕ) → Accepts mode s → Accepts other t → SameFields s t → formBy s ≡ formBy t
+unfolding fieldsIn rowBytes
+same-told mode other s t a b same = go (fieldsFrom (formBy s) (length s) s 0) refl
+  where
+    first : AllOk (formBy s) (fieldsIn s)
+    first = free-ok (accepted-row mode s (a .plan) (a .ports) (a .flows) (a .reads) .free)
+
+    second : AllOk (formBy t) (fieldsIn t)
+    second = free-ok (accepted-row other t (b .plan) (b .ports) (b .flows) (b .reads) .free)
+
+    go : (es : List Entry) → fieldsIn s ≡ es → formBy s ≡ formBy t
+    go [] none =
+        let w = read-as mode s (a .plan) (a .ports) (a .flows) (a .reads) .walk in
+        let long = within-low 1 maxBytes (length s) (sized (formBy s) mode s (a .plan) (a .ports) (a .flows) (sym (read-form mode s) ∙ a .reads)) in
+        absurd (omega (arith, plan-long s w, ap (λ (es : List Entry). length (rowBytes es)) none))
+    go (f ∷ es) row =
+        let m : List·Memᴰ f (fieldsIn s) = subst (λ (es : List Entry). List·Memᴰ f es) (sym row) (List·Memᴰ·head refl) in
+        let n = permuted-holds (same-content mode other s t a b same) f m in
+        sym (ok-at first m .numbers .kind) ∙ ok-at second n .numbers .kind

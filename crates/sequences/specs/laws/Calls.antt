@@ -1,16 +1,18 @@
 -- The plan held after a sequence of calls is the one in the bytes of the last load in which the rules of its reading find no
 -- refusal. Either reading finds the same plan in them.
-use mathlib.Core.Path.{_≡_, refl}
+use mathlib.Core.Path.{_≡_, refl, ap}
 use mathlib.Core.Bool.{false}
 use mathlib.Core.List.{List, [], _∷_}
 use mathlib.Core.Option.{Option, none, some}
 use Prim.Native.Nat.{ℕ}
 use native.Mathlib.Omega.{arith}
+use Rattle.cqf.specs.Form.{Form, older, newer, formNumber, formFrom}
 use Rattle.cqf.specs.Plan.{Plan, noPlan, validPlan}
+use Rattle.plan.specs.Layout.{formBy}
 use Rattle.plan_reading.specs.Reading.{PlanRead, accepted, rejected, Mode, readAs, readPlan}
 use Rattle.plan_reading.specs.results.StrictTheorem.{read-loosely}
-use Rattle.loading.specs.Outcome.{loadLeaves, readingLeaves}
-use Rattle.sequences.specs.Calls.{Call, load, ask, leaves, afterFrom, after, accepting, keeping, heldFrom, heldBytes}
+use Rattle.loading.specs.Outcome.{loadLeaves, readingLeaves, readingForm, loadForm}
+use Rattle.sequences.specs.Calls.{Call, load, ask, leaves, afterFrom, after, formLeaves, formAfterFrom, formAfter, accepting, keeping, heldFrom, heldBytes}
 
 -- the tables that a reading stands for; none for a refusal
 abbrev readTables : PlanRead → Option Plan
@@ -83,3 +85,33 @@ empty-invalid = refl
 
 pub after-none : (calls : List Call) → heldBytes calls ≡ none → validPlan (after calls) ≡ false
 after-none calls e = rw (calls-hold calls .nothing e) empty-invalid
+
+-- the form's number beside it is that of those bytes
+abbrev Formed : Option (List ℕ) → ℕ → Type 0
+Formed held form = (s : List ℕ) → held ≡ some s → form ≡ formNumber (formBy s)
+
+load-formed : (held : Option (List ℕ)) (form : ℕ) (mode : Mode) (s : List ℕ) → Formed held form → Formed (keeping held (load mode s)) (formLeaves form (load mode s))
+unfolding loadForm
+load-formed held form mode s h = go (readAs mode s)
+  where
+    go : (r : PlanRead) → Formed (accepting held s r) (readingForm form (formNumber (formBy s)) r)
+    go (accepted q m n) t d = let st : s ≡ t = cc in ap (λ (u : List ℕ). formNumber (formBy u)) st
+    go (rejected m n) = h
+
+call-formed : (held : Option (List ℕ)) (form : ℕ) (c : Call) → Formed held form → Formed (keeping held c) (formLeaves form c)
+call-formed held form (load mode s) h = load-formed held form mode s h
+call-formed held form (ask x) h = h
+
+calls-formed : (held : Option (List ℕ)) (form : ℕ) (calls : List Call) → Formed held form → Formed (heldFrom held calls) (formAfterFrom form calls)
+unfolding heldFrom formAfterFrom
+calls-formed held form [] h = h
+calls-formed held form (c ∷ cs) h = calls-formed (keeping held c) (formLeaves form c) cs (call-formed held form c h)
+
+pub form-held : (calls : List Call) (s : List ℕ) → heldBytes calls ≡ some s → formAfter calls ≡ formNumber (formBy s)
+unfolding heldBytes formAfter
+form-held calls = calls-formed none (formNumber older) calls (λ s e. cc)
+
+-- the form of a form's number
+pub form-from : (form : Form) → formFrom (formNumber form) ≡ form
+form-from older = refl
+form-from newer = refl

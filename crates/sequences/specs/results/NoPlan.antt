@@ -8,6 +8,7 @@ use mathlib.Core.Option.{Option, none, some}
 use Prim.Native.Nat.{ℕ}
 use native.Mathlib.Omega.{arith}
 use borrow.Author.Tests.{le-leb}
+use Rattle.cqf.specs.Form.{formFrom}
 use Rattle.cqf.specs.Bounded.{within}
 use Rattle.cqf.specs.Plan.{Plan, validPlan}
 use Rattle.cqf.specs.Condition.{admissible, least, marginSafe}
@@ -17,7 +18,7 @@ use Rattle.answers.specs.Answer.{result, refusalNumber}
 use Rattle.answers.specs.Refusals.{noPlanHeld, notAdmissible, noLeast, noMarginSafe}
 use Rattle.questions.specs.Outcome.{failingAt}
 use Rattle.sequences.specs.Calls as Calls
-use Rattle.sequences.specs.Calls.{Call, Question, after, heldBytes}
+use Rattle.sequences.specs.Calls.{Call, Question, after, formAfter, heldBytes}
 use Rattle.sequences.specs.Reply.{Reply, ofCheck, ofSlack, ofSearch, ofFixedPoint, ofWriting, ofReprice, ofSpan, ofSpans, reply, noPlanReply}
 use Rattle.questions.specs.laws.Answers
 use Rattle.questions.specs.laws.Answers.{check-none, slack-none, fixed-point-none, check-within}
@@ -31,30 +32,30 @@ use Rattle.questions.specs.laws.Searched.{ends-no-plan, least-ends, margin-safe
 use Rattle.questions.specs.laws.Leanly.{lean-no-plan, lean-least-ends, lean-margin-safe-ends}
 
 -- tables that are not valid
-answers-none : (p : Plan) → validPlan p ≡ false → (x : Question) → reply p x ≡ noPlanReply x
-answers-none p e (Calls.check T) = ap ofCheck (check-none p T e)
-answers-none p e (Calls.slack n T) = ap ofSlack (slack-none p n T e)
-answers-none p e (Calls.least scratch) =
+answers-none : (form : ℕ) (p : Plan) → validPlan p ≡ false → (x : Question) → reply form p x ≡ noPlanReply x
+answers-none form p e (Calls.check T) = ap ofCheck (check-none p T e)
+answers-none form p e (Calls.slack n T) = ap ofSlack (slack-none p n T e)
+answers-none form p e (Calls.least scratch) =
     let h = least-ends p scratch (ends-no-plan noLeast least p scratch e) in
     ap₂ ofSearch (sym (h .0)) (sym (h .1))
-answers-none p e (Calls.marginSafe scratch) =
+answers-none form p e (Calls.marginSafe scratch) =
     let h = margin-safe-ends p scratch (ends-no-plan noMarginSafe marginSafe p scratch e) in
     ap₂ ofSearch (sym (h .0)) (sym (h .1))
-answers-none p e (Calls.leanLeast scratch) =
+answers-none form p e (Calls.leanLeast scratch) =
     let h = lean-least-ends p scratch (lean-no-plan noLeast least p scratch e) in
     ap₂ ofSearch (sym (h .0)) (sym (h .1))
-answers-none p e (Calls.leanMarginSafe scratch) =
+answers-none form p e (Calls.leanMarginSafe scratch) =
     let h = lean-margin-safe-ends p scratch (lean-no-plan noMarginSafe marginSafe p scratch e) in
     ap₂ ofSearch (sym (h .0)) (sym (h .1))
-answers-none p e (Calls.fixedPoint start steps) = ap ofFixedPoint (fixed-point-none p start steps e)
-answers-none p e (Calls.save buffer) = ap₂ ofWriting (save-none p buffer e) (save-keeps p buffer e)
-answers-none p e (Calls.gates T even odd buffer) =
+answers-none form p e (Calls.fixedPoint start steps) = ap ofFixedPoint (fixed-point-none p start steps e)
+answers-none form p e (Calls.save buffer) = ap₂ ofWriting (save-none (formFrom form) p buffer e) (save-keeps (formFrom form) p buffer e)
+answers-none form p e (Calls.gates T even odd buffer) =
     ap₂ ofWriting (gates-none p T even odd buffer e) (gates-keeps p T even odd buffer e)
-answers-none p e (Calls.reprice T n bytes out) =
+answers-none form p e (Calls.reprice T n bytes out) =
     let h = reprice-none p T n bytes out e in
     ap₂ ofReprice (sym (h .0)) (sym (h .1))
-answers-none p e (Calls.span T) = ap ofSpan (span-none p T e)
-answers-none p e (Calls.spans list) = ap₂ ofSpans (spans-none p _ e) (spans-keeps p list e)
+answers-none form p e (Calls.span T) = ap ofSpan (span-none p T e)
+answers-none form p e (Calls.spans list) = ap₂ ofSpans (spans-none p _ e) (spans-keeps p list e)
 
 -- a valid plan is not refused 20 at 1 ns
 verdictNumber : Reply → ℕ
@@ -67,9 +68,9 @@ verdictNumber (ofReprice answer out) = 0
 verdictNumber (ofSpan answer) = 0
 verdictNumber (ofSpans answer list) = 0
 
-answers-some : (p : Plan) → validPlan p ≡ true → reply p (Calls.check 1) ≡ noPlanReply (Calls.check 1) → ⊥
+answers-some : (form : ℕ) (p : Plan) → validPlan p ≡ true → reply form p (Calls.check 1) ≡ noPlanReply (Calls.check 1) → ⊥
 unfolding verdictNumber
-answers-some p valid e = go (admissible p 1) (sym (ap refusalNumber (check-within p 1 valid ranged)) ∙ ap verdictNumber e)
+answers-some form p valid e = go (admissible p 1) (sym (ap refusalNumber (check-within p 1 valid ranged)) ∙ ap verdictNumber e)
   where
     ranged : within 1 (p .top) 1 ≡ true
     ranged = rw (le-leb 1 (p .top) (top-positive p valid))
@@ -78,11 +79,11 @@ answers-some p valid e = go (admissible p 1) (sym (ap refusalNumber (check-withi
     go true h = let z : _≡_ {A = ℕ} 0 20 = h in absurd (omega arith)
     go false h = let z : _≡_ {A = ℕ} 21 20 = h in absurd (omega arith)
 
-pub no-plan : (calls : List Call) → heldBytes calls ≡ none ↔ ((x : Question) → reply (after calls) x ≡ noPlanReply x)
-no-plan calls = (λ e. answers-none (after calls) (after-none calls e), back (heldBytes calls) refl)
+pub no-plan : (calls : List Call) → heldBytes calls ≡ none ↔ ((x : Question) → reply (formAfter calls) (after calls) x ≡ noPlanReply x)
+no-plan calls = (λ e. answers-none (formAfter calls) (after calls) (after-none calls e), back (heldBytes calls) refl)
   where
-    back : (held : Option (List ℕ)) → heldBytes calls ≡ held → ((x : Question) → reply (after calls) x ≡ noPlanReply x) → heldBytes calls ≡ none
+    back : (held : Option (List ℕ)) → heldBytes calls ≡ held → ((x : Question) → reply (formAfter calls) (after calls) x ≡ noPlanReply x) → heldBytes calls ≡ none
     back none e h = e
     back (some s) e h =
         let l = after-loaded calls s e in
-        absurd (answers-some (after calls) (accepted-valid s (after calls) (l .ports) (l .flows) (l .reads)) (h (Calls.check 1)))
+        absurd (answers-some (formAfter calls) (after calls) (accepted-valid s (after calls) (l .ports) (l .flows) (l .reads)) (h (Calls.check 1)))

@@ -1,5 +1,5 @@
 -- The theorems of another frame length, over sequences of calls.
-use mathlib.Core.Path.{_≡_, refl, sym, ap, _∙_}
+use mathlib.Core.Path.{_≡_, refl, sym, ap, _∙_, subst}
 use mathlib.Core.Bool.{Bool, true, false}
 use mathlib.Core.List.{List}
 use mathlib.Core.Option.{some}
@@ -7,8 +7,9 @@ use Prim.Native.Nat.{ℕ, suc, _+_, _-_, _*_, _≤_, _<_}
 use native.Mathlib.Omega.{arith}
 use lib.Dec.{ltb}
 use lib.IntN.{ℤ, pos, _-ℤ_}
-use lib.ListN.{getD}
+use lib.ListN.{length, getD}
 use Rattle.cqf.specs.Bounded.{within, countTo}
+use Rattle.cqf.specs.Form.{Form, older, newer, formNumber, formFits}
 use Rattle.cqf.specs.Limits.{portSlots, flowSlots}
 use Rattle.cqf.specs.Plan.{Plan, rateOf, periodOf, crosses, validPlan}
 use Rattle.cqf.specs.Condition.{frames, crossed, slack}
@@ -17,9 +18,16 @@ use Rattle.cqf.specs.laws.Valid.{present-slot}
 use Rattle.cqf.specs.laws.Reprice.{crossed-same}
 use Rattle.cqf.specs.laws.RepriceValid.{length-slot, length-valid}
 use Rattle.cqf.specs.laws.Repriced.{crosses-slot, repriced-length, repriced-here, repriced-kept, holds-repriced, slack-longer, slack-apart}
-use Rattle.plan_reading.specs.Reading.{accepted, Mode, loose, readAs, readPlan}
+use Rattle.plan.specs.Layout.{formBy}
+use Rattle.plan_reading.specs.Reading.{accepted, Mode, loose, readAs, readPlan, maxBytes}
+use Rattle.plan_reading.specs.Sized.{Sized}
+use Rattle.plan_reading.specs.Tidy.{Tidy}
+use Rattle.plan_reading.specs.Saved.{formBytes}
 use Rattle.plan_reading.specs.Relength.{relengthedBytes}
 use Rattle.plan_reading.specs.laws.saved.Relength.{changed-read}
+use Rattle.plan_reading.specs.laws.newer.Relength.{newer-changed-read}
+use Rattle.plan_reading.specs.laws.reading.Fits.{read-fits}
+use Rattle.plan_reading.specs.results.FormTheorem.{form-length}
 use Rattle.plan_reading.specs.laws.reading.Walked.{accepted-sized, accepted-tidy}
 use Rattle.plan_reading.specs.laws.fields.Within.{within-low}
 use Rattle.answers.specs.Answer.{result}
@@ -28,7 +36,7 @@ use Rattle.questions.specs.Outcome.{slackAnswer}
 use Rattle.questions.specs.Reprice.{repriceAnswer, repriceLeaves}
 use Rattle.sequences.specs.Repriced.{ReadsChanged, WritesSlacks, PerByte, BoundedChange}
 use Rattle.sequences.specs.Calls.{Call, after, heldBytes}
-use Rattle.sequences.specs.laws.Calls.{after-loaded}
+use Rattle.sequences.specs.laws.Calls.{Loaded, after-loaded}
 use Rattle.questions.specs.laws.Reprice.{Granted, reprice-granted, granted-leaves}
 use Rattle.sequences.specs.laws.Repriced.{crossed-slot, crosses-crossed, slack-answered, slack-alike, answers-slacks, slack-bounded}
 
@@ -36,6 +44,10 @@ use Rattle.sequences.specs.laws.Repriced.{crossed-slot, crosses-crossed,
 module _ (calls : List Call) (bytes : List ℕ) (held : heldBytes calls ≡ some bytes) where
   abbrev plan : Plan
   plan = after calls
+
+  -- the form in which it was read
+  abbrev form : Form
+  form = formBy bytes
 
   module _ (T n octets : ℕ) (out : List ℤ) (answer : repriceAnswer plan T n octets out ≡ result tt) where
     abbrev given : Granted plan T n octets out
@@ -56,18 +68,39 @@ module _ (calls : List Call) (bytes : List ℕ) (held : heldBytes calls ≡ some
 
     reads
         : (mode : Mode)
-        → readAs mode (relengthedBytes plan n octets)
+        → readAs mode (relengthedBytes form plan n octets)
         ≡ accepted changed (countTo portSlots (λ q. ltb 0 (rateOf plan q))) (countTo flowSlots (λ f. ltb 0 (periodOf plan f)))
     unfolding readPlan
     reads mode =
-        let l = after-loaded calls bytes held in
         let low = within-low 1 flowSlots n (given .number) in
         let number : n ≡ suc (n - 1) = omega arith in
-        ap (λ (k : ℕ). readAs mode (relengthedBytes plan k octets)) number
-        ∙ changed-read plan (n - 1) octets (given .valid) (accepted-sized loose bytes plan (l .ports) (l .flows) (l .reads)) (accepted-tidy loose bytes plan (l .ports) (l .flows) (l .reads)) (given .there) (given .length-ok) mode
+        ap (λ (k : ℕ). readAs mode (relengthedBytes form plan k octets)) number ∙ go form refl
+      where
+        abbrev l : Loaded bytes plan
+        l = after-loaded calls bytes held
+
+        sized : Sized plan
+        sized = accepted-sized loose bytes plan (l .ports) (l .flows) (l .reads)
+
+        tidy : Tidy plan
+        tidy = accepted-tidy loose bytes plan (l .ports) (l .flows) (l .reads)
+
+        go
+            : (f : Form)
+            → formBy bytes ≡ f
+            → readAs mode (relengthedBytes f plan (suc (n - 1)) octets)
+            ≡ accepted changed (countTo portSlots (λ q. ltb 0 (rateOf plan q))) (countTo flowSlots (λ f. ltb 0 (periodOf plan f)))
+        go older told =
+            let fits : formFits (formNumber older) (plan .hops) ≡ true =
+            subst (λ (f : Form). formFits (formNumber f) (plan .hops) ≡ true) told (read-fits loose bytes plan (l .ports) (l .flows) (l .reads)) in
+            changed-read plan (n - 1) octets (given .valid) sized tidy fits (given .there) (given .length-ok) mode
+        go newer told =
+            let room : length (formBytes newer plan) ≤ maxBytes =
+            subst (λ (f : Form). length (formBytes f plan) ≤ maxBytes) told (form-length loose bytes plan (l .ports) (l .flows) (l .reads)) in
+            newer-changed-read plan (n - 1) octets (given .valid) sized tidy room (given .there) (given .length-ok) mode
 
     -- the saved plan with just that length changed is accepted and holds the plan with it
-    pub held-changed : ReadsChanged plan n octets
+    pub held-changed : ReadsChanged form plan n octets
     unfolding loadAnswer loadLeaves
     held-changed =
         record {
@@ -88,7 +121,7 @@ module _ (calls : List Call) (bytes : List ℕ) (held : heldBytes calls ≡ some
         : (mode : Mode) (h : Plan) (q : ℕ)
         → crossed plan q ≡ true
         → getD exit q (pos 0) ≡ slack changed q T
-        → slackAnswer (loadLeaves mode h (relengthedBytes plan n octets)) (suc q) T ≡ result (getD exit q (pos 0))
+        → slackAnswer (loadLeaves mode h (relengthedBytes form plan n octets)) (suc q) T ≡ result (getD exit q (pos 0))
     fresh-slack mode h q on is =
         ap (λ (r : Plan). slackAnswer r (suc q) T) (held-changed .holds mode h)
         ∙ slack-answered changed valid-changed T ranged-changed q (crossed-same plan (n - 1) octets q ∙ on) is
@@ -108,7 +141,7 @@ module _ (calls : List Call) (bytes : List ℕ) (held : heldBytes calls ≡ some
         go false e = refl
 
     -- what is written into the list
-    pub held-written : WritesSlacks plan T n octets out exit
+    pub held-written : WritesSlacks form plan T n octets out exit
     held-written =
         record {
           size = ap lib.ListN.length (granted-leaves plan T n octets out answer) ∙ repriced-length plan T (n - 1) octets out;
@@ -126,7 +159,7 @@ module _ (calls : List Call) (bytes : List ℕ) (held : heldBytes calls ≡ some
       : (T n octets more : ℕ) (out other : List ℤ)
       → repriceAnswer plan T n octets out ≡ result tt
       → repriceAnswer plan T n (octets + more) other ≡ result tt
-      → PerByte plan T n octets more out other
+      → PerByte form plan T n octets more out other
   held-per-byte T n octets more out other answer also =
       let g = given T n octets out answer in
       let f = slot T n octets out answer in

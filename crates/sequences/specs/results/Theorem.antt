@@ -8,13 +8,16 @@ use Prim.Native.Nat.{ℕ, _*_, _≤_, _<_}
 use native.Mathlib.Omega.{arith}
 use borrow.Author.Tests.{le-leb}
 use Rattle.cqf.specs.Bounded.{within}
+use Rattle.cqf.specs.Form.{formNumber}
 use Rattle.cqf.specs.Plan.{Plan, validPlan}
 use Rattle.cqf.specs.Condition.{admissible, failing, lowestFailing}
 use Rattle.cqf.specs.LargeEnough.{LargeEnough}
 use Rattle.cqf.specs.results.Theorem.{large-enough}
 use Rattle.cqf.specs.laws.Longer.{longer}
 use Rattle.plan_reading.specs.FieldOrder.{SameFields}
-use Rattle.plan_reading.specs.Reading.{accepted, readPlan}
+use Rattle.plan_reading.specs.Reading.{accepted, loose, readPlan}
+use Rattle.plan_reading.specs.Strict.{Accepts}
+use Rattle.plan_reading.specs.results.FormTheorem.{same-told}
 use Rattle.plan_reading.specs.laws.order.Order.{field-order}
 use Rattle.plan_reading.specs.results.StrictTheorem.{read-loosely}
 use Rattle.plan_reading.specs.laws.validity.Valid.{accepted-valid}
@@ -23,9 +26,9 @@ use Rattle.answers.specs.Refusals.{notAdmissible}
 use Rattle.questions.specs.Outcome.{failingAt, checkAnswer}
 use Rattle.sequences.specs.Meaning.{Refuses, Means, CheckMeans}
 use Rattle.sequences.specs.Reply.{SameAnswers, reply}
-use Rattle.sequences.specs.Calls.{Call, after, heldBytes}
+use Rattle.sequences.specs.Calls.{Call, after, formAfter, heldBytes}
 use Rattle.questions.specs.laws.Answers.{verdict, check-within, check-accepts}
-use Rattle.sequences.specs.laws.Calls.{after-held, after-loaded}
+use Rattle.sequences.specs.laws.Calls.{after-held, after-loaded, form-held}
 
 -- the verdict of the plain question means what the theorem says
 plain-means : (p : Plan) (T : ℕ) → LargeEnough p T → Means p T (Refuses (verdict p T)) (verdict p T ≡ result tt)
@@ -97,9 +100,14 @@ pub order-free
     → heldBytes calls ≡ some s
     → heldBytes others ≡ some t
     → SameFields s t
-    → SameAnswers (after calls) (after others)
+    → SameAnswers (formAfter calls) (after calls) (formAfter others) (after others)
+unfolding readPlan
 order-free calls others s t held kept fields =
     let a = after-loaded calls s held in
     let b = after-loaded others t kept in
     let same = field-order s t fields (after calls) (after others) (a .ports) (a .flows) (b .ports) (b .flows) (a .reads) (b .reads) .0 in
-    λ x. ap (λ (p : Plan). reply p x) same
+    let first : Accepts loose s = record { plan = after calls; ports = a .ports; flows = a .flows; reads = a .reads } in
+    let second : Accepts loose t = record { plan = after others; ports = b .ports; flows = b .flows; reads = b .reads } in
+    let form : formAfter calls ≡ formAfter others =
+    form-held calls s held ∙ ap formNumber (same-told loose loose s t first second fields) ∙ sym (form-held others t kept) in
+    λ x. (λ i. reply (form i) (same i) x)
