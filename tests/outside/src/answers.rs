@@ -32,13 +32,16 @@ pub struct SpanRecord {
     pub last: u64,
 }
 
+/// How many numbers cp_field tells.
+pub const NUMBERS: usize = 6;
+
 #[repr(C)]
 #[derive(Clone, Copy, PartialEq, Eq, Debug)]
 pub struct FieldRead {
     pub refusal: u32,
     pub tag: u32,
     pub offset: u64,
-    pub numbers: [u64; 5],
+    pub numbers: [u64; NUMBERS],
 }
 
 /// Places in the table of routes from one flow's route to the next.

@@ -1,6 +1,7 @@
 //! The C interface of the planner. A Rust slice is never null, an empty one neither.
 
 use crate::answers::{Answer, Batch, FieldRead, Planner, SlackAnswer, SpanRecord, StepsAnswer};
+use crate::model::Form;
 
 #[repr(C)]
 struct LoadOutcome {
@@ -47,7 +48,9 @@ extern "C" {
     fn cp_batch_serve(batch: Batch) -> ServeOutcome;
     fn cp_batch_collect(batch: Batch, slot: u64) -> CollectOutcome;
     fn cp_field(plan: *const u8, length: usize, offset: usize) -> FieldRead;
-    fn cp_repeats(value: *const u8, length: usize) -> u8;
+    fn cp_repeats(tag: u32, value: *const u8, length: usize) -> u8;
+    fn cp_upgrade(plan: *const u8, length: usize, buffer: *mut u8, room: usize) -> Answer;
+    fn cp_downgrade(plan: *const u8, length: usize, buffer: *mut u8, room: usize) -> Answer;
 }
 
 pub fn empty() -> Planner {
@@ -135,6 +138,16 @@ pub fn field(plan: &[u8], offset: usize) -> FieldRead {
     unsafe { cp_field(plan.as_ptr(), plan.len(), offset) }
 }
 
-pub fn repeats(value: &[u8]) -> u8 {
-    unsafe { cp_repeats(value.as_ptr(), value.len()) }
+/// Whether the value of a flow field of this tag names a port twice.
+pub fn repeats(tag: u32, value: &[u8]) -> u8 {
+    unsafe { cp_repeats(tag, value.as_ptr(), value.len()) }
+}
+
+/// The converter that reads a form.
+pub fn convert(from: Form, plan: &[u8], buffer: &mut [u8]) -> Answer {
+    let call = match from {
+        Form::Older => cp_upgrade,
+        Form::Newer => cp_downgrade,
+    };
+    unsafe { call(plan.as_ptr(), plan.len(), buffer.as_mut_ptr(), buffer.len()) }
 }

@@ -11,6 +11,10 @@ pub mod lighter;
 pub mod short;
 pub mod sized;
 pub mod strict;
+pub mod newer;
+pub mod newer_damage;
+pub mod newer_faults;
+pub mod newer_sized;
 
 use crate::rng::Rng;
 
@@ -87,13 +91,18 @@ pub fn encode(pieces: &[Piece]) -> Vec<u8> {
     pieces.iter().flat_map(Piece::bytes).collect()
 }
 
-/// Wire bits of a frame at a port, with the extra bytes that the pieces give it.
-pub fn wire_bits(pieces: &[Piece], port: u16, length: u16) -> u64 {
+/// The extra bytes that the pieces give a port.
+pub fn extra_of(pieces: &[Piece], port: u16) -> u64 {
     let extra = pieces.iter().find_map(|piece| match piece {
         Piece::Extra { number, extra } if *number == port => Some(u64::from(*extra)),
         _ => None,
     });
-    8 * (u64::from(length) + 20 + extra.unwrap_or(0))
+    extra.unwrap_or(0)
+}
+
+/// Wire bits of a frame at a port, with the extra bytes that the pieces give it.
+pub fn wire_bits(pieces: &[Piece], port: u16, length: u16) -> u64 {
+    8 * (u64::from(length) + 20 + extra_of(pieces, port))
 }
 
 /// Whether some port has extra bytes.

@@ -1,9 +1,10 @@
-//! Compares the planner behind the C interface with the model, group by group.
+//! Compares the planner behind the C interface with the model, group by group; and the model with what must hold of it.
 //!
 //! CP_LIB_DIR (at build): folder of libcapi.a. CP_SEED=n, CP_CASES=n: another seed, more or fewer cases.
 //! CP_TRACE: every case to standard error before its calls. Arguments: names of groups; none for all.
 //! It builds with Rust 1.63 and later.
 
+mod alone;
 mod answers;
 mod ffi;
 mod gen;
@@ -19,7 +20,9 @@ const SEED: u64 = 20_261_115;
 const CASES: u64 = 1_500;
 
 /// A group's name, its share of the cases in hundredths, and its body.
-const GROUPS: [(&str, u64, fn(&mut Tally)); 18] = [
+const GROUPS: [(&str, u64, fn(&mut Tally)); 22] = [
+    ("reading", 60, alone::reading::run),
+    ("converting", 60, alone::converting::run),
     ("known", 100, groups::known::run),
     ("model", 20, groups::model::run),
     ("fields", 100, groups::fields::run),
@@ -38,6 +41,8 @@ const GROUPS: [(&str, u64, fn(&mut Tally)); 18] = [
     ("order", 40, groups::order::run),
     ("runs", 60, groups::runs::run),
     ("lighter", 60, groups::lighter::run),
+    ("forms", 100, groups::forms::run),
+    ("convert", 100, groups::convert::run),
 ];
 
 fn number_from(name: &str, otherwise: u64) -> u64 {

@@ -1,6 +1,7 @@
 //! Document 01 and the landed requests of document 02 once more: plans as maps, the condition, the plain question and the spare.
 
 pub mod batch;
+pub mod convert;
 pub mod field;
 pub mod fixed_point;
 pub mod gates;
@@ -11,9 +12,52 @@ pub mod save;
 pub mod spans;
 pub mod tables;
 pub mod usable;
+pub mod values;
 
 use crate::answers::{Answer, SlackAnswer};
 use std::collections::BTreeMap;
+
+/// The form of a plan's bytes (document 02: the old one and the new one).
+#[derive(Clone, Copy, Debug, PartialEq, Eq)]
+pub enum Form {
+    Older,
+    Newer,
+}
+
+impl Form {
+    pub const ALL: [Form; 2] = [Form::Older, Form::Newer];
+
+    /// Its number, as a planner holds it.
+    pub fn number(self) -> u32 {
+        match self {
+            Form::Older => 0,
+            Form::Newer => 1,
+        }
+    }
+
+    /// The form of a plan that is loaded, by its first byte.
+    pub fn of(plan: &[u8]) -> Form {
+        match plan.first() {
+            Some(0x11) => Form::Newer,
+            _ => Form::Older,
+        }
+    }
+
+    pub fn other(self) -> Form {
+        match self {
+            Form::Older => Form::Newer,
+            Form::Newer => Form::Older,
+        }
+    }
+
+    /// How many ports a route has at most.
+    pub fn most_hops(self) -> usize {
+        match self {
+            Form::Older => 16,
+            Form::Newer => 24,
+        }
+    }
+}
 
 #[derive(Clone, Debug, PartialEq, Eq)]
 pub struct Port {
@@ -43,6 +87,8 @@ pub struct Clocks {
 
 #[derive(Clone, Debug, PartialEq, Eq)]
 pub struct Plan {
+    /// The form in which it was read; only saving asks for it.
+    pub form: Form,
     pub guard: u64,
     pub top: u64,
     pub clocks: Clocks,
@@ -91,6 +137,11 @@ impl Clocks {
 }
 
 impl Plan {
+    /// The same parts, held in a form.
+    pub fn in_form(&self, form: Form) -> Plan {
+        Plan { form, ..self.clone() }
+    }
+
     pub fn crossed(&self, port: u64) -> bool {
         self.flows.values().any(|flow| flow.route.contains(&port))
     }

@@ -130,7 +130,7 @@ fn lost(rng: &mut Rng, pieces: &mut Vec<Piece>) {
 /// A field of unknown tag, or of a length that its tag does not allow.
 fn odd_field(rng: &mut Rng, pieces: &mut Vec<Piece>) {
     let known = rng.chance(1, 2);
-    let tag = if known { rng.range(1, 6) as u8 } else { rng.pick(&[0, 7, 8, 16, 0x81, 255]) };
+    let tag = if known { rng.range(1, 6) as u8 } else { rng.pick(&[0, 7, 8, 0x10, 0x11, 0x12, 0x13, 0x14, 0x81, 255]) };
     let length = rng.pick(&[0, 1, 3, 4, 5, 6, 7, 8, 9, 10, 11, 12, 13, 41, 42, 43, 44, 64, 256, 264, 300]);
     let mut raw = vec![tag, (length / 256) as u8, (length % 256) as u8];
     raw.extend((0..length).map(|_| rng.pick(&[0, 0, 1, 4, 200])));

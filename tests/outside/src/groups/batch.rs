@@ -4,7 +4,7 @@ use super::batch_foreign;
 use super::known::K;
 use crate::answers::{Answer, Batch, Slot, StepsAnswer};
 use crate::ffi;
-use crate::gen::{self, damage, encode};
+use crate::gen::{self, damage, encode, newer_damage};
 use crate::model::batch::{self as model, Placed, SLOTS, TURN};
 use crate::report::Tally;
 use crate::rng::Rng;
@@ -71,6 +71,9 @@ fn collect(tally: &mut Tally, batch: &mut Batch, want: &mut model::Batch, slot: 
 }
 
 fn some_bytes(rng: &mut Rng) -> Vec<u8> {
+    if rng.chance(1, 4) {
+        return newer_damage::some(rng);
+    }
     let good = gen::plan(rng);
     match rng.below(6) {
         0 => damage::damaged(rng, &good),

@@ -39,13 +39,13 @@ fn damage_port(rng: &mut Rng, tables: &mut Planner) {
 fn damage_flow(rng: &mut Rng, tables: &mut Planner) {
     let used: Vec<usize> = (0..256).filter(|slot| tables.hops[*slot] != 0).collect();
     let slot = slot(rng, &used, 256);
-    let hops = usize::from(tables.hops[slot]).clamp(1, 16);
+    let hops = usize::from(tables.hops[slot]).clamp(1, STRIDE);
     let route = slot * STRIDE;
     match rng.below(9) {
         0 => tables.periods[slot] = rng.pick(&[0, 1, 999, 1_000, 99_999_999, 100_000_000, 100_000_001, u32::MAX]),
         1 => tables.counts[slot] = rng.pick(&[0, 1, 2, 63, 64, 65, 256, u16::MAX]),
         2 => tables.lengths[slot] = rng.pick(&[0, 1, 63, 64, 65, 1999, 2000, 2001, u16::MAX]),
-        3 => tables.hops[slot] = rng.pick(&[0, 1, 2, 15, 16, 17, 128, 255]),
+        3 => tables.hops[slot] = rng.pick(&[0, 1, 2, 15, 16, 17, 24, 25, 128, 255]),
         4 => tables.routes[route + rng.index(hops)] = rng.pick(&[0, 1, 63, 64, 65, 128, 255]),
         5 => tables.routes[route + rng.index(hops)] = tables.routes[route + rng.index(hops)],
         6 => tables.routes[route + rng.index(hops)] = rng.range(1, 64) as u8,
@@ -83,8 +83,8 @@ pub fn stir_unused(rng: &mut Rng, tables: &mut Planner) {
     }
 }
 
-fn damage_one(rng: &mut Rng, tables: &mut Planner) {
-    match rng.below(17) {
+pub fn damage_one(rng: &mut Rng, tables: &mut Planner) {
+    match rng.below(18) {
         0 => tables.guard = rng.pick(&[0, 1, 999_999, 1_000_000, 1_000_001, 1 << 31, u32::MAX]),
         1 => tables.top = rng.pick(&[0, 1, 2, 50_000, 99_999_999, 100_000_000, 100_000_001, u32::MAX]),
         2..=4 => damage_port(rng, tables),
@@ -96,6 +96,7 @@ fn damage_one(rng: &mut Rng, tables: &mut Planner) {
             *tables = Planner::from_bytes(bytes);
         }
         14 => damage_clocks(rng, tables),
+        15 => tables.form = rng.pick(&[0, 1, 1, 2, 256, 1 << 31, u32::MAX]),
         _ => stir_unused(rng, tables),
     }
 }
@@ -155,7 +156,7 @@ fn clocks_of_k(tally: &mut Tally, rng: &mut Rng) {
 }
 
 /// Every question, and loads on top of such a planner.
-fn ask(tally: &mut Tally, case: u64, tables: &Planner, rng: &mut Rng) {
+pub fn ask(tally: &mut Tally, case: u64, tables: &Planner, rng: &mut Rng) {
     tally.case(case, &tables.to_bytes());
     let told = plan_of(tables);
     tally.saw("tables", u32::from(told.is_none()) * 20);

@@ -1,6 +1,7 @@
 //! cp_field on the fields of document 02: lengths and numbers near the ends of what is allowed.
 
 use super::fields::ask;
+use crate::answers::NUMBERS;
 use crate::ffi;
 use crate::gen::Piece;
 use crate::report::Tally;
@@ -26,7 +27,8 @@ fn told(tally: &mut Tally, piece: &Piece, numbers: [u64; 3], fits: bool) {
     let got = ffi::field(&plan, 0);
     tally.same(format_args!("the refusal"), got.refusal, if fits { 0 } else { 5 });
     let numbers = if fits { numbers } else { [0; 3] };
-    tally.same(format_args!("the numbers"), got.numbers, [numbers[0], numbers[1], numbers[2], 0, 0]);
+    tally.same(format_args!("the numbers"), &got.numbers[..3], &numbers[..]);
+    tally.same(format_args!("the other numbers"), &got.numbers[3..], &[0; NUMBERS - 3][..]);
 }
 
 fn extras(tally: &mut Tally) {

@@ -70,7 +70,7 @@ pub fn sizes(tally: &mut Tally, planner: &Planner, load: Load) {
             load(tally, planner, &plan);
         }
         for size in [16_383, 16_384, 16_385, 16_386] {
-            for tag in [1, 2, 3, 4, 5, 6, 7] {
+            for tag in [1, 2, 3, 4, 5, 6, 7, 0x11, 0x13] {
                 let plan = sized::topped_up(&good, tag, size);
                 tally.case(case, &plan);
                 load(tally, planner, &plan);

@@ -1,8 +1,8 @@
-//! Rows of loads in either reading, good and bad, on one planner, with questions between them.
+//! Rows of loads in either reading, good and bad and of either form, on one planner, with questions between them.
 
 use super::{ask_all, loads::load_as};
 use crate::ffi;
-use crate::gen::{self, damage, encode, sized, strict};
+use crate::gen::{self, damage, encode, sized, strict, newer_damage};
 use crate::model::read::{read_as, Reading};
 use crate::model::Plan;
 use crate::report::Tally;
@@ -22,6 +22,7 @@ pub fn run(tally: &mut Tally) {
                 other = strict::sorted(&other);
             }
             let bytes = match rng.below(8) {
+                _ if rng.chance(1, 3) => newer_damage::some(&mut rng),
                 0..=2 => encode(&other),
                 3 => damage::damaged(&mut rng, &good),
                 4 => sized::sized(&mut rng, &good, 16_385),
@@ -31,11 +32,13 @@ pub fn run(tally: &mut Tally) {
             tally.case(case, &bytes);
             planner = load_as(tally, reading, &planner, &bytes);
             if let Ok(plan) = read_as(reading, &bytes) {
+                tally.saw("held, by form", plan.form.number());
                 held = Some(plan);
             }
             ask_all(tally, &planner, held.as_ref(), &mut rng);
         }
     }
+    tally.must_have_seen("held, by form", &[0, 1]);
     tally.must_have_seen("load", &[0, 1]);
     tally.must_have_seen("load_strict", &[0, 1, 12]);
     tally.must_have_seen("check", &[0, 10, 20, 21]);

@@ -3,10 +3,10 @@
 use super::{durations, span_ends, worked};
 use crate::answers::Planner;
 use crate::ffi;
-use crate::gen::{self, encode, fit::fit, kinds};
+use crate::gen::{self, encode, fit::fit, kinds, newer, Piece};
 use crate::model::read::read;
 use crate::model::spans::spans;
-use crate::model::Plan;
+use crate::model::{Form, Plan};
 use crate::report::Tally;
 use crate::rng::Rng;
 use crate::simulate::cuts::{self, aligned, permitted, Cut};
@@ -91,20 +91,30 @@ fn accepted(tally: &mut Tally, plan: &Plan, duration: u64, rng: &mut Rng) {
     }
 }
 
+/// A plan to follow frames through, and its bytes; some have longer routes than the older form has.
+fn some_plan(rng: &mut Rng) -> (Vec<Piece>, Vec<u8>) {
+    let mut pieces = match rng.below(4) {
+        0 => kinds::gaps(rng),
+        1 => kinds::tight(rng),
+        _ => kinds::small(rng),
+    };
+    let long = rng.chance(1, 4);
+    if long {
+        newer::lengthen(rng, &mut pieces);
+    }
+    gen::bound(&mut pieces, 3_000);
+    if rng.chance(2, 3) {
+        fit(rng, &mut pieces);
+    }
+    let bytes = if long { newer::encode(&newer::merged(&pieces)) } else { encode(&pieces) };
+    (pieces, bytes)
+}
+
 pub fn run(tally: &mut Tally) {
     worked::run(tally);
     for case in 0..tally.cases {
         let mut rng = tally.rng(case);
-        let mut pieces = match rng.below(4) {
-            0 => kinds::gaps(&mut rng),
-            1 => kinds::tight(&mut rng),
-            _ => kinds::small(&mut rng),
-        };
-        gen::bound(&mut pieces, 3_000);
-        if rng.chance(2, 3) {
-            fit(&mut rng, &mut pieces);
-        }
-        let bytes = encode(&pieces);
+        let (pieces, bytes) = some_plan(&mut rng);
         tally.case(case, &bytes);
         let plan = read(&bytes).expect("a good plan");
         let planner = ffi::load(&ffi::empty(), &bytes).0;
@@ -115,6 +125,9 @@ pub fn run(tally: &mut Tally) {
         for duration in asked.into_iter().take(12) {
             let answer = ffi::check(&planner, duration);
             tally.saw("check", answer.refusal);
+            if plan.flows.values().any(|flow| flow.route.len() == Form::Newer.most_hops()) {
+                tally.saw("check with the longest route", answer.refusal);
+            }
             if gen::has_extra(&pieces) {
                 tally.saw("check with extra bytes", answer.refusal);
             }
@@ -134,6 +147,7 @@ pub fn run(tally: &mut Tally) {
         }
     }
     tally.must_have_seen("check", &[0, 21]);
+    tally.must_have_seen("check with the longest route", &[0, 21]);
     tally.must_have_seen("check with extra bytes", &[0, 21]);
     tally.must_have_seen("check with jitter", &[0, 21]);
     tally.must_have_seen("check with clocks, not widened", &[0, 21]);

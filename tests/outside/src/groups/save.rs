@@ -32,9 +32,9 @@ pub fn lengths(needed: usize, rng: &mut Rng) -> Vec<usize> {
     around.chain([0, 1, rng.index(needed), needed + rng.index(1_000), 16_384, 70_000]).collect()
 }
 
-/// What a planner saves into a buffer that every plan fits; nothing where it is refused.
+/// What a planner saves into a buffer that every plan fits, and whatever tables say; nothing where it is refused.
 pub fn saved(planner: &Planner) -> Vec<u8> {
-    let mut buffer = vec![0; 16_384];
+    let mut buffer = vec![0; 20_000];
     let answer = ffi::save(planner, &mut buffer);
     buffer.truncate(if answer.refusal == 0 { answer.first as usize } else { 0 });
     buffer

@@ -4,11 +4,15 @@ use super::clocks::with_clocks;
 use super::jitter::with_jitter;
 use super::known::K;
 use super::runs::{all_leave, left_unsent};
+use crate::answers::Answer;
+use crate::ffi;
+use crate::gen::newer::{encode, Field};
 use crate::model::read::read;
 use crate::model::Plan;
 use crate::report::Tally;
 use crate::simulate::cuts::{aligned, permitted, Cut};
 use crate::simulate::emissions::{keeps_contract, nominals, Emission};
+use crate::simulate::{Outcome, Run};
 
 fn emission(one: &[u64], two: &[u64]) -> Emission {
     Emission::from([(1, one.to_vec()), (2, two.to_vec())])
@@ -80,7 +84,32 @@ fn permitted_cuts(tally: &mut Tally) {
     may_cut(tally, &k, &[0, 141_999, 142_000], &[0, 0, 1], true);
 }
 
+/// A flow over 24 ports: a frame leaves the last one in the 24th cycle after its own. 22,000 is just enough for its 2,000 wire bits.
+fn over_24_ports(tally: &mut Tally) {
+    let mut fields = vec![Field::new(0x11, &[(1_000, 4), (1_000_000, 4), (0, 4), (0, 4), (0, 4)])];
+    fields.extend((1..=24).map(|number| Field::new(0x12, &[(number, 2), (100, 4), (0, 2), (0, 2)])));
+    let mut numbers = vec![(1, 2), (100_000, 4), (1, 2), (230, 2), (0, 4)];
+    numbers.extend((1..=24).rev().map(|port| (port, 2)));
+    fields.push(Field::new(0x13, &numbers));
+    let bytes = encode(&fields);
+    tally.case(0, &bytes);
+    let (plan, planner) = (read(&bytes).expect("a plan"), ffi::load(&ffi::empty(), &bytes).0);
+    tally.same(format_args!("22,000"), ffi::check(&planner, 22_000), Answer::new(0, 0, 0));
+    tally.same(format_args!("21,999"), ffi::check(&planner, 21_999), Answer::new(21, 1, 24));
+    let emission = Emission::from([(1, vec![0, 100_000])]);
+    let cut = aligned(&emission, 22_000);
+    all_leave(tally, &plan, 22_000, &emission, &cut);
+    let left = match Run::new(&plan, 22_000, &cut).follow() {
+        Outcome::AllSent(left) => left.iter().map(|left| left.cycle).collect(),
+        Outcome::Unsent { .. } => Vec::new(),
+    };
+    tally.same(format_args!("the cycles in which frames of cycles 0 and 4 leave"), left, vec![24, 28]);
+    let unsent = left_unsent(tally, &plan, 21_999, &emission, &aligned(&emission, 21_999));
+    tally.same(format_args!("21,999 leaves a frame unsent"), unsent, true);
+}
+
 pub fn run(tally: &mut Tally) {
+    over_24_ports(tally);
     late(tally);
     widened(tally);
     permitted_cuts(tally);

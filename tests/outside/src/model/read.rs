@@ -1,7 +1,7 @@
-//! Reading a plan's bytes, loosely or strictly, with refusals 1 to 9 and 12.
+//! Reading a plan's bytes of either form, loosely or strictly, with refusals 1 to 9 and 12.
 
 use super::field::{field_at, repeats, Field};
-use super::{Clocks, Flow, Plan, Port};
+use super::{Clocks, Flow, Form, Plan, Port};
 use crate::answers::Answer;
 use std::collections::BTreeMap;
 
@@ -15,7 +15,7 @@ pub enum Reading {
 
 #[derive(Default)]
 struct Gathered {
-    header: Option<(u64, u64)>,
+    header: Option<(u64, u64, Clocks)>,
     clocks: Option<Clocks>,
     ports: BTreeMap<u64, Port>,
     flows: BTreeMap<u64, Flow>,
@@ -29,8 +29,8 @@ struct Gathered {
 }
 
 impl Gathered {
-    /// Tests 6, 12 where the reading is strict, and 7; then the field is kept.
-    fn take(&mut self, field: Field, offset: usize, reading: Reading) -> Result<(), u32> {
+    /// Tests 6, 12 where order is asked for, and 7; then the field is kept.
+    fn take(&mut self, field: Field, offset: usize, in_order: bool) -> Result<(), u32> {
         let again = match &field {
             Field::Header { .. } => self.header.is_some(),
             Field::Port { number, .. } => self.ports.contains_key(number),
@@ -43,15 +43,15 @@ impl Gathered {
             return Err(6);
         }
         let rank = field.rank();
-        if reading == Reading::Strict && self.ranks.iter().any(|in_front| *in_front > rank) {
+        if in_order && self.ranks.iter().any(|in_front| *in_front > rank) {
             return Err(12);
         }
         self.ranks.push(rank);
         match field {
-            Field::Header { guard, top } => self.header = Some((guard, top)),
+            Field::Header { guard, top, clocks } => self.header = Some((guard, top, clocks)),
             Field::Clocks(clocks) => self.clocks = Some(clocks),
-            Field::Port { number, rate, blocker } => {
-                self.ports.insert(number, Port { rate, blocker, extra: 0 });
+            Field::Port { number, port } => {
+                self.ports.insert(number, port);
             }
             Field::Extra { number, bytes } => {
                 self.extras.insert(number, (bytes, offset));
@@ -69,8 +69,8 @@ impl Gathered {
     }
 
     /// Tests 8 and 9, routes before jitter before extra bytes; then each flow and each port gets its own.
-    fn close(mut self, plan_length: usize) -> Result<Plan, (u32, usize)> {
-        let (guard, top) = self.header.ok_or((8, plan_length))?;
+    fn close(mut self, form: Form, plan_length: usize) -> Result<Plan, (u32, usize)> {
+        let (guard, top, clocks) = self.header.ok_or((8, plan_length))?;
         if self.flows.is_empty() {
             return Err((8, plan_length));
         }
@@ -88,7 +88,7 @@ impl Gathered {
         for (port, (bytes, _)) in self.extras {
             self.ports.get_mut(&port).expect("a known port").extra = bytes;
         }
-        Ok(Plan { guard, top, clocks: self.clocks.unwrap_or_default(), ports: self.ports, flows: self.flows })
+        Ok(Plan { form, guard, top, clocks: self.clocks.unwrap_or(clocks), ports: self.ports, flows: self.flows })
     }
 }
 
@@ -102,19 +102,26 @@ pub fn read(plan: &[u8]) -> Result<Plan, (u32, usize)> {
     read_as(Reading::Loose, plan)
 }
 
-/// A plan from its bytes in either reading.
+/// A plan from its bytes in either reading; its first byte says of which form it is.
 pub fn read_as(reading: Reading, plan: &[u8]) -> Result<Plan, (u32, usize)> {
+    read_form(Form::of(plan), reading, plan)
+}
+
+/// A plan from its bytes by the tags of one form, whatever its first byte is. The newer form has one order in either
+/// reading.
+pub fn read_form(form: Form, reading: Reading, plan: &[u8]) -> Result<Plan, (u32, usize)> {
     if plan.is_empty() || plan.len() > 16_384 {
         return Err((1, 0));
     }
+    let in_order = form == Form::Newer || reading == Reading::Strict;
     let mut gathered = Gathered::default();
     let mut offset = 0;
     while offset < plan.len() {
-        let (field, after) = field_at(plan, offset).map_err(|refusal| (refusal, offset))?;
-        gathered.take(field, offset, reading).map_err(|refusal| (refusal, offset))?;
+        let (field, after) = field_at(form, plan, offset).map_err(|refusal| (refusal, offset))?;
+        gathered.take(field, offset, in_order).map_err(|refusal| (refusal, offset))?;
         offset = after;
     }
-    gathered.close(plan.len())
+    gathered.close(form, plan.len())
 }
 
 /// What the load must answer.

@@ -1,7 +1,7 @@
-//! A plan written in strict order, without the fields that say what their absence says (document 02), and how a writer of fields
-//! answers and fills its buffer.
+//! A plan written in strict order in the form in which it was read, without the fields that say what their absence says
+//! (document 02), and how a writer of fields answers and fills its buffer.
 
-use super::Plan;
+use super::{Form, Plan};
 use crate::answers::Answer;
 
 /// A field: its tag, and the numbers of its value, each with how many bytes it has.
@@ -15,6 +15,29 @@ pub fn put(out: &mut Vec<u8>, tag: u8, numbers: &[(u64, u32)]) {
 
 /// The bytes of a plan in strict order.
 pub fn written(plan: &Plan) -> Vec<u8> {
+    match plan.form {
+        Form::Older => in_older(plan),
+        Form::Newer => in_newer(plan),
+    }
+}
+
+/// The header with the clocks, each port with its extra bytes, each flow with its jitter.
+fn in_newer(plan: &Plan) -> Vec<u8> {
+    let (mut out, clocks) = (Vec::new(), plan.clocks);
+    let numbers = [plan.guard, plan.top, clocks.drift, clocks.timing_jitter, clocks.sync_error];
+    put(&mut out, 0x11, &numbers.map(|number| (number, 4)));
+    for (number, port) in &plan.ports {
+        put(&mut out, 0x12, &[(*number, 2), (port.rate, 4), (port.blocker, 2), (port.extra, 2)]);
+    }
+    for (number, flow) in &plan.flows {
+        let mut numbers = vec![(*number, 2), (flow.period, 4), (flow.count, 2), (flow.length, 2), (flow.jitter, 4)];
+        numbers.extend(flow.route.iter().map(|port| (*port, 2)));
+        put(&mut out, 0x13, &numbers);
+    }
+    out
+}
+
+fn in_older(plan: &Plan) -> Vec<u8> {
     let mut out = Vec::new();
     put(&mut out, 1, &[(plan.guard, 4), (plan.top, 4)]);
     for (number, port) in &plan.ports {

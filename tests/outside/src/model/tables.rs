@@ -1,7 +1,8 @@
 //! Planner values: the one that a load makes of a plan, which ones hold a plan that the rules accept, and the plan that such a one tells.
 
-use super::field::{clocks_fit, repeats};
-use super::{Clocks, Flow, Plan, Port};
+use super::field::repeats;
+use super::values::{clocks_fit, flow_fits, header_fits, port_fits};
+use super::{Clocks, Flow, Form, Plan, Port};
 use crate::answers::{Planner, STRIDE};
 use std::collections::BTreeMap;
 
@@ -13,17 +14,17 @@ fn ports_of(tables: &Planner) -> Option<BTreeMap<u64, Port>> {
         if (rate, blocker, extra) == (0, 0, 0) {
             continue;
         }
-        let fits = (1..=100_000).contains(&rate) && (blocker == 0 || (64..=2000).contains(&blocker)) && extra <= 64;
-        if !fits {
+        let port = Port { rate, blocker, extra };
+        if !port_fits(&port) {
             return None;
         }
-        ports.insert(slot as u64 + 1, Port { rate, blocker, extra });
+        ports.insert(slot as u64 + 1, port);
     }
     Some(ports)
 }
 
 /// The flow of a slot: none for a value no load leaves, an empty one for an absent flow.
-fn flow_of(tables: &Planner, slot: usize, ports: &BTreeMap<u64, Port>) -> Option<Option<Flow>> {
+fn flow_of(tables: &Planner, slot: usize, form: Form, ports: &BTreeMap<u64, Port>) -> Option<Option<Flow>> {
     let hops = usize::from(tables.hops[slot]);
     let period = u64::from(tables.periods[slot]);
     let (count, length) = (u64::from(tables.counts[slot]), u64::from(tables.lengths[slot]));
@@ -31,46 +32,42 @@ fn flow_of(tables: &Planner, slot: usize, ports: &BTreeMap<u64, Port>) -> Option
     if (hops, period, count, length, jitter) == (0, 0, 0, 0, 0) {
         return Some(None);
     }
-    let fits = (1..=16).contains(&hops)
-        && (1_000..=100_000_000).contains(&period)
-        && (1..=64).contains(&count)
-        && (64..=2000).contains(&length)
-        && jitter <= 10_000_000;
-    if !fits {
+    if !(1..=form.most_hops()).contains(&hops) {
         return None;
     }
     let route: Vec<u64> = tables.routes[slot * STRIDE..][..hops].iter().map(|port| u64::from(*port)).collect();
-    let sound = !repeats(&route) && route.iter().all(|port| ports.contains_key(port));
-    sound.then_some(Some(Flow { period, count, length, jitter, route }))
+    let flow = Flow { period, count, length, jitter, route };
+    let sound = !repeats(&flow.route) && flow.route.iter().all(|port| ports.contains_key(port));
+    (flow_fits(&flow) && sound).then_some(Some(flow))
 }
 
-/// The plan in a planner's tables, or none where the rules accept no such tables.
+/// The plan in a planner's tables, or none where the rules accept no such tables, whatever their form. How many bytes it would have is
+/// not asked.
 pub fn plan_of(tables: &Planner) -> Option<Plan> {
+    let form = Form::ALL.into_iter().find(|form| form.number() == tables.form)?;
     let (guard, top) = (u64::from(tables.guard), u64::from(tables.top));
-    if guard > 1_000_000 || !(1..=100_000_000).contains(&top) {
-        return None;
-    }
     let clocks = Clocks {
         drift: u64::from(tables.drift),
         timing_jitter: u64::from(tables.timing_jitter),
         sync_error: u64::from(tables.sync_error),
     };
-    if !clocks_fit(&clocks) {
+    if !header_fits(guard, top) || !clocks_fit(&clocks) {
         return None;
     }
     let ports = ports_of(tables)?;
     let mut flows = BTreeMap::new();
     for slot in 0..256 {
-        if let Some(flow) = flow_of(tables, slot, &ports)? {
+        if let Some(flow) = flow_of(tables, slot, form, &ports)? {
             flows.insert(slot as u64 + 1, flow);
         }
     }
-    (!flows.is_empty()).then_some(Plan { guard, top, clocks, ports, flows })
+    (!flows.is_empty()).then_some(Plan { form, guard, top, clocks, ports, flows })
 }
 
 /// The tables that hold a plan: port n and flow n in slot n - 1, routes a stride apart, all else 0.
 pub fn tables_of(plan: &Plan) -> Planner {
     let mut tables = Planner::zero();
+    tables.form = plan.form.number();
     tables.guard = plan.guard as u32;
     tables.top = plan.top as u32;
     tables.drift = plan.clocks.drift as u32;

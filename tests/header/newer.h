@@ -1,0 +1,94 @@
+/* K in the newer form: held, saved and read field by field; the converters on K, on a route of seventeen ports and on plans that
+ * they refuse. */
+static const uint8_t K_2[74] = {
+    0x11, 0x00, 0x14, 0x00, 0x00, 0x03, 0xE8, 0x00, 0x0F, 0x42, 0x40, 0, 0, 0, 0, 0, 0, 0, 0, 0, 0, 0, 0,
+    0x12, 0x00, 0x0A, 0x00, 0x01, 0x00, 0x00, 0x00, 0x64, 0x00, 0x00, 0x00, 0x00,
+    0x13, 0x00, 0x10, 0x00, 0x01, 0x00, 0x01, 0x86, 0xA0, 0x00, 0x01, 0x00, 0xE6, 0, 0, 0, 0, 0x00, 0x01,
+    0x13, 0x00, 0x10, 0x00, 0x02, 0x00, 0x01, 0xAD, 0xB0, 0x00, 0x01, 0x02, 0x5D, 0, 0, 0, 0, 0x00, 0x01,
+};
+/* Offsets in K_2: the fields after the header. */
+enum { PORT_2_AT = 23, FLOW_1_2_AT = 36, FLOW_2_2_AT = 55 };
+
+typedef cp_answer (*converter)(const uint8_t *plan, size_t length, uint8_t *buffer, size_t room);
+
+/* A conversion into so many bytes of a buffer whose bytes were 128 + position: its first ones become the plan, or nothing changes. */
+static void converted(const char *call, converter convert, const uint8_t *plan, size_t length, size_t room, cp_answer want,
+                      const uint8_t *bytes) {
+  uint8_t buffer[BUFFER];
+  size_t written = want.refusal == 0 ? (size_t)want.first : 0;
+  for (size_t at = 0; at < BUFFER; at++) buffer[at] = (uint8_t)(128 + at);
+  same_answer(call, convert(plan, length, buffer, room), want);
+  for (size_t at = 0; at < BUFFER; at++) same_slot(call, "buffer", at, buffer[at], at < written ? bytes[at] : 128 + at);
+}
+
+/* Buffers around the length needed, none and more. */
+static void converted_to(const char *call, converter convert, const uint8_t *plan, size_t length, const uint8_t *bytes, size_t needed) {
+  for (size_t room = needed - 2; room <= needed + 2; room++)
+    converted(call, convert, plan, length, room, answer(room < needed ? 13 : 0, needed, 0), bytes);
+  converted(call, convert, plan, length, 0, answer(13, needed, 0), bytes);
+  converted(call, convert, plan, length, BUFFER, answer(0, needed, 0), bytes);
+}
+
+static void not_converted(const char *call, converter convert, const uint8_t *plan, size_t length, cp_answer want) {
+  for (size_t room = 0; room <= BUFFER; room += 30) converted(call, convert, plan, length, room, want, plan);
+}
+
+/* Seventeen ports of 100 Mbit/s behind K's header, and a flow over all of them. */
+static size_t seventeen_ports(uint8_t *plan) {
+  size_t length = PORT_2_AT;
+  memcpy(plan, K_2, PORT_2_AT);
+  for (uint8_t port = 1; port <= 17; port++, length += 13) {
+    memcpy(plan + length, K_2 + PORT_2_AT, 13);
+    plan[length + 4] = port;
+  }
+  memcpy(plan + length, K_2 + FLOW_1_2_AT, 17);
+  plan[length + 2] = 14 + 2 * 17;
+  for (uint8_t hop = 0; hop < 17; hop++) {
+    plan[length + 17 + 2 * hop] = 0;
+    plan[length + 18 + 2 * hop] = 17 - hop;
+  }
+  return length + 17 + 2 * 17;
+}
+
+static void converters(void) {
+  static const size_t exchanged[] = {PORT_AT, FLOW_2_AT, 0, FLOW_1_AT};
+  uint8_t plan[320];
+  size_t length = fields_of_k(plan, exchanged, 4);
+  converted_to("cp_upgrade of K", cp_upgrade, K, sizeof K, K_2, sizeof K_2);
+  converted_to("cp_upgrade of K in another order", cp_upgrade, plan, length, K_2, sizeof K_2);
+  converted_to("cp_downgrade of K", cp_downgrade, K_2, sizeof K_2, K, sizeof K);
+  not_converted("cp_upgrade of K in the newer form", cp_upgrade, K_2, sizeof K_2, answer(3, 0, 0));
+  not_converted("cp_downgrade of K in the older form", cp_downgrade, K, sizeof K, answer(3, 0, 0));
+  not_converted("cp_upgrade of 51 bytes of K", cp_upgrade, K, sizeof K - 1, answer(2, FLOW_2_AT, 0));
+  not_converted("cp_downgrade of 73 bytes of K", cp_downgrade, K_2, sizeof K_2 - 1, answer(2, FLOW_2_2_AT, 0));
+  memcpy(plan, K_2 + PORT_2_AT, 13);
+  memcpy(plan + 13, K_2, PORT_2_AT);
+  memcpy(plan + FLOW_1_2_AT, K_2 + FLOW_1_2_AT, sizeof K_2 - FLOW_1_2_AT);
+  not_converted("cp_downgrade of K, its port first", cp_downgrade, plan, sizeof K_2, answer(12, 13, 0));
+  same_answer("cp_load of K in the newer form, its port first", cp_load(cp_empty(), plan, sizeof K_2).answer, answer(3, 0, 0));
+  length = seventeen_ports(plan);
+  not_converted("cp_downgrade of seventeen ports", cp_downgrade, plan, length, answer(16, 23 + 17 * 13, 0));
+  same_answer("cp_load of seventeen ports", cp_load(cp_empty(), plan, length).answer, answer(0, 17, 1));
+}
+
+static void newer(cp_planner k) {
+  cp_planner left = planner_of_k(), held;
+  left.form = 2;
+  held = loaded("cp_load of K in the newer form", k, K_2, sizeof K_2, answer(0, 1, 2), left);
+  loaded_by(cp_load_strict, "cp_load_strict of K in the newer form", cp_empty(), K_2, sizeof K_2, answer(0, 1, 2), left);
+  loaded("cp_load of 73 bytes of K in the newer form", k, K_2, sizeof K_2 - 1, answer(2, FLOW_2_2_AT, 0), k);
+  rows_of_k(held);
+  saved_as("K in the newer form", held, K_2, sizeof K_2, left);
+  k = loaded("cp_load of K after K in the newer form", held, K, sizeof K, answer(0, 1, 2), planner_of_k());
+  saved_as("K after K in the newer form", k, K, sizeof K, planner_of_k());
+  held.form = 3;
+  saved("K, form 2", held, BUFFER, answer(20, 0, 0), K);
+  field_of("cp_field of the header", K_2, sizeof K_2, 0,
+           (cp_field_read){.tag = 0x11, .offset = PORT_2_AT, .numbers = {1000, 1000000}});
+  field_of("cp_field of the port", K_2, sizeof K_2, PORT_2_AT,
+           (cp_field_read){.tag = 0x12, .offset = FLOW_1_2_AT, .numbers = {1, 100}});
+  field_of("cp_field of flow 2", K_2, sizeof K_2, FLOW_2_2_AT,
+           (cp_field_read){.tag = 0x13, .offset = sizeof K_2, .numbers = {2, 110000, 1, 605, 0, 1}});
+  same("cp_repeats of flow 2", "the answer", cp_repeats(0x13, K_2 + FLOW_2_2_AT + 3, 16), 0);
+  converters();
+}
