@@ -51,7 +51,7 @@ static cp_batch see_batch(void) { SEEN; return batch; }
 static cp_place_outcome see_place(cp_batch b, uint64_t s, const uint8_t *p, size_t n) { SEEN; (void)b, (void)s, (void)p, (void)n; return placed; }
 static cp_serve_outcome see_serve(cp_batch b) { SEEN; (void)b; return served; }
 static cp_collect_outcome see_collect(cp_batch b, uint64_t s) { SEEN; (void)b, (void)s; return collected; }
-static uint8_t see_repeats(const uint8_t *b, size_t n) { SEEN; (void)b, (void)n; return 0; }
+static uint8_t see_repeats(uint32_t t, const uint8_t *b, size_t n) { SEEN; (void)t, (void)b, (void)n; return 0; }
 
 /* The bytes below the caller that the last measured call went through, and those that it copied. */
 static size_t used, copied;
@@ -201,8 +201,8 @@ MEASURED(on_field) {
 }
 
 MEASURED(on_repeats) {
-  MEASURE(uint8_t (*volatile call)(const uint8_t *, size_t), see_repeats, cp_repeats,
-          repeats = call(accepted.bytes + accepted.length - 42, 42));
+  MEASURE(uint8_t (*volatile call)(uint32_t, const uint8_t *, size_t), see_repeats, cp_repeats,
+          repeats = call(3, accepted.bytes + accepted.length - 42, 42));
   return unused;
 }
 

@@ -14,7 +14,7 @@
  *  10 a duration or start of 0 or above top         25 no span ends at the duration or later
  *  11 a scratch of fewer than 64 numbers            26 the steps ended before the search did
  *  15 a batch has no such slot                      27 the slot of a batch has a plan
- *                                                   28 the slot of a batch has no final answer
+ *  16 a route is too long for the older form        28 the slot of a batch has no final answer
  *                                                   29 a flow that is not in the plan
  * Durations, intervals, guard band, jitter and synchronization error are in ns, rates in Mbit/s, lengths in bytes. Stack of a call, beside the planner and the answer that the
  * caller holds: a load 31 KB, cp_spans 21 KB, another question 11.4 KB. No heap. */
@@ -33,7 +33,8 @@ typedef struct { uint32_t drift, timing_jitter, sync_error; } cp_clock;
 /* Places in the table of routes from one flow's route to the next. */
 #define CP_ROUTE_STRIDE 24
 
-/* Plain data, 9,944 bytes. Keep it as the last call left it; do not look inside. */
+/* Plain data, 9,944 bytes. Keep it as the last call left it; do not look inside. form is that of the plan's bytes: 0 for the older form,
+ * 1 for the newer one. Any other number, and 0 with a route of over sixteen ports, is what no call leaves: no plan is held. */
 typedef struct {
   uint32_t form, guard, top;
   cp_clock clock;
@@ -50,13 +51,15 @@ typedef struct { uint32_t refusal; uint64_t first, second; } cp_answer;
 typedef struct { cp_planner planner; cp_answer answer; } cp_load_outcome;
 typedef struct { uint32_t refusal; int64_t slack; } cp_slack_answer;
 typedef struct { uint32_t refusal; uint64_t first, second, steps; } cp_fixed_point_answer;
-typedef struct { uint32_t refusal, tag; uint64_t offset; uint64_t numbers[5]; } cp_field_read;
+typedef struct { uint32_t refusal, tag; uint64_t offset; uint64_t numbers[6]; } cp_field_read;
 
 /* The planner that holds no plan. */
 cp_planner cp_empty(void);
 
-/* Result: first = port fields, second = flow fields, planner = the one that holds this plan.
- * Refusal 1 to 9: first = offset (place), second = 0, planner = the one given. Fields may stand in any order. */
+/* A plan whose first byte is 0x11 is of the newer form, with tags 0x11 to 0x13; any other is of the older one, with tags 1 to 6. The
+ * other form's tags are unknown in it. Result: first = port fields, second = flow fields, planner = the one that holds this plan.
+ * Refusal 1 to 9: first = offset (place), second = 0, planner = the one given. Fields of the older form may stand in any order; those of
+ * the newer one stand in strict order, and refusal 12 is as below. */
 cp_load_outcome cp_load(cp_planner planner, const uint8_t *plan, size_t length);
 
 /* The same by the strict reading: the header first, then the ports, the flows and the later tags, by tag and then by number.
@@ -107,11 +110,22 @@ cp_answer cp_span(cp_planner planner, uint64_t duration);
  * are, second = 0. Neither writes a record. */
 cp_answer cp_spans(cp_planner planner, cp_span_record *list, size_t size);
 
-/* The held plan written into the buffer: its fields in strict order, without those that say what their absence says (extra bytes
- * or a jitter of 0, clocks that are all 0). Result: first = the length written, at most 15,002 bytes, second = 0; the bytes behind
- * it remain. Refusal 20: 0, 0. 13, the buffer is shorter than the plan: first = the length needed, second = 0. Neither writes a
- * byte. Either load accepts what was written and holds the same plan. */
+/* The held plan written into the buffer in the form in which it was read: its fields in strict order, in the older form without those
+ * that say what their absence says (extra bytes or a jitter of 0, clocks that are all 0). Result: first = the length written, at most
+ * 15,002 bytes in the older form and 16,384 in the newer, second = 0; the bytes behind it remain. Refusal 20: 0, 0. 13, the buffer is
+ * shorter than the plan: first = the length needed, second = 0. Neither writes a byte. Either load accepts what was written and holds
+ * the same plan. Tables of the newer form that no load left may say more than 16,384 bytes, up to 17,495: these are written too, and no
+ * load accepts them. */
 cp_answer cp_save(cp_planner planner, uint8_t *buffer, size_t length);
+
+/* The converters. cp_upgrade reads a plan of the older form loosely and writes it in the newer one, at most 13,399 bytes; cp_downgrade
+ * reads a plan of the newer form and writes it in the older one as cp_save does, at most 15,002 bytes. Each knows only the tags of the
+ * form that it reads, whatever the first byte is. Result: first = the length written, second = 0; the bytes behind it remain. Refusal 1
+ * to 9, and for cp_downgrade 12, as from a load; then, for cp_downgrade, 16 for the first flow of over sixteen ports: first = offset
+ * (place), second = 0. Then 13, the buffer is shorter than what is written: first = the length needed, second = 0. A refusal writes no
+ * byte. */
+cp_answer cp_upgrade(const uint8_t *plan, size_t length, uint8_t *buffer, size_t room);
+cp_answer cp_downgrade(const uint8_t *plan, size_t length, uint8_t *buffer, size_t room);
 
 /* The gate control list of an admissible duration for two cycles, written into the buffer as fields of tag 0x21, length 5: gate
  * states (1 byte; bit q, from the lowest as 0, is 1 where queue q is open) and interval (4 bytes, ns, high byte first). Each cycle
@@ -156,15 +170,18 @@ cp_serve_outcome cp_batch_serve(cp_batch batch);
  * and can be used again. Refusal 15, no such slot, and 28, no final answer there: 0, 0, 0; the batch is as it was. */
 cp_collect_outcome cp_batch_collect(cp_batch batch, uint64_t slot);
 
-/* The field at an offset of a plan, by tests 2 to 5. Result: tag 1 to 6; offset = the one after the field; numbers:
+/* The field at an offset of a plan, by tests 2 to 5; the plan's first byte says of which form it is, whatever the offset. Result: the
+ * tag; offset = the one after the field; numbers:
  * 1, header: guard, top; 2, port: number, rate, blocker; 3, flow: number, period, count, length, hops; 4, extra bytes per
  * frame at a port: port number, extra bytes; 5, release jitter of a flow: flow number, jitter; 6, clocks: drift,
- * timing jitter, synchronization error; 0 in the others.
+ * timing jitter, synchronization error; and in the newer form 0x11, header: guard, top, drift, timing jitter, synchronization error;
+ * 0x12, port: number, rate, blocker, extra bytes; 0x13, flow: number, period, count, length, jitter, hops; 0 in the others.
  * Refusal 2 to 5: offset = the one asked, tag and numbers 0. */
 cp_field_read cp_field(const uint8_t *plan, size_t length, size_t offset);
 
-/* Whether the value of a flow field names a port twice (test 7): 1 or 0. */
-uint8_t cp_repeats(const uint8_t *value, size_t length);
+/* Whether the value of a flow field of this tag names a port twice (test 7): 1 or 0. Tag 0x13 is the newer form's flow; any other number
+ * counts as 3, the older one's. */
+uint8_t cp_repeats(uint32_t tag, const uint8_t *value, size_t length);
 
 #ifdef __cplusplus
 }

@@ -7,6 +7,7 @@ use crate::valid::valid_plan;
 
 pub const PORTS: usize = 64;
 pub const FLOWS: usize = 256;
+/// In a plan of the older form.
 pub const MAX_HOPS: usize = 16;
 pub use crate::answers::STRIDE;
 
@@ -25,7 +26,7 @@ fn add_route<const CHECKED: bool>(planner: &Planner, slot: usize, frames: u64, o
             out[port] += frames * wire_bits(length, planner.extras[port]);
         }
     } else {
-        // The form test found at most 16 hops, each between 1 and 64.
+        // The form test found at most 24 hops, each between 1 and 64.
         for &port in unsafe { planner.routes.get_unchecked(route) } {
             let port = port as usize - 1;
             let extra = unsafe { *planner.extras.get_unchecked(port) };

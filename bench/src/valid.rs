@@ -23,7 +23,16 @@ fn valid_route(planner: &Planner, slot: usize, hops: usize) -> bool {
     true
 }
 
-fn valid_flow(planner: &Planner, slot: usize) -> bool {
+/// The most ports of a route in the form of this number.
+fn most_hops(form: u32) -> Option<usize> {
+    match form {
+        0 => Some(MAX_HOPS),
+        1 => Some(STRIDE),
+        _ => None,
+    }
+}
+
+fn valid_flow(planner: &Planner, slot: usize, most_hops: usize) -> bool {
     let (period, count) = (planner.periods[slot], planner.counts[slot]);
     let (length, jitter) = (planner.lengths[slot], planner.jitters[slot]);
     let hops = planner.hops[slot] as usize;
@@ -34,17 +43,24 @@ fn valid_flow(planner: &Planner, slot: usize) -> bool {
         && (1..=64).contains(&count)
         && (64..=2_000).contains(&length)
         && jitter <= 10_000_000
-        && (1..=MAX_HOPS).contains(&hops)
+        && (1..=most_hops).contains(&hops)
         && valid_route(planner, slot, hops)
 }
 
 pub fn valid_plan(planner: &Planner) -> bool {
+    match most_hops(planner.form) {
+        Some(most_hops) => valid_tables(planner, most_hops),
+        None => false,
+    }
+}
+
+fn valid_tables(planner: &Planner, most_hops: usize) -> bool {
     (1..=100_000_000).contains(&planner.top)
         && planner.guard <= 1_000_000
         && planner.drift <= 1_000
         && planner.timing_jitter <= 1_000
         && planner.sync_error <= 1_000_000
         && (0..PORTS).all(|slot| valid_port(planner.rates[slot], planner.blockings[slot], planner.extras[slot]))
-        && (0..FLOWS).all(|slot| valid_flow(planner, slot))
+        && (0..FLOWS).all(|slot| valid_flow(planner, slot, most_hops))
         && planner.periods.iter().any(|period| *period != 0)
 }

@@ -13,7 +13,7 @@ enum { TOP_AT = 7, PORT_AT = 11, BLOCKER_AT = 20, FLOW_1_AT = 22, FLOW_2_AT = 37
 /* Length of a scratch, 3 numbers more than a search writes. */
 enum { SCRATCH = 67 };
 
-/* What a planner holds after K: port 1 in slot 0, flows 1 and 2 in slots 0 and 1, routes CP_ROUTE_STRIDE apart. */
+/* What a planner holds after K: port 1 in slot 0, flows 1 and 2 in slots 0 and 1, routes CP_ROUTE_STRIDE apart; the older form is 0. */
 static cp_planner planner_of_k(void) {
   cp_planner k;
   memset(&k, 0, sizeof k);
@@ -82,4 +82,12 @@ static void searched(const char *call, search ask, cp_planner planner, size_t le
     uint64_t expected = !writes || slot >= 64 ? 1000 + slot : slot == 0 ? demand : 0;
     same_slot(call, "scratch", slot, scratch[slot], expected);
   }
+}
+
+static void field_of(const char *call, const uint8_t *plan, size_t length, size_t offset, cp_field_read want) {
+  cp_field_read got = cp_field(plan, length, offset);
+  same(call, "refusal", got.refusal, want.refusal);
+  same(call, "tag", got.tag, want.tag);
+  same(call, "offset", got.offset, want.offset);
+  SAME_TABLE(call, numbers, got, want);
 }

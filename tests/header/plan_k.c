@@ -10,6 +10,7 @@
 #include "reprice.h"
 #include "batch.h"
 #include "spans.h"
+#include "newer.h"
 
 _Static_assert(sizeof(cp_planner) == 9944, "a planner has 9,944 bytes");
 _Static_assert(offsetof(cp_planner, clock) == 12, "clocks come after top");
@@ -70,14 +71,6 @@ static void uncrossed_port(cp_planner k) {
   same_slack("cp_slack of port 2, not crossed", cp_slack(k, 2, 72000), 24, 0);
 }
 
-static void field_of(const char *call, const uint8_t *plan, size_t length, size_t offset, cp_field_read want) {
-  cp_field_read got = cp_field(plan, length, offset);
-  same(call, "refusal", got.refusal, want.refusal);
-  same(call, "tag", got.tag, want.tag);
-  same(call, "offset", got.offset, want.offset);
-  SAME_TABLE(call, numbers, got, want);
-}
-
 static void field(const char *call, size_t length, size_t offset, cp_field_read want) {
   field_of(call, K, length, offset, want);
 }
@@ -101,9 +94,9 @@ static void fields(void) {
            (cp_field_read){.tag = 5, .offset = sizeof jitter_256, .numbers = {256, 10000000}});
   field_of("cp_field of clocks 1,000, 999, 1,000,000", clocks_most, sizeof clocks_most, 0,
            (cp_field_read){.tag = 6, .offset = sizeof clocks_most, .numbers = {1000, 999, 1000000}});
-  same("cp_repeats of ports 1, 2, 1", "the answer", cp_repeats(twice, sizeof twice), 1);
-  same("cp_repeats of ports 1, 2", "the answer", cp_repeats(twice, sizeof twice - 2), 0);
-  same("cp_repeats of K's flow 2", "the answer", cp_repeats(K + FLOW_2_AT + 3, 12), 0);
+  same("cp_repeats of ports 1, 2, 1", "the answer", cp_repeats(3, twice, sizeof twice), 1);
+  same("cp_repeats of ports 1, 2", "the answer", cp_repeats(3, twice, sizeof twice - 2), 0);
+  same("cp_repeats of K's flow 2", "the answer", cp_repeats(3, K + FLOW_2_AT + 3, 12), 0);
 }
 
 int main(void) {
@@ -134,6 +127,7 @@ int main(void) {
   batches();
   spans(cp_empty(), k);
   fields();
+  newer(k);
   printf("header: %u passed, %u failed\n", passed, failed);
   return failed != 0;
 }

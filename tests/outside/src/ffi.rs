@@ -1,7 +1,6 @@
 //! The C interface of the planner. A Rust slice is never null, an empty one neither.
 
 use crate::answers::{Answer, Batch, FieldRead, Planner, SlackAnswer, SpanRecord, StepsAnswer};
-use crate::model::Form;
 
 #[repr(C)]
 struct LoadOutcome {
@@ -143,11 +142,10 @@ pub fn repeats(tag: u32, value: &[u8]) -> u8 {
     unsafe { cp_repeats(tag, value.as_ptr(), value.len()) }
 }
 
-/// The converter that reads a form.
-pub fn convert(from: Form, plan: &[u8], buffer: &mut [u8]) -> Answer {
-    let call = match from {
-        Form::Older => cp_upgrade,
-        Form::Newer => cp_downgrade,
-    };
-    unsafe { call(plan.as_ptr(), plan.len(), buffer.as_mut_ptr(), buffer.len()) }
+pub fn upgrade(plan: &[u8], buffer: &mut [u8]) -> Answer {
+    unsafe { cp_upgrade(plan.as_ptr(), plan.len(), buffer.as_mut_ptr(), buffer.len()) }
+}
+
+pub fn downgrade(plan: &[u8], buffer: &mut [u8]) -> Answer {
+    unsafe { cp_downgrade(plan.as_ptr(), plan.len(), buffer.as_mut_ptr(), buffer.len()) }
 }

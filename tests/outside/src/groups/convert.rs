@@ -26,12 +26,20 @@ fn name(from: Form) -> &'static str {
     }
 }
 
+/// The converter that reads a form.
+fn call(from: Form, plan: &[u8], buffer: &mut [u8]) -> Answer {
+    match from {
+        Older => ffi::upgrade(plan, buffer),
+        Newer => ffi::downgrade(plan, buffer),
+    }
+}
+
 /// A conversion into a buffer of a length.
 fn ask(tally: &mut Tally, from: Form, plan: &[u8], length: usize, rng: &mut Rng) {
     let model = |buffer: &[u8]| convert(from, plan, buffer);
     tally.saw(name(from), model(&vec![0; length]).0.refusal);
     let kept = plan.to_vec();
-    lend(tally, format_args!("cp_{}", name(from)), length, rng, |buffer| ffi::convert(from, plan, buffer), model);
+    lend(tally, format_args!("cp_{}", name(from)), length, rng, |buffer| call(from, plan, buffer), model);
     tally.same(format_args!("the plan after cp_{}", name(from)), plan == kept, true);
 }
 
@@ -48,7 +56,7 @@ fn both(tally: &mut Tally, plan: &[u8], rng: &mut Rng) {
 /// What a converter writes into a buffer that every plan fits; the refusal and its place otherwise.
 fn through(from: Form, plan: &[u8]) -> Result<Vec<u8>, (u32, u64)> {
     let mut buffer = vec![0; 16_384];
-    let answer = ffi::convert(from, plan, &mut buffer);
+    let answer = call(from, plan, &mut buffer);
     if answer.refusal != 0 {
         return Err((answer.refusal, answer.first));
     }
@@ -91,7 +99,7 @@ fn ends(tally: &mut Tally, rng: &mut Rng) {
         if let Some(late) = late {
             let place = encode(&fields[..65 + late]).len() as u64;
             gives(tally, Newer, &plan, Err((16, place)));
-            tally.same(format_args!("no buffer"), ffi::convert(Newer, &plan, &mut []), Answer::new(16, place, 0));
+            tally.same(format_args!("no buffer"), call(Newer, &plan, &mut []), Answer::new(16, place, 0));
         }
         both(tally, &plan, rng);
     }
