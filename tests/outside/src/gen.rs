@@ -8,13 +8,13 @@ pub mod kinds;
 pub mod laden;
 mod later;
 pub mod lighter;
-pub mod short;
-pub mod sized;
-pub mod strict;
 pub mod newer;
 pub mod newer_damage;
 pub mod newer_faults;
 pub mod newer_sized;
+pub mod short;
+pub mod sized;
+pub mod strict;
 
 use crate::rng::Rng;
 

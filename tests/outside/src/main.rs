@@ -41,8 +41,8 @@ const GROUPS: [(&str, u64, fn(&mut Tally)); 22] = [
     ("order", 40, groups::order::run),
     ("runs", 60, groups::runs::run),
     ("lighter", 60, groups::lighter::run),
-    ("forms", 100, groups::forms::run),
-    ("convert", 100, groups::convert::run),
+    ("forms", 40, groups::forms::run),
+    ("convert", 40, groups::convert::run),
 ];
 
 fn number_from(name: &str, otherwise: u64) -> u64 {

@@ -150,7 +150,7 @@ fn tags(tally: &mut Tally) {
         (&[0, 8, 0, 9, 0, 1, 0, 2, 0, 1], true, true),
     ];
     for (route, older, newer) in rows {
-        let value = [&[0; 10], route].concat();
+        let value = [&[0; 10][..], route].concat();
         for tag in TAGS {
             ask_repeats(tally, &value, tag);
             let twice = if tag == 0x13 { newer } else { older };

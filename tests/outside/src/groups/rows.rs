@@ -2,7 +2,7 @@
 
 use super::{ask_all, loads::load_as};
 use crate::ffi;
-use crate::gen::{self, damage, encode, sized, strict, newer_damage};
+use crate::gen::{self, damage, encode, newer_damage, sized, strict};
 use crate::model::read::{read_as, Reading};
 use crate::model::Plan;
 use crate::report::Tally;
