@@ -76,7 +76,7 @@ module _ (calls : List Call) (bytes : List ℕ) (held : heldBytes calls ≡ some
         let number : n ≡ suc (n - 1) = omega arith in
         ap (λ (k : ℕ). readAs mode (relengthedBytes form plan k octets)) number ∙ go form refl
       where
-        abbrev l : Loaded bytes plan
+        l : Loaded bytes plan
         l = after-loaded calls bytes held
 
         sized : Sized plan
