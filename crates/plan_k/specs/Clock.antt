@@ -12,10 +12,11 @@ use Rattle.cqf.specs.Condition.{begun, frames, demand, slack, crossed, fails, f
 use Rattle.cqf.specs.worked.K.{planK}
 use Rattle.cqf.specs.worked.Clock.{planKC}
 use Rattle.plan.specs.Bytes.{number2, number4, sizeAt, wholeAt, valueAt, numbers2}
+use Rattle.plan.specs.Layout.{formBy}
 use Rattle.plan.specs.Field.{routePorts, routeIn, valueIn, kindBy, fieldIn, fieldAt, repeats}
 use Rattle.plan_reading.specs.Store.{store, storeAll}
 use Rattle.plan_reading.specs.Draft.{blank, added}
-use Rattle.plan_reading.specs.Reading.{stepAt, namesAbsent, jitterAbsent, extraAbsent, firstFrom, firstAbsent, closing, readFrom, readAs, readPlan, loose, accepted}
+use Rattle.plan_reading.specs.Reading.{stepAt, namesAbsent, jitterAbsent, extraAbsent, firstFrom, firstAbsent, closing, readFrom, readAs, readPlan, loose, accepted, absentIn, readForm}
 use Rattle.answers.specs.Answer.{result, refusal}
 use Rattle.loading.specs.Outcome.{loadAnswer, loadLeaves}
 use Rattle.questions.specs.Outcome.{checkAnswer, slackAnswer}
@@ -46,12 +47,12 @@ driftAlone = clock 0x03 0xe8 0x03 0xe8 0x00 0x00 0x00
 
 -- a field that says 0 three times leaves K as it is, with one port and two flows
 readZero : readPlan (clock 0x00 0x00 0x00 0x00 0x00 0x00 0x00 ++ bytesK) ≡ accepted planK 1 2
-unfolding clock bytesK planK noPlan readPlan readAs readFrom blank stepAt fieldAt fieldIn valueIn kindBy number2 number4 sizeAt wholeAt valueAt numbers2 routePorts routeIn repeats every distinct elem storeAll store added closing firstFrom firstAbsent namesAbsent jitterAbsent extraAbsent
+unfolding clock bytesK planK noPlan readPlan readAs readForm formBy readFrom blank stepAt fieldAt fieldIn valueIn kindBy number2 number4 sizeAt wholeAt valueAt numbers2 routePorts routeIn repeats every distinct elem storeAll store added closing firstFrom firstAbsent namesAbsent absentIn jitterAbsent extraAbsent
 readZero = refl
 
 -- with the first field the tables are those that are worked out in cqf
 readApart : readPlan (apart ++ bytesK) ≡ accepted (planKC 100 2 1000 0 0) 1 2
-unfolding apart clock bytesK planKC planK noPlan readPlan readAs readFrom blank stepAt fieldAt fieldIn valueIn kindBy number2 number4 sizeAt wholeAt valueAt numbers2 routePorts routeIn repeats every distinct elem storeAll store added closing firstFrom firstAbsent namesAbsent jitterAbsent extraAbsent
+unfolding apart clock bytesK planKC planK noPlan readPlan readAs readForm formBy readFrom blank stepAt fieldAt fieldIn valueIn kindBy number2 number4 sizeAt wholeAt valueAt numbers2 routePorts routeIn repeats every distinct elem storeAll store added closing firstFrom firstAbsent namesAbsent absentIn jitterAbsent extraAbsent
 readApart = refl
 
 -- The first field: frames are counted over 110,000 ns at 109,987 and over 110,001 ns at 109,988, so that the gap begins there. The
@@ -69,16 +70,16 @@ tableApart =
     ∷ []
 
 tableOfApart : linesOf (after (load loose (apart ++ bytesK) ∷ [])) tableApart ≡ tableApart
-unfolding apart clock bytesK tableApart after afterFrom loadLeaves noPlan readPlan readAs readFrom blank stepAt fieldAt fieldIn valueIn kindBy number2 number4 sizeAt wholeAt valueAt numbers2 routePorts routeIn repeats every distinct elem storeAll store added closing firstFrom firstAbsent namesAbsent jitterAbsent extraAbsent checkAnswer slackAnswer validPlan validPort validFlow allTo anyTo sublist admissible failing lowestFailing lowest countTo fails crossed capacity window workload demand sumTo frames begun widened ceilDiv wireBits slack
+unfolding apart clock bytesK tableApart after afterFrom loadLeaves noPlan readPlan readAs readForm formBy readFrom blank stepAt fieldAt fieldIn valueIn kindBy number2 number4 sizeAt wholeAt valueAt numbers2 routePorts routeIn repeats every distinct elem storeAll store added closing firstFrom firstAbsent namesAbsent absentIn jitterAbsent extraAbsent checkAnswer slackAnswer validPlan validPort validFlow allTo anyTo sublist admissible failing lowestFailing lowest countTo fails crossed capacity window workload demand sumTo frames begun widened ceilDiv wireBits slack
 tableOfApart = refl
 
 -- where one of the two lengths is the duration itself, K's own table
 tableOfErrorAlone : linesOf (after (load loose (errorAlone ++ bytesK) ∷ [])) table ≡ table
-unfolding errorAlone clock bytesK table after afterFrom loadLeaves noPlan readPlan readAs readFrom blank stepAt fieldAt fieldIn valueIn kindBy number2 number4 sizeAt wholeAt valueAt numbers2 routePorts routeIn repeats every distinct elem storeAll store added closing firstFrom firstAbsent namesAbsent jitterAbsent extraAbsent checkAnswer slackAnswer validPlan validPort validFlow allTo anyTo sublist admissible failing lowestFailing lowest countTo fails crossed capacity window workload demand sumTo frames begun widened ceilDiv wireBits slack
+unfolding errorAlone clock bytesK table after afterFrom loadLeaves noPlan readPlan readAs readForm formBy readFrom blank stepAt fieldAt fieldIn valueIn kindBy number2 number4 sizeAt wholeAt valueAt numbers2 routePorts routeIn repeats every distinct elem storeAll store added closing firstFrom firstAbsent namesAbsent absentIn jitterAbsent extraAbsent checkAnswer slackAnswer validPlan validPort validFlow allTo anyTo sublist admissible failing lowestFailing lowest countTo fails crossed capacity window workload demand sumTo frames begun widened ceilDiv wireBits slack
 tableOfErrorAlone = refl
 
 tableOfDriftAlone : linesOf (after (load loose (driftAlone ++ bytesK) ∷ [])) table ≡ table
-unfolding driftAlone clock bytesK table after afterFrom loadLeaves noPlan readPlan readAs readFrom blank stepAt fieldAt fieldIn valueIn kindBy number2 number4 sizeAt wholeAt valueAt numbers2 routePorts routeIn repeats every distinct elem storeAll store added closing firstFrom firstAbsent namesAbsent jitterAbsent extraAbsent checkAnswer slackAnswer validPlan validPort validFlow allTo anyTo sublist admissible failing lowestFailing lowest countTo fails crossed capacity window workload demand sumTo frames begun widened ceilDiv wireBits slack
+unfolding driftAlone clock bytesK table after afterFrom loadLeaves noPlan readPlan readAs readForm formBy readFrom blank stepAt fieldAt fieldIn valueIn kindBy number2 number4 sizeAt wholeAt valueAt numbers2 routePorts routeIn repeats every distinct elem storeAll store added closing firstFrom firstAbsent namesAbsent absentIn jitterAbsent extraAbsent checkAnswer slackAnswer validPlan validPort validFlow allTo anyTo sublist admissible failing lowestFailing lowest countTo fails crossed capacity window workload demand sumTo frames begun widened ceilDiv wireBits slack
 tableOfDriftAlone = refl
 
 -- the first field with 32 extra bytes at port 1 and 30,000 ns of jitter for flow 1
@@ -101,7 +102,7 @@ tableMixed =
     ∷ []
 
 tableOfMixed : linesOf (after (load loose (apart ++ extra 1 32 ++ late1 ++ bytesK) ∷ [])) tableMixed ≡ tableMixed
-unfolding apart clock extra late1 jitter bytesK tableMixed after afterFrom loadLeaves noPlan readPlan readAs readFrom blank stepAt fieldAt fieldIn valueIn kindBy number2 number4 sizeAt wholeAt valueAt numbers2 routePorts routeIn repeats every distinct elem storeAll store added closing firstFrom firstAbsent namesAbsent jitterAbsent extraAbsent checkAnswer slackAnswer validPlan validPort validFlow allTo anyTo sublist admissible failing lowestFailing lowest countTo fails crossed capacity window workload demand sumTo frames begun widened ceilDiv wireBits slack
+unfolding apart clock extra late1 jitter bytesK tableMixed after afterFrom loadLeaves noPlan readPlan readAs readForm formBy readFrom blank stepAt fieldAt fieldIn valueIn kindBy number2 number4 sizeAt wholeAt valueAt numbers2 routePorts routeIn repeats every distinct elem storeAll store added closing firstFrom firstAbsent namesAbsent absentIn jitterAbsent extraAbsent checkAnswer slackAnswer validPlan validPort validFlow allTo anyTo sublist admissible failing lowestFailing lowest countTo fails crossed capacity window workload demand sumTo frames begun widened ceilDiv wireBits slack
 tableOfMixed = refl
 
 -- 1,001 parts per million, 1,001 ns of timing jitter, and 1,000,001 ns of synchronization error; a second field after one that said
@@ -118,5 +119,5 @@ refusals
     ∷ refusal 5 (0 ∷ [])
     ∷ refusal 6 (15 ∷ [])
     ∷ []
-unfolding clock apart bytesK loadAnswer noPlan readPlan readAs readFrom blank stepAt fieldAt fieldIn valueIn kindBy number2 number4 sizeAt wholeAt valueAt numbers2 routePorts routeIn repeats every distinct elem storeAll store added closing firstFrom firstAbsent namesAbsent jitterAbsent extraAbsent
+unfolding clock apart bytesK loadAnswer noPlan readPlan readAs readForm formBy readFrom blank stepAt fieldAt fieldIn valueIn kindBy number2 number4 sizeAt wholeAt valueAt numbers2 routePorts routeIn repeats every distinct elem storeAll store added closing firstFrom firstAbsent namesAbsent absentIn jitterAbsent extraAbsent
 refusals = refl

@@ -11,10 +11,11 @@ use Rattle.cqf.specs.Condition.{begun, frames, demand, crossed, fails, failing,
 use Rattle.cqf.specs.Need.{need, largestNeed}
 use Rattle.cqf.specs.FixedPoint.{iterate}
 use Rattle.plan.specs.Bytes.{number2, number4, sizeAt, wholeAt, valueAt, numbers2}
+use Rattle.plan.specs.Layout.{formBy}
 use Rattle.plan.specs.Field.{routePorts, routeIn, valueIn, kindBy, fieldIn, fieldAt, repeats}
 use Rattle.plan_reading.specs.Store.{store, storeAll}
 use Rattle.plan_reading.specs.Draft.{blank, added}
-use Rattle.plan_reading.specs.Reading.{stepAt, namesAbsent, jitterAbsent, extraAbsent, firstFrom, firstAbsent, closing, readFrom, readAs, readPlan, loose}
+use Rattle.plan_reading.specs.Reading.{stepAt, namesAbsent, jitterAbsent, extraAbsent, firstFrom, firstAbsent, closing, readFrom, readAs, readPlan, loose, absentIn, readForm}
 use Rattle.answers.specs.Answer.{result, refusal}
 use Rattle.loading.specs.Outcome.{loadLeaves}
 use Rattle.questions.specs.FixedPoint.{fixedPointAnswer}
@@ -29,7 +30,7 @@ byStepsK
     ∷ result (record { duration = 72000; steps = 2 })
     ∷ result (record { duration = 72000; steps = 2 })
     ∷ []
-unfolding bytesK after afterFrom loadLeaves noPlan readPlan readAs readFrom blank stepAt fieldAt fieldIn valueIn kindBy number2 number4 sizeAt wholeAt valueAt numbers2 routePorts routeIn repeats every distinct elem storeAll store added closing firstFrom firstAbsent namesAbsent jitterAbsent extraAbsent fixedPointAnswer validPlan validPort validFlow allTo anyTo sublist iterate largestNeed maxTo need failing lowestFailing lowest countTo fails crossed capacity window workload demand sumTo frames begun widened ceilDiv wireBits
+unfolding bytesK after afterFrom loadLeaves noPlan readPlan readAs readForm formBy readFrom blank stepAt fieldAt fieldIn valueIn kindBy number2 number4 sizeAt wholeAt valueAt numbers2 routePorts routeIn repeats every distinct elem storeAll store added closing firstFrom firstAbsent namesAbsent absentIn jitterAbsent extraAbsent fixedPointAnswer validPlan validPort validFlow allTo anyTo sublist iterate largestNeed maxTo need failing lowestFailing lowest countTo fails crossed capacity window workload demand sumTo frames begun widened ceilDiv wireBits
 byStepsK = refl
 
 -- from an admissible duration, from the ends of the gap, and from starts outside 1 to top
@@ -42,5 +43,5 @@ fromStartsK
     ∷ refusal 10 (0 ∷ [])
     ∷ refusal 10 (0 ∷ [])
     ∷ []
-unfolding bytesK after afterFrom loadLeaves noPlan readPlan readAs readFrom blank stepAt fieldAt fieldIn valueIn kindBy number2 number4 sizeAt wholeAt valueAt numbers2 routePorts routeIn repeats every distinct elem storeAll store added closing firstFrom firstAbsent namesAbsent jitterAbsent extraAbsent fixedPointAnswer validPlan validPort validFlow allTo anyTo sublist iterate largestNeed maxTo need failing lowestFailing lowest countTo fails crossed capacity window workload demand sumTo frames begun widened ceilDiv wireBits
+unfolding bytesK after afterFrom loadLeaves noPlan readPlan readAs readForm formBy readFrom blank stepAt fieldAt fieldIn valueIn kindBy number2 number4 sizeAt wholeAt valueAt numbers2 routePorts routeIn repeats every distinct elem storeAll store added closing firstFrom firstAbsent namesAbsent absentIn jitterAbsent extraAbsent fixedPointAnswer validPlan validPort validFlow allTo anyTo sublist iterate largestNeed maxTo need failing lowestFailing lowest countTo fails crossed capacity window workload demand sumTo frames begun widened ceilDiv wireBits
 fromStartsK = refl

@@ -9,10 +9,11 @@ use Rattle.cqf.specs.Port.{wireBits, window, capacity, workload}
 use Rattle.cqf.specs.Widened.{widened}
 use Rattle.cqf.specs.Condition.{begun, frames, demand, crossed, fails, failing, lowestFailing, admissible}
 use Rattle.plan.specs.Bytes.{number2, number4, sizeAt, wholeAt, valueAt, numbers2}
+use Rattle.plan.specs.Layout.{formBy}
 use Rattle.plan.specs.Field.{routePorts, routeIn, valueIn, kindBy, fieldIn, fieldAt, repeats}
 use Rattle.plan_reading.specs.Store.{store, storeAll}
 use Rattle.plan_reading.specs.Draft.{blank, added}
-use Rattle.plan_reading.specs.Reading.{stepAt, namesAbsent, jitterAbsent, extraAbsent, firstFrom, firstAbsent, closing, readFrom, readAs, readPlan, loose}
+use Rattle.plan_reading.specs.Reading.{stepAt, namesAbsent, jitterAbsent, extraAbsent, firstFrom, firstAbsent, closing, readFrom, readAs, readPlan, loose, absentIn, readForm}
 use Rattle.gate_lists.specs.GateList.{bit, bothClosed, oneOpen, gateCycle, gateList, gateListBytes, listBytes}
 use Rattle.answers.specs.Answer.{Answer, result, refusal}
 use Rattle.loading.specs.Outcome.{loadLeaves}
@@ -40,7 +41,7 @@ room n = tabulate n (λ i. 0xaa)
 
 -- what is left in a buffer of 50 bytes: the last two remain
 gatesK : gatesLeaves (after (load loose bytesK ∷ [])) 100000 2 3 (room 50) ≡ listK ++ (0xaa ∷ 0xaa ∷ [])
-unfolding bytesK entry listK room tabulate gatesLeaves gatesAnswer gateListBytes gateList gateCycle oneOpen bothClosed bit listBytes after afterFrom loadLeaves noPlan readPlan readAs readFrom blank stepAt fieldAt fieldIn valueIn kindBy number2 number4 sizeAt wholeAt valueAt numbers2 routePorts routeIn repeats every distinct elem storeAll store added closing firstFrom firstAbsent namesAbsent jitterAbsent extraAbsent validPlan validPort validFlow allTo anyTo sublist admissible failing lowestFailing lowest countTo fails crossed capacity window workload demand sumTo frames begun widened ceilDiv wireBits
+unfolding bytesK entry listK room tabulate gatesLeaves gatesAnswer gateListBytes gateList gateCycle oneOpen bothClosed bit listBytes after afterFrom loadLeaves noPlan readPlan readAs readForm formBy readFrom blank stepAt fieldAt fieldIn valueIn kindBy number2 number4 sizeAt wholeAt valueAt numbers2 routePorts routeIn repeats every distinct elem storeAll store added closing firstFrom firstAbsent namesAbsent absentIn jitterAbsent extraAbsent validPlan validPort validFlow allTo anyTo sublist admissible failing lowestFailing lowest countTo fails crossed capacity window workload demand sumTo frames begun widened ceilDiv wireBits
 gatesK = refl
 
 -- what is asked after some calls, for a buffer of so many bytes
@@ -81,5 +82,5 @@ ordered
     ∷ refusal 13 (48 ∷ [])
     ∷ result 48
     ∷ []
-unfolding bytesK room tabulate gatesAnswer gateListBytes gateList gateCycle oneOpen bothClosed bit listBytes after afterFrom loadLeaves noPlan readPlan readAs readFrom blank stepAt fieldAt fieldIn valueIn kindBy number2 number4 sizeAt wholeAt valueAt numbers2 routePorts routeIn repeats every distinct elem storeAll store added closing firstFrom firstAbsent namesAbsent jitterAbsent extraAbsent validPlan validPort validFlow allTo anyTo sublist admissible failing lowestFailing lowest countTo fails crossed capacity window workload demand sumTo frames begun widened ceilDiv wireBits
+unfolding bytesK room tabulate gatesAnswer gateListBytes gateList gateCycle oneOpen bothClosed bit listBytes after afterFrom loadLeaves noPlan readPlan readAs readForm formBy readFrom blank stepAt fieldAt fieldIn valueIn kindBy number2 number4 sizeAt wholeAt valueAt numbers2 routePorts routeIn repeats every distinct elem storeAll store added closing firstFrom firstAbsent namesAbsent absentIn jitterAbsent extraAbsent validPlan validPort validFlow allTo anyTo sublist admissible failing lowestFailing lowest countTo fails crossed capacity window workload demand sumTo frames begun widened ceilDiv wireBits
 ordered = refl

@@ -12,10 +12,11 @@ use Rattle.cqf.specs.Condition.{begun, frames, demand, slack, crossed, fails, f
 use Rattle.cqf.specs.worked.K.{planK}
 use Rattle.cqf.specs.worked.Jitter.{planKJ}
 use Rattle.plan.specs.Bytes.{number2, number4, sizeAt, wholeAt, valueAt, numbers2}
+use Rattle.plan.specs.Layout.{formBy}
 use Rattle.plan.specs.Field.{routePorts, routeIn, valueIn, kindBy, fieldIn, fieldAt, repeats}
 use Rattle.plan_reading.specs.Store.{store, storeAll}
 use Rattle.plan_reading.specs.Draft.{blank, added}
-use Rattle.plan_reading.specs.Reading.{stepAt, namesAbsent, jitterAbsent, extraAbsent, firstFrom, firstAbsent, closing, readFrom, readAs, readPlan, loose, accepted}
+use Rattle.plan_reading.specs.Reading.{stepAt, namesAbsent, jitterAbsent, extraAbsent, firstFrom, firstAbsent, closing, readFrom, readAs, readPlan, loose, accepted, absentIn, readForm}
 use Rattle.answers.specs.Answer.{result, refusal}
 use Rattle.loading.specs.Outcome.{loadAnswer, loadLeaves}
 use Rattle.questions.specs.Outcome.{checkAnswer, slackAnswer}
@@ -38,12 +39,12 @@ late2 = jitter 2 0x00 0x94 0x70
 
 -- a field that says 0 leaves K as it is, with one port and two flows; it may stand before its flow
 readZero : readPlan (jitter 1 0x00 0x00 0x00 ++ bytesK) ≡ accepted planK 1 2
-unfolding jitter bytesK planK noPlan readPlan readAs readFrom blank stepAt fieldAt fieldIn valueIn kindBy number2 number4 sizeAt wholeAt valueAt numbers2 routePorts routeIn repeats every distinct elem storeAll store added closing firstFrom firstAbsent namesAbsent jitterAbsent extraAbsent
+unfolding jitter bytesK planK noPlan readPlan readAs readForm formBy readFrom blank stepAt fieldAt fieldIn valueIn kindBy number2 number4 sizeAt wholeAt valueAt numbers2 routePorts routeIn repeats every distinct elem storeAll store added closing firstFrom firstAbsent namesAbsent absentIn jitterAbsent extraAbsent
 readZero = refl
 
 -- with the second field the tables are those that are worked out in cqf
 readLate2 : readPlan (late2 ++ bytesK) ≡ accepted planKJ 1 2
-unfolding late2 jitter bytesK planKJ planK noPlan readPlan readAs readFrom blank stepAt fieldAt fieldIn valueIn kindBy number2 number4 sizeAt wholeAt valueAt numbers2 routePorts routeIn repeats every distinct elem storeAll store added closing firstFrom firstAbsent namesAbsent jitterAbsent extraAbsent
+unfolding late2 jitter bytesK planKJ planK noPlan readPlan readAs readForm formBy readFrom blank stepAt fieldAt fieldIn valueIn kindBy number2 number4 sizeAt wholeAt valueAt numbers2 routePorts routeIn repeats every distinct elem storeAll store added closing firstFrom firstAbsent namesAbsent absentIn jitterAbsent extraAbsent
 readLate2 = refl
 
 -- 30,000 ns for flow 1: two of its frames from 70,001 on, so the least duration is 92,000; the margin-safe one stays at 142,000
@@ -60,7 +61,7 @@ table1 =
     ∷ []
 
 tableOf1 : linesOf (after (load loose (late1 ++ bytesK) ∷ [])) table1 ≡ table1
-unfolding late1 jitter bytesK table1 after afterFrom loadLeaves noPlan readPlan readAs readFrom blank stepAt fieldAt fieldIn valueIn kindBy number2 number4 sizeAt wholeAt valueAt numbers2 routePorts routeIn repeats every distinct elem storeAll store added closing firstFrom firstAbsent namesAbsent jitterAbsent extraAbsent checkAnswer slackAnswer validPlan validPort validFlow allTo anyTo sublist admissible failing lowestFailing lowest countTo fails crossed capacity window workload demand sumTo frames begun widened ceilDiv wireBits slack
+unfolding late1 jitter bytesK table1 after afterFrom loadLeaves noPlan readPlan readAs readForm formBy readFrom blank stepAt fieldAt fieldIn valueIn kindBy number2 number4 sizeAt wholeAt valueAt numbers2 routePorts routeIn repeats every distinct elem storeAll store added closing firstFrom firstAbsent namesAbsent absentIn jitterAbsent extraAbsent checkAnswer slackAnswer validPlan validPort validFlow allTo anyTo sublist admissible failing lowestFailing lowest countTo fails crossed capacity window workload demand sumTo frames begun widened ceilDiv wireBits slack
 tableOf1 = refl
 
 -- 38,000 ns for flow 2: the least duration stays at 72,000, 1 ns more is refused, and the margin-safe one is 212,000
@@ -79,7 +80,7 @@ table2 =
     ∷ []
 
 tableOf2 : linesOf (after (load loose (late2 ++ bytesK) ∷ [])) table2 ≡ table2
-unfolding late2 jitter bytesK table2 after afterFrom loadLeaves noPlan readPlan readAs readFrom blank stepAt fieldAt fieldIn valueIn kindBy number2 number4 sizeAt wholeAt valueAt numbers2 routePorts routeIn repeats every distinct elem storeAll store added closing firstFrom firstAbsent namesAbsent jitterAbsent extraAbsent checkAnswer slackAnswer validPlan validPort validFlow allTo anyTo sublist admissible failing lowestFailing lowest countTo fails crossed capacity window workload demand sumTo frames begun widened ceilDiv wireBits slack
+unfolding late2 jitter bytesK table2 after afterFrom loadLeaves noPlan readPlan readAs readForm formBy readFrom blank stepAt fieldAt fieldIn valueIn kindBy number2 number4 sizeAt wholeAt valueAt numbers2 routePorts routeIn repeats every distinct elem storeAll store added closing firstFrom firstAbsent namesAbsent absentIn jitterAbsent extraAbsent checkAnswer slackAnswer validPlan validPort validFlow allTo anyTo sublist admissible failing lowestFailing lowest countTo fails crossed capacity window workload demand sumTo frames begun widened ceilDiv wireBits slack
 tableOf2 = refl
 
 -- 10,000,001 ns, and a flow 0; a second field of a flow whose first said 0; an absent flow, with extra bytes of an absent port before
@@ -100,5 +101,5 @@ refusals
     ∷ refusal 9 (7 ∷ [])
     ∷ refusal 9 (61 ∷ [])
     ∷ []
-unfolding jitter late1 extra flow3 bytesK loadAnswer noPlan readPlan readAs readFrom blank stepAt fieldAt fieldIn valueIn kindBy number2 number4 sizeAt wholeAt valueAt numbers2 routePorts routeIn repeats every distinct elem storeAll store added closing firstFrom firstAbsent namesAbsent jitterAbsent extraAbsent
+unfolding jitter late1 extra flow3 bytesK loadAnswer noPlan readPlan readAs readForm formBy readFrom blank stepAt fieldAt fieldIn valueIn kindBy number2 number4 sizeAt wholeAt valueAt numbers2 routePorts routeIn repeats every distinct elem storeAll store added closing firstFrom firstAbsent namesAbsent absentIn jitterAbsent extraAbsent
 refusals = refl

@@ -11,3 +11,4 @@ pub mod Gates
 pub mod FixedPoint
 pub mod Reprice
 pub mod Spans
+pub mod Newer

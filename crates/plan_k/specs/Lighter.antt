@@ -14,10 +14,11 @@ use Rattle.cqf.specs.Condition.{least, marginSafe}
 use Rattle.cqf.specs.worked.K.{planK}
 use Rattle.cqf.specs.worked.Lighter.{planHeavy, planLight, valid-heavy, valid-light, lighter-K, least-heavy, least-light, margin-safe-heavy, margin-safe-light}
 use Rattle.plan.specs.Bytes.{number2, number4, sizeAt, wholeAt, valueAt, numbers2}
+use Rattle.plan.specs.Layout.{formBy}
 use Rattle.plan.specs.Field.{routePorts, routeIn, valueIn, kindBy, fieldIn, fieldAt, repeats}
 use Rattle.plan_reading.specs.Store.{store, storeAll}
 use Rattle.plan_reading.specs.Draft.{blank, added}
-use Rattle.plan_reading.specs.Reading.{stepAt, namesAbsent, jitterAbsent, extraAbsent, firstFrom, firstAbsent, closing, readFrom, readAs, loose, strict, accepted}
+use Rattle.plan_reading.specs.Reading.{stepAt, namesAbsent, jitterAbsent, extraAbsent, firstFrom, firstAbsent, closing, readFrom, readAs, loose, strict, accepted, absentIn, readForm}
 use Rattle.answers.specs.Answer.{result}
 use Rattle.questions.specs.Outcome.{leastAnswer, marginSafeAnswer}
 use Rattle.sequences.specs.Calls.{load, after, heldFrom, heldBytes}
@@ -53,11 +54,11 @@ bytesLight =
 
 -- both are accepted, the one by the strict reading, and held after their loads
 readHeavy : readAs strict bytesHeavy ≡ accepted planHeavy 1 2
-unfolding bytesHeavy planHeavy planK noPlan readAs readFrom blank stepAt fieldAt fieldIn valueIn kindBy number2 number4 sizeAt wholeAt valueAt numbers2 routePorts routeIn repeats every distinct elem storeAll store added closing firstFrom firstAbsent namesAbsent jitterAbsent extraAbsent
+unfolding bytesHeavy planHeavy planK noPlan readAs readForm formBy readFrom blank stepAt fieldAt fieldIn valueIn kindBy number2 number4 sizeAt wholeAt valueAt numbers2 routePorts routeIn repeats every distinct elem storeAll store added closing firstFrom firstAbsent namesAbsent absentIn jitterAbsent extraAbsent
 readHeavy = refl
 
 readLight : readAs loose bytesLight ≡ accepted planLight 1 1
-unfolding bytesLight planLight noPlan readAs readFrom blank stepAt fieldAt fieldIn valueIn kindBy number2 number4 sizeAt wholeAt valueAt numbers2 routePorts routeIn repeats every distinct elem storeAll store added closing firstFrom firstAbsent namesAbsent jitterAbsent extraAbsent
+unfolding bytesLight planLight noPlan readAs readForm formBy readFrom blank stepAt fieldAt fieldIn valueIn kindBy number2 number4 sizeAt wholeAt valueAt numbers2 routePorts routeIn repeats every distinct elem storeAll store added closing firstFrom firstAbsent namesAbsent absentIn jitterAbsent extraAbsent
 readLight = refl
 
 heldHeavy : heldBytes (load strict bytesHeavy ∷ []) ≡ some bytesHeavy

@@ -8,10 +8,11 @@ use lib.Dec.{lit≤}
 use Rattle.cqf.specs.Bounded.{elem, distinct, every}
 use Rattle.cqf.specs.Plan.{noPlan}
 use Rattle.plan.specs.Bytes.{number2, number4, sizeAt, wholeAt, valueAt, numbers2}
+use Rattle.plan.specs.Layout.{formBy}
 use Rattle.plan.specs.Field.{routePorts, routeIn, valueIn, kindBy, fieldIn, fieldAt, repeats}
 use Rattle.plan_reading.specs.Store.{store, storeAll}
 use Rattle.plan_reading.specs.Draft.{blank, added}
-use Rattle.plan_reading.specs.Reading.{stepAt, namesAbsent, jitterAbsent, extraAbsent, firstFrom, firstAbsent, closing, readFrom, readAs, readPlan, loose}
+use Rattle.plan_reading.specs.Reading.{stepAt, namesAbsent, jitterAbsent, extraAbsent, firstFrom, firstAbsent, closing, readFrom, readAs, readPlan, loose, absentIn, readForm}
 use Rattle.plan_reading.specs.FieldOrder.{AllFields, none, more, SameFields}
 use Rattle.sequences.specs.Calls.{load, after, heldFrom, heldBytes}
 use Rattle.sequences.specs.Reply.{SameAnswers}
@@ -71,7 +72,7 @@ sameFieldsK =
     }
 
 heldReordered : heldBytes (load loose bytesReordered ∷ []) ≡ some bytesReordered
-unfolding bytesReordered noPlan heldBytes heldFrom readPlan readAs readFrom blank stepAt fieldAt fieldIn valueIn kindBy number2 number4 sizeAt wholeAt valueAt numbers2 routePorts routeIn repeats every distinct elem storeAll store added closing firstFrom firstAbsent namesAbsent jitterAbsent extraAbsent
+unfolding bytesReordered noPlan heldBytes heldFrom readPlan readAs readForm formBy readFrom blank stepAt fieldAt fieldIn valueIn kindBy number2 number4 sizeAt wholeAt valueAt numbers2 routePorts routeIn repeats every distinct elem storeAll store added closing firstFrom firstAbsent namesAbsent absentIn jitterAbsent extraAbsent
 heldReordered = refl
 
 sameAnswersK : SameAnswers (after (load loose bytesK ∷ [])) (after (load loose bytesReordered ∷ []))

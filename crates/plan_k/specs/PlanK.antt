@@ -12,10 +12,11 @@ use Rattle.cqf.specs.Widened.{widened}
 use Rattle.cqf.specs.Condition.{begun, frames, demand, slack, crossed, fails, failing, lowestFailing, admissible}
 use Rattle.cqf.specs.worked.K.{planK}
 use Rattle.plan.specs.Bytes.{number2, number4, sizeAt, wholeAt, valueAt, numbers2}
+use Rattle.plan.specs.Layout.{formBy}
 use Rattle.plan.specs.Field.{routePorts, routeIn, valueIn, kindBy, fieldIn, fieldAt, repeats}
 use Rattle.plan_reading.specs.Store.{store, storeAll}
 use Rattle.plan_reading.specs.Draft.{blank, added}
-use Rattle.plan_reading.specs.Reading.{stepAt, namesAbsent, jitterAbsent, extraAbsent, firstFrom, firstAbsent, closing, readFrom, readAs, readPlan, loose, accepted}
+use Rattle.plan_reading.specs.Reading.{stepAt, namesAbsent, jitterAbsent, extraAbsent, firstFrom, firstAbsent, closing, readFrom, readAs, readPlan, loose, accepted, absentIn, readForm}
 use Rattle.answers.specs.Answer.{Answer, result, refusal}
 use Rattle.loading.specs.Outcome.{loadAnswer, loadLeaves}
 use Rattle.questions.specs.Outcome.{checkAnswer, slackAnswer}
@@ -62,20 +63,20 @@ table =
 
 -- K is accepted, with one port and two flows, and its tables are planK
 readK : readPlan bytesK ≡ accepted planK 1 2
-unfolding bytesK planK noPlan readPlan readAs readFrom blank stepAt fieldAt fieldIn valueIn kindBy number2 number4 sizeAt wholeAt valueAt numbers2 routePorts routeIn repeats every distinct elem storeAll store added closing firstFrom firstAbsent namesAbsent jitterAbsent extraAbsent
+unfolding bytesK planK noPlan readPlan readAs readForm formBy readFrom blank stepAt fieldAt fieldIn valueIn kindBy number2 number4 sizeAt wholeAt valueAt numbers2 routePorts routeIn repeats every distinct elem storeAll store added closing firstFrom firstAbsent namesAbsent absentIn jitterAbsent extraAbsent
 readK = refl
 
 -- K is the plan held after its load
 pub heldK : heldBytes (load loose bytesK ∷ []) ≡ some bytesK
-unfolding bytesK noPlan heldBytes heldFrom readPlan readAs readFrom blank stepAt fieldAt fieldIn valueIn kindBy number2 number4 sizeAt wholeAt valueAt numbers2 routePorts routeIn repeats every distinct elem storeAll store added closing firstFrom firstAbsent namesAbsent jitterAbsent extraAbsent
+unfolding bytesK noPlan heldBytes heldFrom readPlan readAs readForm formBy readFrom blank stepAt fieldAt fieldIn valueIn kindBy number2 number4 sizeAt wholeAt valueAt numbers2 routePorts routeIn repeats every distinct elem storeAll store added closing firstFrom firstAbsent namesAbsent absentIn jitterAbsent extraAbsent
 heldK = refl
 
 -- every line of the table, of the planner that holds the plan in K's bytes
 tableOfK : linesOf (after (load loose bytesK ∷ [])) table ≡ table
-unfolding bytesK table after afterFrom loadLeaves noPlan readPlan readAs readFrom blank stepAt fieldAt fieldIn valueIn kindBy number2 number4 sizeAt wholeAt valueAt numbers2 routePorts routeIn repeats every distinct elem storeAll store added closing firstFrom firstAbsent namesAbsent jitterAbsent extraAbsent checkAnswer slackAnswer validPlan validPort validFlow allTo anyTo sublist admissible failing lowestFailing lowest countTo fails crossed capacity window workload demand sumTo frames begun widened ceilDiv wireBits slack
+unfolding bytesK table after afterFrom loadLeaves noPlan readPlan readAs readForm formBy readFrom blank stepAt fieldAt fieldIn valueIn kindBy number2 number4 sizeAt wholeAt valueAt numbers2 routePorts routeIn repeats every distinct elem storeAll store added closing firstFrom firstAbsent namesAbsent absentIn jitterAbsent extraAbsent checkAnswer slackAnswer validPlan validPort validFlow allTo anyTo sublist admissible failing lowestFailing lowest countTo fails crossed capacity window workload demand sumTo frames begun widened ceilDiv wireBits slack
 tableOfK = refl
 
 -- a field cut short is 2 at its tag and not 3, whether its tag is known or not
 cutShort : map (λ (tag : ℕ). loadAnswer loose (tag ∷ 0x00 ∷ 0x01 ∷ [])) (0x04 ∷ 0x07 ∷ []) ≡ refusal 2 (0 ∷ []) ∷ refusal 2 (0 ∷ []) ∷ []
-unfolding loadAnswer readPlan readAs readFrom blank stepAt fieldAt fieldIn valueIn kindBy number2 number4 sizeAt wholeAt valueAt numbers2 routePorts routeIn every
+unfolding loadAnswer readPlan readAs readForm formBy readFrom blank stepAt fieldAt fieldIn valueIn kindBy number2 number4 sizeAt wholeAt valueAt numbers2 routePorts routeIn every
 cutShort = refl

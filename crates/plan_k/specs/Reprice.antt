@@ -12,10 +12,11 @@ use Rattle.cqf.specs.Widened.{widened}
 use Rattle.cqf.specs.Condition.{begun, frames, demand, slack}
 use Rattle.cqf.specs.Reprice.{withLength, replaced, repriced}
 use Rattle.plan.specs.Bytes.{number2, number4, sizeAt, wholeAt, valueAt, numbers2}
+use Rattle.plan.specs.Layout.{formBy}
 use Rattle.plan.specs.Field.{routePorts, routeIn, valueIn, kindBy, fieldIn, fieldAt, repeats}
 use Rattle.plan_reading.specs.Store.{store, storeAll}
 use Rattle.plan_reading.specs.Draft.{blank, added}
-use Rattle.plan_reading.specs.Reading.{stepAt, namesAbsent, jitterAbsent, extraAbsent, firstFrom, firstAbsent, closing, readFrom, readAs, readPlan, loose}
+use Rattle.plan_reading.specs.Reading.{stepAt, namesAbsent, jitterAbsent, extraAbsent, firstFrom, firstAbsent, closing, readFrom, readAs, readPlan, loose, absentIn, readForm}
 use Rattle.answers.specs.Answer.{Answer, result, refusal}
 use Rattle.loading.specs.Outcome.{loadLeaves}
 use Rattle.questions.specs.Reprice.{repriceAnswer, repriceLeaves}
@@ -61,7 +62,7 @@ table =
 answersK
     : map (λ (r : Line). at (r .duration) (r .flow) (r .bytes) (r .size) (repriceAnswer (after loaded) (r .duration) (r .flow) (r .bytes) (marked (r .size)))) table
     ≡ table
-unfolding bytesK at table marked repriceAnswer after afterFrom loadLeaves noPlan readPlan readAs readFrom blank stepAt fieldAt fieldIn valueIn kindBy number2 number4 sizeAt wholeAt valueAt numbers2 routePorts routeIn repeats every distinct elem storeAll store added closing firstFrom firstAbsent namesAbsent jitterAbsent extraAbsent validPlan validPort validFlow allTo anyTo sublist
+unfolding bytesK at table marked repriceAnswer after afterFrom loadLeaves noPlan readPlan readAs readForm formBy readFrom blank stepAt fieldAt fieldIn valueIn kindBy number2 number4 sizeAt wholeAt valueAt numbers2 routePorts routeIn repeats every distinct elem storeAll store added closing firstFrom firstAbsent namesAbsent absentIn jitterAbsent extraAbsent validPlan validPort validFlow allTo anyTo sublist
 answersK = refl
 
 -- port 1 has its slack with that length, and every other number remains, past the 64th too; a refusal leaves the list
@@ -71,5 +72,5 @@ listsK
     × (repriceLeaves (after loaded) 120000 2 500 (marked 64) ≡ negsuc 519999 ∷ marked 63)
     × (repriceLeaves (after loaded) 100000 1 231 (marked 63) ≡ marked 63)
     × (repriceLeaves (after loaded) 100000 3 231 (marked 64) ≡ marked 64)
-unfolding bytesK marked repriceLeaves repriceAnswer repriced replaced withLength after afterFrom loadLeaves noPlan readPlan readAs readFrom blank stepAt fieldAt fieldIn valueIn kindBy number2 number4 sizeAt wholeAt valueAt numbers2 routePorts routeIn repeats every distinct elem storeAll store added closing firstFrom firstAbsent namesAbsent jitterAbsent extraAbsent validPlan validPort validFlow allTo anyTo sublist slack capacity window workload demand sumTo frames begun widened ceilDiv wireBits
+unfolding bytesK marked repriceLeaves repriceAnswer repriced replaced withLength after afterFrom loadLeaves noPlan readPlan readAs readForm formBy readFrom blank stepAt fieldAt fieldIn valueIn kindBy number2 number4 sizeAt wholeAt valueAt numbers2 routePorts routeIn repeats every distinct elem storeAll store added closing firstFrom firstAbsent namesAbsent absentIn jitterAbsent extraAbsent validPlan validPort validFlow allTo anyTo sublist slack capacity window workload demand sumTo frames begun widened ceilDiv wireBits
 listsK = (refl, refl, refl, refl, refl)

@@ -9,10 +9,11 @@ use Rattle.cqf.specs.worked.K.{planK}
 use Rattle.span_lists.specs.Span.{Span, spans, endingFrom}
 use Rattle.span_lists.specs.worked.Spans.{span, planKT, spansK, spansK50}
 use Rattle.plan.specs.Bytes.{number2, number4, sizeAt, wholeAt, valueAt, numbers2}
+use Rattle.plan.specs.Layout.{formBy}
 use Rattle.plan.specs.Field.{routePorts, routeIn, valueIn, kindBy, fieldIn, fieldAt, repeats}
 use Rattle.plan_reading.specs.Store.{store, storeAll}
 use Rattle.plan_reading.specs.Draft.{blank, added}
-use Rattle.plan_reading.specs.Reading.{stepAt, namesAbsent, jitterAbsent, extraAbsent, firstFrom, firstAbsent, closing, readFrom, readAs, readPlan, loose}
+use Rattle.plan_reading.specs.Reading.{stepAt, namesAbsent, jitterAbsent, extraAbsent, firstFrom, firstAbsent, closing, readFrom, readAs, readPlan, loose, absentIn, readForm}
 use Rattle.answers.specs.Answer.{Answer, result, refusal}
 use Rattle.loading.specs.Outcome.{loadLeaves}
 use Rattle.questions.specs.Outcome.{asked}
@@ -28,7 +29,7 @@ bytesK50 = 0x01 ∷ 0x00 ∷ 0x08 ∷ 0x00 ∷ 0x00 ∷ 0x03 ∷ 0xe8 ∷ 0x00 �
 
 -- the tables after the load of each
 tables : (after (load loose bytesK ∷ []) ≡ planK) × (after (load loose bytesK50 ∷ []) ≡ planKT 50000 0)
-unfolding bytesK bytesK50 planK planKT noPlan after afterFrom loadLeaves readPlan readAs readFrom blank stepAt fieldAt fieldIn valueIn kindBy number2 number4 sizeAt wholeAt valueAt numbers2 routePorts routeIn repeats every distinct elem storeAll store added closing firstFrom firstAbsent namesAbsent jitterAbsent extraAbsent
+unfolding bytesK bytesK50 planK planKT noPlan after afterFrom loadLeaves readPlan readAs readForm formBy readFrom blank stepAt fieldAt fieldIn valueIn kindBy number2 number4 sizeAt wholeAt valueAt numbers2 routePorts routeIn repeats every distinct elem storeAll store added closing firstFrom firstAbsent namesAbsent absentIn jitterAbsent extraAbsent
 tables = (refl, refl)
 
 -- one span for each of these durations, by the list of all

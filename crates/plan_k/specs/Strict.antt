@@ -9,10 +9,11 @@ use Rattle.cqf.specs.Bounded.{elem, distinct, every}
 use Rattle.cqf.specs.Plan.{noPlan}
 use Rattle.cqf.specs.worked.K.{planK}
 use Rattle.plan.specs.Bytes.{number2, number4, sizeAt, wholeAt, valueAt, numbers2}
+use Rattle.plan.specs.Layout.{formBy}
 use Rattle.plan.specs.Field.{routePorts, routeIn, valueIn, kindBy, fieldIn, fieldAt, repeats}
 use Rattle.plan_reading.specs.Store.{store, storeAll}
 use Rattle.plan_reading.specs.Draft.{blank, added}
-use Rattle.plan_reading.specs.Reading.{stepAt, namesAbsent, jitterAbsent, extraAbsent, firstFrom, firstAbsent, closing, readFrom, readAs, strict, accepted}
+use Rattle.plan_reading.specs.Reading.{stepAt, namesAbsent, jitterAbsent, extraAbsent, firstFrom, firstAbsent, closing, readFrom, readAs, strict, accepted, absentIn, readForm}
 use Rattle.answers.specs.Answer.{result, refusal}
 use Rattle.loading.specs.Outcome.{loadAnswer}
 use Rattle.sequences.specs.Calls.{load, after, heldFrom, heldBytes}
@@ -23,7 +24,7 @@ use Rattle.plan_k.specs.Jitter.{jitter}
 
 -- K stands in strict order
 strictK : readAs strict bytesK ≡ accepted planK 1 2
-unfolding bytesK planK noPlan readAs readFrom blank stepAt fieldAt fieldIn valueIn kindBy number2 number4 sizeAt wholeAt valueAt numbers2 routePorts routeIn repeats every distinct elem storeAll store added closing firstFrom firstAbsent namesAbsent jitterAbsent extraAbsent
+unfolding bytesK planK noPlan readAs readForm formBy readFrom blank stepAt fieldAt fieldIn valueIn kindBy number2 number4 sizeAt wholeAt valueAt numbers2 routePorts routeIn repeats every distinct elem storeAll store added closing firstFrom firstAbsent namesAbsent absentIn jitterAbsent extraAbsent
 strictK = refl
 
 -- K with 0 ns of jitter for flow 1 at its end: other bytes, and in strict order too
@@ -36,7 +37,7 @@ unfolding bytesZero bytesK jitter
 other e = let z : _≡_ {A = ℕ} 61 52 = ap length e in absurd (omega arith)
 
 strictZero : readAs strict bytesZero ≡ accepted planK 1 2
-unfolding bytesZero bytesK jitter planK noPlan readAs readFrom blank stepAt fieldAt fieldIn valueIn kindBy number2 number4 sizeAt wholeAt valueAt numbers2 routePorts routeIn repeats every distinct elem storeAll store added closing firstFrom firstAbsent namesAbsent jitterAbsent extraAbsent
+unfolding bytesZero bytesK jitter planK noPlan readAs readForm formBy readFrom blank stepAt fieldAt fieldIn valueIn kindBy number2 number4 sizeAt wholeAt valueAt numbers2 routePorts routeIn repeats every distinct elem storeAll store added closing firstFrom firstAbsent namesAbsent absentIn jitterAbsent extraAbsent
 strictZero = refl
 
 -- the strict loads of the two leave the same plan held
@@ -86,5 +87,5 @@ answers
     ∷ refusal 9 (52 ∷ [])
     ∷ refusal 12 (15 ∷ [])
     ∷ []
-unfolding extra jitter flow3 port twice bytesK loadAnswer noPlan readAs readFrom blank stepAt fieldAt fieldIn valueIn kindBy number2 number4 sizeAt wholeAt valueAt numbers2 routePorts routeIn repeats every distinct elem storeAll store added closing firstFrom firstAbsent namesAbsent jitterAbsent extraAbsent
+unfolding extra jitter flow3 port twice bytesK loadAnswer noPlan readAs readForm formBy readFrom blank stepAt fieldAt fieldIn valueIn kindBy number2 number4 sizeAt wholeAt valueAt numbers2 routePorts routeIn repeats every distinct elem storeAll store added closing firstFrom firstAbsent namesAbsent absentIn jitterAbsent extraAbsent
 answers = refl
