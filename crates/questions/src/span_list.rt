@@ -4,6 +4,7 @@ use super::one_span::no_span;
 use super::span_count::count_spans;
 use super::span_count::span_after;
 use tables::Planner;
+use tables::held_top;
 use tables::valid_tables;
 ghost use mathlib.Core.Path.{_≡_};
 ghost use mathlib.Core.Bool.{true};
@@ -32,9 +33,10 @@ fn next_span(planner: Planner, span: SpanRecord) -> SpanRecord
     requires { ⌜ validPlan (planOf planner) ≡ true ⌝ }
     ensures { λ r. ⌜ r ≡ after (planOf planner) span ⌝ }
 {
+    let top = held_top(planner.form, &planner.hops, planner.top);
     span_after(
         planner.guard,
-        planner.top,
+        top,
         planner.clock,
         &planner.rates,
         &planner.blockings,
@@ -53,9 +55,10 @@ fn next_span(planner: Planner, span: SpanRecord) -> SpanRecord
 fn span_count(planner: Planner, size: usize) -> SpanCount
     ensures { λ r. ⌜ Counted (planOf planner) size r ⌝ }
 {
+    let top = held_top(planner.form, &planner.hops, planner.top);
     if !valid_tables(
         planner.guard,
-        planner.top,
+        top,
         planner.clock,
         &planner.rates,
         &planner.blockings,
@@ -75,7 +78,7 @@ fn span_count(planner: Planner, size: usize) -> SpanCount
     }
     let count = count_spans(
         planner.guard,
-        planner.top,
+        top,
         planner.clock,
         &planner.rates,
         &planner.blockings,

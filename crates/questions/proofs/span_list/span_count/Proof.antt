@@ -3,36 +3,49 @@ use mathlib.Core.Path.{_≡_, sym, _∙_}
 use mathlib.Core.Bool.{true, false, false≢true}
 use native.Mathlib.Omega.{arith}
 use borrow.Author.Tests.{not-true, not-false}
+use lib.ListN.{length}
 use Rattle.cqf.specs.Plan.{Plan, validPlan}
+use Rattle.span_lists.specs.Span.{spans}
 use Rattle.tables.specs.Tables.{planOf}
 use Rattle.questions.specs.laws.Counted.{listed-none, listed-short, listed-all}
 use Rattle.questions.proofs.span_list.span_count.Statement.{statement}
 use Rattle.questions.proofs.span_list.span_count.Tie as tie
 
--- where the function starts, from past the test of the tables
-abbrev start : tie.After-valid-tables → tie.Start
-start c = c .before .before .before .before .before .before .before .before .before .before .before .before
+-- where the top by the form is known, from past the test of the tables
+abbrev topped : tie.After-valid-tables → tie.After-held-top
+topped c = c .before .before .before .before .before .before .before .before .before .before .before .before
 
 abbrev p : tie.After-valid-tables → Plan
-p c = planOf (start c .args .t1)
+p c = planOf (topped c .before .before .before .args .t1)
+
+-- the test is of the plan that is held
+tests : (c : tie.After-valid-tables) → c .valid-tables .result ≡ validPlan (p c)
+tests c = rw (topped c .held-top .ensures) at (c .valid-tables .ensures)
 
 valid : (c : tie.Else1) → validPlan (p (c .before)) ≡ true
-valid c = sym (c .before .valid-tables .ensures) ∙ not-false _ (c .if1 .left)
+valid c = sym (tests (c .before)) ∙ not-false _ (c .if1 .left)
 
 -- past that test, with the columns lent once more
 abbrev tested : tie.After-count-spans-arg10 → tie.Else1
 tested c = c .before .before .before .before .before .before .before .before .before .before .before
+
+held-top-requires : tie.Need-held-top-requires
+held-top-requires c κs = tt
 
 valid-tables-requires : tie.Need-valid-tables-requires
 valid-tables-requires c κs = tt
 
 returns : tie.Need-returns
 returns c =
-    let e : validPlan (p (c .before)) ≡ false = sym (c .before .valid-tables .ensures) ∙ not-true _ (c .if1 .taken) in
+    let e : validPlan (p (c .before)) ≡ false = sym (tests (c .before)) ∙ not-true _ (c .if1 .taken) in
     record { held = sym e; count = λ v. absurd (false≢true (sym e ∙ v)); listed = sym (listed-none (p (c .before)) _ e) }
 
 count-spans-requires : tie.Need-count-spans-requires
-count-spans-requires c κs = valid (tested c)
+count-spans-requires c κs = let first = tested c in rw (topped (first .before) .held-top .ensures) (valid first)
+
+-- the spans that are counted are those of the plan that is held
+counts : (c : tie.After-count-spans) → c .count-spans .result ≡ length (spans (p (tested (c .before) .before)))
+counts c = rw (topped (tested (c .before) .before) .held-top .ensures) at (c .count-spans .ensures)
 
 returns-2 : tie.Need-returns-2
 returns-2 c =
@@ -40,8 +53,8 @@ returns-2 c =
     let first = tested (at .before) in
     record {
       held = sym (valid first);
-      count = λ _. at .count-spans .ensures;
-      listed = at .count-spans .ensures ∙ sym (listed-all (p (first .before)) _ (valid first) (omega (arith, at .count-spans .ensures, c .if2 .taken)));
+      count = λ _. counts at;
+      listed = counts at ∙ sym (listed-all (p (first .before)) _ (valid first) (omega (arith, counts at, c .if2 .taken)));
     }
 
 returns-3 : tie.Need-returns-3
@@ -50,14 +63,15 @@ returns-3 c =
     let first = tested (at .before) in
     record {
       held = sym (valid first);
-      count = λ _. at .count-spans .ensures;
-      listed = sym (listed-short (p (first .before)) _ (omega (arith, at .count-spans .ensures, c .if2 .left)));
+      count = λ _. counts at;
+      listed = sym (listed-short (p (first .before)) _ (omega (arith, counts at, c .if2 .left)));
     }
 
 pub span-count-spec : {M : Type 1} → statement M
 span-count-spec =
     tie.close
     (tie.spec
+    held-top-requires
     valid-tables-requires
     returns
     count-spans-requires
