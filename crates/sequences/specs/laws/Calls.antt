@@ -96,7 +96,7 @@ load-formed held form mode s h = go (readAs mode s)
   where
     go : (r : PlanRead) → Formed (accepting held s r) (readingForm form (formNumber (formBy s)) r)
     go (accepted q m n) t d = let st : s ≡ t = cc in ap (λ (u : List ℕ). formNumber (formBy u)) st
-    go (rejected m n) = h
+    go (rejected m n) t d = h t d
 
 call-formed : (held : Option (List ℕ)) (form : ℕ) (c : Call) → Formed held form → Formed (keeping held c) (formLeaves form c)
 call-formed held form (load mode s) h = load-formed held form mode s h
