@@ -9,6 +9,7 @@ use super::VACANT;
 use questions::FixedPointAnswer;
 use questions::fixed_point_tables;
 use tables::Planner;
+use tables::held_top;
 ghost use mathlib.Core.Path.{_≡_};
 ghost use Prim.Native.Nat.{_<_};
 ghost use Rattle.batches.specs.Slot.{vacant, pending, turned};
@@ -78,9 +79,10 @@ pub(crate) fn turned(planner: Planner, duration: u64, steps: u64) -> Slot
     requires { ⌜ steps < duration ⌝ }
     ensures { λ r. ⌜ slotOf r ≡ turned (planOf planner) duration steps ⌝ }
 {
+    let top = held_top(planner.form, &planner.hops, planner.top);
     let answer = fixed_point_tables(
         planner.guard,
-        planner.top,
+        top,
         planner.clock,
         &planner.rates,
         &planner.blockings,

@@ -1,4 +1,5 @@
-// The calls: the planner by value, its tables lent column by column.
+// The calls: the planner by value, its tables lent column by column, with the top that they have by their form.
+use crate::forms::form_from;
 use gate_writing::GatesAnswer;
 use gate_writing::gates_tables;
 use questions::CheckAnswer;
@@ -15,7 +16,9 @@ use questions::slack_tables;
 use saving::SaveAnswer;
 use saving::save_tables;
 use tables::Planner;
+use tables::held_top;
 ghost use mathlib.Core.Path.{_≡_};
+ghost use Rattle.cqf.specs.Form.{formFrom};
 ghost use Rattle.tables.specs.Tables.{planOf};
 ghost use Rattle.questions.specs.Answer.{checkOf, slackOf, leastOf, marginSafeOf, fixedPointOf, repriceOf};
 ghost use Rattle.sequences.specs.Meaning.{CheckMeans};
@@ -34,9 +37,10 @@ pub fn check(planner: Planner, duration: u64) -> CheckAnswer
     ensures answers { λ r. ⌜ checkOf r ≡ checkAnswer (planOf planner) duration ⌝ }
     ensures means { λ r. ⌜ CheckMeans (planOf planner) duration (checkOf r) ⌝ }
 {
+    let top = held_top(planner.form, &planner.hops, planner.top);
     check_tables(
         planner.guard,
-        planner.top,
+        top,
         planner.clock,
         &planner.rates,
         &planner.blockings,
@@ -55,9 +59,10 @@ pub fn check(planner: Planner, duration: u64) -> CheckAnswer
 pub fn slack(planner: Planner, port: u64, duration: u64) -> SlackAnswer
     ensures { λ r. ⌜ slackOf r ≡ slackAnswer (planOf planner) port duration ⌝ }
 {
+    let top = held_top(planner.form, &planner.hops, planner.top);
     slack_tables(
         planner.guard,
-        planner.top,
+        top,
         planner.clock,
         &planner.rates,
         &planner.blockings,
@@ -80,10 +85,11 @@ pub fn least(planner: Planner, scratch: &mut [u64]) -> SearchAnswer
         × (now (scratch .exit) ≡ leastLeaves (planOf planner) (now (scratch .entry)))
         ⌝ }
 {
+    let top = held_top(planner.form, &planner.hops, planner.top);
     search_tables(
         Goal::Least,
         planner.guard,
-        planner.top,
+        top,
         planner.clock,
         &planner.rates,
         &planner.blockings,
@@ -105,10 +111,11 @@ pub fn margin_safe(planner: Planner, scratch: &mut [u64]) -> SearchAnswer
         × (now (scratch .exit) ≡ marginSafeLeaves (planOf planner) (now (scratch .entry)))
         ⌝ }
 {
+    let top = held_top(planner.form, &planner.hops, planner.top);
     search_tables(
         Goal::MarginSafe,
         planner.guard,
-        planner.top,
+        top,
         planner.clock,
         &planner.rates,
         &planner.blockings,
@@ -129,9 +136,10 @@ pub fn fixed_point(planner: Planner, start: u64, steps: u64) -> FixedPointAnswer
     ensures answers { λ r. ⌜ fixedPointOf r ≡ fixedPointAnswer (planOf planner) start steps ⌝ }
     ensures means { λ r. ⌜ FixedPointMeans (planOf planner) start steps (fixedPointOf r) ⌝ }
 {
+    let top = held_top(planner.form, &planner.hops, planner.top);
     fixed_point_tables(
         planner.guard,
-        planner.top,
+        top,
         planner.clock,
         &planner.rates,
         &planner.blockings,
@@ -158,9 +166,10 @@ pub fn reprice(
 ) -> RepriceAnswer
     ensures { λ r. ⌜ (repriceOf r ≡ repriceAnswer (planOf planner) duration flow length (now (out .entry))) × (now (out .exit) ≡ repriceLeaves (planOf planner) duration flow length (now (out .entry))) ⌝ }
 {
+    let top = held_top(planner.form, &planner.hops, planner.top);
     reprice_tables(
         planner.guard,
-        planner.top,
+        top,
         planner.clock,
         &planner.rates,
         &planner.blockings,
@@ -178,16 +187,19 @@ pub fn reprice(
     )
 }
 
-// The held plan in strict order, written into the buffer; 20 where none is held, 13 where the buffer is too short for it.
+// The held plan in strict order, in the form that it was read in, written into the buffer; 20 where none is held, 13 where the buffer is too short for it.
 pub fn save(planner: Planner, buffer: &mut [u8]) -> SaveAnswer
     ensures { λ r. ⌜
-        (saveOf r ≡ saveAnswer (planOf planner) (now (buffer .entry)))
-        × (now (buffer .exit) ≡ saveLeaves (planOf planner) (now (buffer .entry)))
+        (saveOf r ≡ saveAnswer (formFrom (planner .form)) (planOf planner) (now (buffer .entry)))
+        × (now (buffer .exit) ≡ saveLeaves (formFrom (planner .form)) (planOf planner) (now (buffer .entry)))
         ⌝ }
 {
+    let form = form_from(planner.form);
+    let top = held_top(planner.form, &planner.hops, planner.top);
     save_tables(
+        form,
         planner.guard,
-        planner.top,
+        top,
         planner.clock,
         &planner.rates,
         &planner.blockings,
@@ -211,9 +223,10 @@ pub fn gates(planner: Planner, duration: u64, even: u64, odd: u64, buffer: &mut 
         ⌝ }
     ensures means { λ r. ⌜ GatesMean (planOf planner) duration even odd (now (buffer .entry)) (now (buffer .exit)) (gatesOf r) ⌝ }
 {
+    let top = held_top(planner.form, &planner.hops, planner.top);
     gates_tables(
         planner.guard,
-        planner.top,
+        top,
         planner.clock,
         &planner.rates,
         &planner.blockings,

@@ -3,6 +3,7 @@ use questions::Goal;
 use questions::SearchAnswer;
 use questions::lean_tables;
 use tables::Planner;
+use tables::held_top;
 ghost use mathlib.Core.Path.{_≡_};
 ghost use Rattle.tables.specs.Tables.{planOf};
 ghost use Rattle.questions.specs.Answer.{leastOf, marginSafeOf};
@@ -15,10 +16,11 @@ pub fn lean_least(planner: Planner, scratch: &mut [u64]) -> SearchAnswer
         × (now (scratch .exit) ≡ leanLeastLeaves (planOf planner) (now (scratch .entry)))
         ⌝ }
 {
+    let top = held_top(planner.form, &planner.hops, planner.top);
     lean_tables(
         Goal::Least,
         planner.guard,
-        planner.top,
+        top,
         planner.clock,
         &planner.rates,
         &planner.blockings,
@@ -40,10 +42,11 @@ pub fn lean_margin_safe(planner: Planner, scratch: &mut [u64]) -> SearchAnswer
         × (now (scratch .exit) ≡ leanMarginSafeLeaves (planOf planner) (now (scratch .entry)))
         ⌝ }
 {
+    let top = held_top(planner.form, &planner.hops, planner.top);
     lean_tables(
         Goal::MarginSafe,
         planner.guard,
-        planner.top,
+        top,
         planner.clock,
         &planner.rates,
         &planner.blockings,

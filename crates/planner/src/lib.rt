@@ -1,5 +1,6 @@
 // The cycle planner: the held plan, the load, and the questions; and batches of plans.
 mod calls;
+mod forms;
 mod lean;
 mod number;
 mod usable;
