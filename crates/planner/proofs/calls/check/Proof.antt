@@ -14,7 +14,7 @@ told : (p : Plan) (T : ℕ) (a : Answer (Unit {0})) → a ≡ checkAnswer p T �
 told p T a e = (e, subst (λ (x : Answer (Unit {0})). CheckMeans p T x) (sym e) (check-means p T))
 
 returns : tie.Need-returns
-returns c = told _ _ _ (c .check-tables .ensures)
+returns c = told _ _ _ (rw (c .before .before .before .before .before .before .before .before .before .before .before .before .held-top .ensures) at (c .check-tables .ensures))
 
 pub check-spec : {M : Type 1} → statement M
-check-spec = tie.close (tie.spec (λ c κs. tt) returns)
+check-spec = tie.close (tie.spec (λ c κs. tt) (λ c κs. tt) returns)

@@ -20,7 +20,7 @@ fixed-point-tables-requires : tie.Need-fixed-point-tables-requires
 fixed-point-tables-requires c κs = tt
 
 returns : tie.Need-returns
-returns c = told _ _ _ _ (c .fixed-point-tables .ensures)
+returns c = told _ _ _ _ (rw (c .before .before .before .before .before .before .before .before .before .before .before .before .held-top .ensures) at (c .fixed-point-tables .ensures))
 
 pub fixed-point-spec : {M : Type 1} → statement M
-fixed-point-spec = tie.close (tie.spec fixed-point-tables-requires returns)
+fixed-point-spec = tie.close (tie.spec (λ c κs. tt) fixed-point-tables-requires returns)

@@ -5,7 +5,7 @@ use Rattle.planner.proofs.calls.least.Statement.{statement}
 use Rattle.planner.proofs.calls.least.Tie as tie
 
 returns : tie.Need-returns
-returns c = least-ends _ _ (c .before .before .search-tables .ensures)
+returns c = least-ends _ _ (rw (c .before .before .before .before .before .before .before .before .before .before .before .before .before .before .before .held-top .ensures) at (c .before .before .search-tables .ensures))
 
 pub least-spec : {M : Type 1} → statement M
-least-spec = tie.close (tie.spec (λ c κs. tt) (λ c. search needs) returns)
+least-spec = tie.close (tie.spec (λ c κs. tt) (λ c κs. tt) (λ c. search needs) returns)

@@ -5,7 +5,7 @@ use Rattle.planner.proofs.calls.margin_safe.Statement.{statement}
 use Rattle.planner.proofs.calls.margin_safe.Tie as tie
 
 returns : tie.Need-returns
-returns c = margin-safe-ends _ _ (c .before .before .search-tables .ensures)
+returns c = margin-safe-ends _ _ (rw (c .before .before .before .before .before .before .before .before .before .before .before .before .before .before .before .held-top .ensures) at (c .before .before .search-tables .ensures))
 
 pub margin-safe-spec : {M : Type 1} → statement M
-margin-safe-spec = tie.close (tie.spec (λ c κs. tt) (λ c. search needs) returns)
+margin-safe-spec = tie.close (tie.spec (λ c κs. tt) (λ c κs. tt) (λ c. search needs) returns)

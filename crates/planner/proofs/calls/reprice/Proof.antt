@@ -10,7 +10,7 @@ same-length : tie.Need-same-length
 same-length c = search needs
 
 returns : tie.Need-returns
-returns c = c .before .reprice-tables .ensures
+returns c = rw (c .before .before .before .before .before .before .before .before .before .before .before .before .before .before .held-top .ensures) at (c .before .reprice-tables .ensures)
 
 pub reprice-spec : {M : Type 1} → statement M
-reprice-spec = tie.close (tie.spec reprice-tables-requires same-length returns)
+reprice-spec = tie.close (tie.spec (λ c κs. tt) reprice-tables-requires same-length returns)

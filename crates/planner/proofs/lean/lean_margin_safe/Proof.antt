@@ -5,7 +5,7 @@ use Rattle.planner.proofs.lean.lean_margin_safe.Statement.{statement}
 use Rattle.planner.proofs.lean.lean_margin_safe.Tie as tie
 
 returns : tie.Need-returns
-returns c = lean-margin-safe-ends _ _ (c .before .before .lean-tables .ensures)
+returns c = lean-margin-safe-ends _ _ (rw (c .before .before .before .before .before .before .before .before .before .before .before .before .before .before .before .held-top .ensures) at (c .before .before .lean-tables .ensures))
 
 pub lean-margin-safe-spec : {M : Type 1} → statement M
-lean-margin-safe-spec = tie.close (tie.spec (λ c κs. tt) (λ c. search needs) returns)
+lean-margin-safe-spec = tie.close (tie.spec (λ c κs. tt) (λ c κs. tt) (λ c. search needs) returns)

@@ -15,7 +15,7 @@ told : (p : Plan) (T : ℕ) (a : Answer Span) → a ≡ spanAnswer p T → (a �
 told p T a e = (e, subst (λ (x : Answer Span). SpanMeans p T x) (sym e) (span-means p T))
 
 returns : tie.Need-returns
-returns c = told _ _ _ (c .span-tables .ensures)
+returns c = told _ _ _ (rw (c .before .before .before .before .before .before .before .before .before .before .before .before .held-top .ensures) at (c .span-tables .ensures))
 
 pub span-spec : {M : Type 1} → statement M
-span-spec = tie.close (tie.spec (λ c κs. tt) returns)
+span-spec = tie.close (tie.spec (λ c κs. tt) (λ c κs. tt) returns)
