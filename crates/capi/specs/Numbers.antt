@@ -2,11 +2,14 @@
 use Prim.Native.Nat.{ℕ}
 use mathlib.Core.List.{List, [], _∷_, _++_}
 use mathlib.Core.Option.{Option, none, some}
+use mathlib.Core.Bool.{cond}
+use lib.Dec.{eqb}
 use lib.ListN.{getD}
 use lib.IntN.{ℤ, pos}
 use Rattle.answers.specs.Answer.{Answer, result, refusal}
 use Rattle.loading.specs.Outcome.{Fields}
-use Rattle.plan.specs.Layout.{layout}
+use Rattle.cqf.specs.Form.{Form, older, newer}
+use Rattle.plan.specs.Layout.{Kind, layout}
 use Rattle.plan.specs.Field.{FieldRead, field, refused}
 use Rattle.questions.specs.FixedPoint.{FixedPoint}
 use Rattle.batches.specs.Batch.{slotCount}
@@ -73,12 +76,16 @@ abbrev pub servedNumber : Option ℕ → ℕ
 servedNumber none = slotCount
 servedNumber (some slot) = slot
 
--- five numbers of these, 0 behind them
-abbrev pub five : List ℕ → List ℕ
-five l = getD l 0 0 ∷ getD l 1 0 ∷ getD l 2 0 ∷ getD l 3 0 ∷ getD l 4 0 ∷ []
+-- six numbers of these, 0 behind them
+abbrev pub six : List ℕ → List ℕ
+six l = getD l 0 0 ∷ getD l 1 0 ∷ getD l 2 0 ∷ getD l 3 0 ∷ getD l 4 0 ∷ getD l 5 0 ∷ []
 
 -- a field's tag and its numbers, and how many ports its route has
 abbrev pub fieldNumbers : FieldRead → FieldReadNumbers
 fieldNumbers (field x next) =
-    record { refusal = 0; tag = layout (x .kind) .tag; offset = next; numbers = five (x .numbers ++ (x .hops ∷ [])) }
-fieldNumbers (refused number offset) = record { refusal = number; tag = 0; offset = offset; numbers = five [] }
+    record { refusal = 0; tag = layout (x .kind) .tag; offset = next; numbers = six (x .numbers ++ (x .hops ∷ [])) }
+fieldNumbers (refused number offset) = record { refusal = number; tag = 0; offset = offset; numbers = six [] }
+
+-- the form of which a flow's tag is: the older one for any tag but the newer flow's
+abbrev pub formByTag : ℕ → Form
+formByTag tag = cond (eqb tag (layout Kind.flow2 .tag)) newer older

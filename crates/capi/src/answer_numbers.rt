@@ -6,6 +6,7 @@ use crate::LoadOutcomeNumbers;
 use crate::SlackAnswerNumbers;
 use plan::Field;
 use plan::FieldRead;
+use plan::Form;
 use planner::CheckAnswer;
 use planner::FixedPointAnswer;
 use planner::LoadAnswer;
@@ -22,12 +23,12 @@ use planner::reprice_number;
 use planner::slack_number;
 ghost use mathlib.Core.Path.{_≡_};
 ghost use Prim.Native.Nat.{ℕ};
-ghost use Rattle.plan.specs.Answer.{fieldReadOf};
+ghost use Rattle.plan.specs.Answer.{formOf, fieldReadOf};
 ghost use Rattle.tables.specs.Tables.{planOf};
 ghost use Rattle.answers.specs.Answer.{refusalNumber};
 ghost use Rattle.loading.specs.Answer.{loadOf};
 ghost use Rattle.questions.specs.Answer.{checkOf, slackOf, searchOf, leastOf, marginSafeOf, fixedPointOf, repriceOf};
-ghost use Rattle.capi.specs.Numbers.{loadNumbers, checkNumbers, slackNumbers, searchNumbers, stepsNumbers, fieldNumbers};
+ghost use Rattle.capi.specs.Numbers.{loadNumbers, checkNumbers, slackNumbers, searchNumbers, stepsNumbers, fieldNumbers, formByTag};
 
 // The tags of the fields.
 const HEADER: u32 = plan::layout::HEADER_TAG as u32;
@@ -41,6 +42,12 @@ const EXTRA: u32 = plan::layout::EXTRA_TAG as u32;
 const JITTER: u32 = plan::layout::JITTER_TAG as u32;
 
 const CLOCK: u32 = plan::layout::CLOCK_TAG as u32;
+
+const HEADER2: u32 = plan::layout::HEADER2_TAG as u32;
+
+const PORT2: u32 = plan::layout::PORT2_TAG as u32;
+
+const FLOW2: u32 = plan::layout::FLOW2_TAG as u32;
 
 pub(crate) fn numbered(refusal: u32, first: u64, second: u64) -> AnswerNumbers
     ensures { λ r. ⌜ r ≡ (record { refusal = refusal; first = first; second = second }) ⌝ }
@@ -162,6 +169,16 @@ pub(crate) fn reprice_in_c(answer: RepriceAnswer) -> AnswerNumbers
     numbered(reprice_number(answer), 0, 0)
 }
 
+// The form of which a flow's tag is; any other number counts as the older one's.
+pub(crate) fn form_by_tag(tag: u32) -> Form
+    ensures { λ r. ⌜ formOf r ≡ formByTag tag ⌝ }
+{
+    if tag == FLOW2 {
+        return Form::Newer;
+    }
+    Form::Older
+}
+
 pub(crate) fn field_in_c(reading: FieldRead) -> FieldReadNumbers
     ensures { λ r. ⌜ r ≡ fieldNumbers (fieldReadOf reading) ⌝ }
 {
@@ -170,20 +187,20 @@ pub(crate) fn field_in_c(reading: FieldRead) -> FieldReadNumbers
             refusal: plan::fault_number(fault) as u32,
             tag: 0,
             offset: offset as u64,
-            numbers: [0, 0, 0, 0, 0],
+            numbers: [0, 0, 0, 0, 0, 0],
         },
         FieldRead::Field { field, next } => match field {
             Field::Header(h) => FieldReadNumbers {
                 refusal: 0,
                 tag: HEADER,
                 offset: next as u64,
-                numbers: [h.guard as u64, h.top as u64, 0, 0, 0],
+                numbers: [h.guard as u64, h.top as u64, 0, 0, 0, 0],
             },
             Field::Port(p) => FieldReadNumbers {
                 refusal: 0,
                 tag: PORT,
                 offset: next as u64,
-                numbers: [p.number as u64, p.rate as u64, p.blocking as u64, 0, 0],
+                numbers: [p.number as u64, p.rate as u64, p.blocking as u64, 0, 0, 0],
             },
             Field::Flow(f) => FieldReadNumbers {
                 refusal: 0,
@@ -195,19 +212,20 @@ pub(crate) fn field_in_c(reading: FieldRead) -> FieldReadNumbers
                     f.count as u64,
                     f.length as u64,
                     f.hops as u64,
+                    0,
                 ],
             },
             Field::Extra(e) => FieldReadNumbers {
                 refusal: 0,
                 tag: EXTRA,
                 offset: next as u64,
-                numbers: [e.number as u64, e.extra as u64, 0, 0, 0],
+                numbers: [e.number as u64, e.extra as u64, 0, 0, 0, 0],
             },
             Field::Jitter(j) => FieldReadNumbers {
                 refusal: 0,
                 tag: JITTER,
                 offset: next as u64,
-                numbers: [j.number as u64, j.jitter as u64, 0, 0, 0],
+                numbers: [j.number as u64, j.jitter as u64, 0, 0, 0, 0],
             },
             Field::Clock(k) => FieldReadNumbers {
                 refusal: 0,
@@ -219,6 +237,46 @@ pub(crate) fn field_in_c(reading: FieldRead) -> FieldReadNumbers
                     k.sync_error as u64,
                     0,
                     0,
+                    0,
+                ],
+            },
+            Field::Header2(h) => FieldReadNumbers {
+                refusal: 0,
+                tag: HEADER2,
+                offset: next as u64,
+                numbers: [
+                    h.guard as u64,
+                    h.top as u64,
+                    h.drift as u64,
+                    h.timing_jitter as u64,
+                    h.sync_error as u64,
+                    0,
+                ],
+            },
+            Field::Port2(p) => FieldReadNumbers {
+                refusal: 0,
+                tag: PORT2,
+                offset: next as u64,
+                numbers: [
+                    p.number as u64,
+                    p.rate as u64,
+                    p.blocking as u64,
+                    p.extra as u64,
+                    0,
+                    0,
+                ],
+            },
+            Field::Flow2(f) => FieldReadNumbers {
+                refusal: 0,
+                tag: FLOW2,
+                offset: next as u64,
+                numbers: [
+                    f.number as u64,
+                    f.period as u64,
+                    f.count as u64,
+                    f.length as u64,
+                    f.jitter as u64,
+                    f.hops as u64,
                 ],
             },
         },

@@ -2,6 +2,7 @@
 use crate::answer_numbers::check_in_c;
 use crate::answer_numbers::field_in_c;
 use crate::answer_numbers::fixed_point_in_c;
+use crate::answer_numbers::form_by_tag;
 use crate::answer_numbers::least_in_c;
 use crate::answer_numbers::margin_safe_in_c;
 use crate::answer_numbers::outcome_numbers;
@@ -19,6 +20,7 @@ use planner::Planner;
 use planner::SpanRecord;
 ghost use mathlib.Core.Path.{_≡_};
 ghost use lib.ListN.{length};
+ghost use Rattle.cqf.specs.Form.{formFrom};
 ghost use Rattle.cqf.specs.Plan.{noPlan};
 ghost use Rattle.plan.specs.Layout.{formBy};
 ghost use Rattle.plan.specs.Field.{fieldAt, repeats};
@@ -35,7 +37,7 @@ ghost use Rattle.gate_writing.specs.Gates.{gatesAnswer, gatesLeaves};
 ghost use Rattle.batches.specs.Batch.{emptyBatch, placeAnswer, placeLeaves, serveAnswer, serveLeaves, collectAnswer, collectLeaves};
 ghost use Rattle.batching.specs.Slots.{batchOf};
 ghost use Rattle.capi.specs.Meaning.{CheckNumbersMean, StepsNumbersMean, GatesNumbersMean, SpanNumbersMean, SpansNumbersMean};
-ghost use Rattle.capi.specs.Numbers.{loadNumbers, checkNumbers, slackNumbers, searchNumbers, spanNumbers, stepsNumbers, writtenNumbers, servedNumber, fieldNumbers};
+ghost use Rattle.capi.specs.Numbers.{loadNumbers, checkNumbers, slackNumbers, searchNumbers, spanNumbers, stepsNumbers, writtenNumbers, servedNumber, fieldNumbers, formByTag};
 
 mod answer_numbers; // answer_numbers.rt: each answer as numbers
 mod batch_numbers; // batch_numbers.rt: those of the calls of a batch
@@ -74,7 +76,7 @@ pub struct FieldReadNumbers {
     pub refusal: u32,
     pub tag: u32,
     pub offset: u64,
-    pub numbers: [u64; 5],
+    pub numbers: [u64; 6],
 }
 
 #[repr(C)]
@@ -111,10 +113,10 @@ pub extern "C" fn cp_field(plan: &[u8], offset: usize) -> FieldReadNumbers
 }
 
 #[no_mangle]
-pub extern "C" fn cp_repeats(value: &[u8]) -> bool
-    ensures { λ r. ⌜ r ≡ repeats (now (value .entry)) ⌝ }
+pub extern "C" fn cp_repeats(tag: u32, value: &[u8]) -> bool
+    ensures { λ r. ⌜ r ≡ repeats (formByTag tag) (now (value .entry)) ⌝ }
 {
-    plan::repeats_port(value)
+    plan::repeats_port(form_by_tag(tag), value)
 }
 
 #[no_mangle]
@@ -245,8 +247,8 @@ pub extern "C" fn cp_spans(planner: Planner, list: &mut [SpanRecord]) -> AnswerN
 #[no_mangle]
 pub extern "C" fn cp_save(planner: Planner, buffer: &mut [u8]) -> AnswerNumbers
     ensures { λ r. ⌜
-        (r ≡ writtenNumbers (saveAnswer (planOf planner) (now (buffer .entry))))
-        × (now (buffer .exit) ≡ saveLeaves (planOf planner) (now (buffer .entry)))
+        (r ≡ writtenNumbers (saveAnswer (formFrom (planner .form)) (planOf planner) (now (buffer .entry))))
+        × (now (buffer .exit) ≡ saveLeaves (formFrom (planner .form)) (planOf planner) (now (buffer .entry)))
         ⌝ }
 {
     save_in_c(planner::save(planner, buffer))

@@ -24,6 +24,15 @@ returns-6 c = rw (c .before .before .before .before .before .before .reading2 .g
 returns-7 : tie.Need-returns-7
 returns-7 c = rw (c .before .before .before .before .before .before .before .reading2 .given .1, c .before .before .before .before .field6 .given .1)
 
+returns-8 : tie.Need-returns-8
+returns-8 c = rw (c .before .before .before .before .before .before .before .before .before .reading2 .given .1, c .before .before .before .before .before .before .field7 .given .1)
+
+returns-9 : tie.Need-returns-9
+returns-9 c = rw (c .before .before .before .before .before .before .before .before .reading2 .given .1, c .before .before .before .before .before .field8 .given .1)
+
+returns-10 : tie.Need-returns-10
+returns-10 c = rw (c .before .before .before .before .before .before .before .before .before .before .reading2 .given .1, c .before .before .before .before .before .before .before .field9 .given .1)
+
 pub field-in-c-spec : {M : Type 1} → statement M
 field-in-c-spec =
     tie.close
@@ -55,10 +64,31 @@ field-in-c-spec =
     (λ c. search needs)
     (λ c. search needs)
     (λ c. search needs)
+    (λ c. search needs)
+    (λ c. search needs)
+    (λ c. search needs)
+    (λ c. search needs)
+    (λ c. search needs)
+    (λ c. search needs)
+    (λ c. search needs)
+    (λ c. search needs)
+    (λ c. search needs)
+    (λ c. search needs)
+    (λ c. search needs)
+    (λ c. search needs)
+    (λ c. search needs)
+    (λ c. search needs)
+    (λ c. search needs)
+    (λ c. search needs)
+    (λ c. search needs)
+    (λ c. search needs)
     returns
     returns-2
     returns-3
     returns-4
     returns-5
     returns-6
-    returns-7)
+    returns-7
+    returns-8
+    returns-9
+    returns-10)
