@@ -1,23 +1,21 @@
-// Reads a plan of any spelling from standard input and writes its strict bytes, those as which it is saved, to standard output.
+// Reads a plan of any spelling from standard input and writes its strict bytes, those as which it is saved in its form, to standard output.
 use console::say;
 use console::say_refused_plan;
 use planner::LoadAnswer;
 use planner::Planner;
 use planner::SaveAnswer;
-ghost use mathlib.Core.Path.{_≡_};
-ghost use mathlib.Core.Bool.{true};
 ghost use Prim.Native.Nat.{_≤_};
 ghost use lib.ListN.{length};
-ghost use Rattle.cqf.specs.Plan.{validPlan};
+ghost use Rattle.cqf.specs.Form.{formFrom};
 ghost use Rattle.plan_reading.specs.Reading.{maxBytes};
-ghost use Rattle.plan_reading.specs.Saved.{savedBytes};
+ghost use Rattle.plan_reading.specs.Saved.{formBytes};
 ghost use Rattle.tables.specs.Tables.{planOf};
-ghost use Rattle.normalize.specs.{Front};
+ghost use Rattle.normalize.specs.{Front, Saveable};
 
 // The saved plan in front of the buffer, and its length: a buffer of the longest plan's length has room for every plan.
 fn saved(planner: Planner, buffer: &mut [u8]) -> usize
-    requires { ⌜ (validPlan (planOf planner) ≡ true) × (maxBytes ≤ length (now buffer)) ⌝ }
-    ensures { λ r. ⌜ Front (savedBytes (planOf planner)) (now (buffer .exit)) r ⌝ }
+    requires { ⌜ Saveable planner × (maxBytes ≤ length (now buffer)) ⌝ }
+    ensures { λ r. ⌜ Front (formBytes (formFrom (planner .form)) (planOf planner)) (now (buffer .exit)) r ⌝ }
 {
     match planner::save(planner, buffer) {
         SaveAnswer::Written(size) => size,
@@ -27,7 +25,7 @@ fn saved(planner: Planner, buffer: &mut [u8]) -> usize
 }
 
 fn write_saved(planner: Planner)
-    requires { ⌜ validPlan (planOf planner) ≡ true ⌝ }
+    requires { ⌜ Saveable planner ⌝ }
 {
     let mut buffer = [0u8; loading::MAX_BYTES];
     let size = saved(planner, &mut buffer);

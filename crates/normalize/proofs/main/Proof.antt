@@ -2,7 +2,7 @@
 use mathlib.Core.Path.{ap}
 use borrow.Author.Needs.{needs}
 use Rattle.loading.specs.Answer.{loadOf}
-use Rattle.console.specs.laws.Held.{held-valid}
+use Rattle.console.specs.laws.Held.{held-valid, held-short}
 use Rattle.normalize.proofs.main.Statement.{statement}
 use Rattle.normalize.proofs.main.Tie as tie
 
@@ -25,7 +25,10 @@ enum-told : tie.Need-enum-told
 enum-told c = search needs
 
 write-saved-requires : tie.Need-write-saved-requires
-write-saved-requires c κs = held-valid _ (c .before .before .before .before .given-plan .ensures) (ap loadOf (c .enum-told .given .1))
+write-saved-requires c κs =
+    let given = c .before .before .before .before .given-plan .ensures in
+    let held = ap loadOf (c .enum-told .given .1) in
+    (held-valid _ given held, held-short _ given held)
 
 returns : tie.Need-returns
 returns c = search needs
