@@ -1,6 +1,6 @@
 -- Plan K in the newer form, 74 bytes: its answers are K's. And a flow over 24 ports.
 use mathlib.Core.Path.{_≡_, refl, sym, ap, _∙_}
-use mathlib.Core.List.{List, [], _∷_, _++_, map}
+use mathlib.Core.List.{List, [], _∷_, _++_}
 use mathlib.Core.Option.{some}
 use mathlib.Core.Bool.{true}
 use Prim.Native.Nat.{ℕ, zero, suc, _<_}
@@ -23,7 +23,7 @@ use Rattle.plan.specs.Layout.{formBy}
 use Rattle.plan.specs.Field.{routePorts, routeIn, valueIn, kindBy, fieldIn, fieldAt, repeats}
 use Rattle.plan_reading.specs.Store.{store, storeAll}
 use Rattle.plan_reading.specs.Draft.{blank, added}
-use Rattle.plan_reading.specs.Reading.{PlanRead, stepAt, absentIn, namesAbsent, jitterAbsent, extraAbsent, firstFrom, firstAbsent, closing, readFrom, readForm, readAs, Mode, loose, strict, accepted, rejected}
+use Rattle.plan_reading.specs.Reading.{stepAt, absentIn, namesAbsent, jitterAbsent, extraAbsent, firstFrom, firstAbsent, closing, readFrom, readForm, readAs, readPlan, loose, strict, accepted, rejected}
 use Rattle.plan_reading.specs.FieldBytes.{bytes2s, valueOf, bytesOf, rowBytes}
 use Rattle.plan_reading.specs.Saved.{collectFields, newerFields, formBytes}
 use Rattle.loading.specs.Outcome.{loadLeaves}
@@ -56,9 +56,13 @@ unfolding bytesK2 header2 port2 flows2
 long = refl
 
 -- either reading accepts it, with one port and two flows, and its tables are K's
-readK2 : map (λ (mode : Mode). readAs mode bytesK2) (loose ∷ strict ∷ []) ≡ accepted planK 1 2 ∷ accepted planK 1 2 ∷ []
+readK2 : readAs loose bytesK2 ≡ accepted planK 1 2
 unfolding bytesK2 header2 port2 flows2 planK noPlan readAs readForm formBy readFrom blank stepAt fieldAt fieldIn valueIn kindBy number2 number4 sizeAt wholeAt valueAt numbers2 routePorts routeIn repeats every distinct elem storeAll store added closing firstFrom firstAbsent namesAbsent absentIn jitterAbsent extraAbsent
 readK2 = refl
+
+strictK2 : readAs strict bytesK2 ≡ accepted planK 1 2
+unfolding bytesK2 header2 port2 flows2 planK noPlan readAs readForm formBy readFrom blank stepAt fieldAt fieldIn valueIn kindBy number2 number4 sizeAt wholeAt valueAt numbers2 routePorts routeIn repeats every distinct elem storeAll store added closing firstFrom firstAbsent namesAbsent absentIn jitterAbsent extraAbsent
+strictK2 = refl
 
 -- K is saved in the newer form as these bytes
 savedK2 : formBytes newer planK ≡ bytesK2
@@ -68,11 +72,17 @@ savedK2 = refl
 -- so the planner that loaded them holds the plan that the one holds which loaded K, and every line of the table is K's
 heldK2 : heldBytes (load loose bytesK2 ∷ []) ≡ some bytesK2
 unfolding heldBytes heldFrom
-heldK2 = rw (ap first readK2)
-  where
-    first : List PlanRead → PlanRead
-    first [] = rejected 0 0
-    first (r ∷ rs) = r
+heldK2 = rw readK2
+
+afterK : after (load loose bytesK ∷ []) ≡ planK
+unfolding readPlan
+afterK = after-held (load loose bytesK ∷ []) loose bytesK heldK planK 1 2 readK
+
+afterK2 : after (load loose bytesK2 ∷ []) ≡ planK
+afterK2 = after-held (load loose bytesK2 ∷ []) loose bytesK2 heldK2 planK 1 2 readK2
+
+tableOfK2 : linesOf (after (load loose bytesK2 ∷ [])) table ≡ table
+tableOfK2 = ap (λ (p : Plan). linesOf p table) (afterK2 ∙ sym afterK) ∙ tableOfK
 
 -- The converters read by the tags of one form alone: K given to the way back is 3 at 0, and so are these bytes given to the way there;
 -- the port before its header is 12 at the header for the way back, and 3 at 0 for a load.
@@ -108,7 +118,7 @@ bytes24 =
     ++ ((0x13 ∷ 0x00 ∷ 0x3e ∷ 0x00 ∷ 0x01 ∷ 0x00 ∷ 0x01 ∷ 0x86 ∷ 0xa0 ∷ 0x00 ∷ 0x01 ∷ 0x00 ∷ 0xe6 ∷ 0x00 ∷ 0x00 ∷ 0x00 ∷ 0x00 ∷ []) ++ hops2 24))
 
 -- the plan in these bytes
-unfoldable plan24 : Plan
+unfoldable pub plan24 : Plan
 unfolding loadLeaves bytes24 noPlan
 plan24 = loadLeaves loose noPlan bytes24
 

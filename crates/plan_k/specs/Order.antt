@@ -14,7 +14,7 @@ use Rattle.plan_reading.specs.Store.{store, storeAll}
 use Rattle.plan_reading.specs.Draft.{blank, added}
 use Rattle.plan_reading.specs.Reading.{stepAt, namesAbsent, jitterAbsent, extraAbsent, firstFrom, firstAbsent, closing, readFrom, readAs, readPlan, loose, absentIn, readForm}
 use Rattle.plan_reading.specs.FieldOrder.{AllFields, none, more, SameFields}
-use Rattle.sequences.specs.Calls.{load, after, heldFrom, heldBytes}
+use Rattle.sequences.specs.Calls.{load, after, heldFrom, heldBytes, formAfter}
 use Rattle.sequences.specs.Reply.{SameAnswers}
 use Rattle.sequences.specs.results.Theorem.{order-free}
 use Rattle.plan_k.specs.PlanK.{bytesK, heldK}
@@ -75,5 +75,6 @@ heldReordered : heldBytes (load loose bytesReordered ∷ []) ≡ some bytesReord
 unfolding bytesReordered noPlan heldBytes heldFrom readPlan readAs readForm formBy readFrom blank stepAt fieldAt fieldIn valueIn kindBy number2 number4 sizeAt wholeAt valueAt numbers2 routePorts routeIn repeats every distinct elem storeAll store added closing firstFrom firstAbsent namesAbsent absentIn jitterAbsent extraAbsent
 heldReordered = refl
 
-sameAnswersK : SameAnswers (after (load loose bytesK ∷ [])) (after (load loose bytesReordered ∷ []))
+sameAnswersK
+    : SameAnswers (formAfter (load loose bytesK ∷ [])) (after (load loose bytesK ∷ [])) (formAfter (load loose bytesReordered ∷ [])) (after (load loose bytesReordered ∷ []))
 sameAnswersK = order-free (load loose bytesK ∷ []) (load loose bytesReordered ∷ []) bytesK bytesReordered heldK heldReordered sameFieldsK

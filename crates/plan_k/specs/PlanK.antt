@@ -62,7 +62,7 @@ table =
     ∷ []
 
 -- K is accepted, with one port and two flows, and its tables are planK
-readK : readPlan bytesK ≡ accepted planK 1 2
+pub readK : readPlan bytesK ≡ accepted planK 1 2
 unfolding bytesK planK noPlan readPlan readAs readForm formBy readFrom blank stepAt fieldAt fieldIn valueIn kindBy number2 number4 sizeAt wholeAt valueAt numbers2 routePorts routeIn repeats every distinct elem storeAll store added closing firstFrom firstAbsent namesAbsent absentIn jitterAbsent extraAbsent
 readK = refl
 
@@ -72,7 +72,7 @@ unfolding bytesK noPlan heldBytes heldFrom readPlan readAs readForm formBy readF
 heldK = refl
 
 -- every line of the table, of the planner that holds the plan in K's bytes
-tableOfK : linesOf (after (load loose bytesK ∷ [])) table ≡ table
+pub tableOfK : linesOf (after (load loose bytesK ∷ [])) table ≡ table
 unfolding bytesK table after afterFrom loadLeaves noPlan readPlan readAs readForm formBy readFrom blank stepAt fieldAt fieldIn valueIn kindBy number2 number4 sizeAt wholeAt valueAt numbers2 routePorts routeIn repeats every distinct elem storeAll store added closing firstFrom firstAbsent namesAbsent absentIn jitterAbsent extraAbsent checkAnswer slackAnswer validPlan validPort validFlow allTo anyTo sublist admissible failing lowestFailing lowest countTo fails crossed capacity window workload demand sumTo frames begun widened ceilDiv wireBits slack
 tableOfK = refl
 

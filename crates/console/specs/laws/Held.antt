@@ -1,12 +1,13 @@
 -- A plan on the input that is held is valid, and is saved as no more bytes than a plan may have.
 use mathlib.Core.Path.{_≡_, refl, sym, ap, _∙_, subst}
-use mathlib.Core.Bool.{true}
+use mathlib.Core.Bool.{Bool, true, false}
 use mathlib.Core.List.{List}
 use Prim.Native.Nat.{ℕ, _≤_}
 use native.Mathlib.Omega.{arith}
 use lib.ListN.{length}
-use Rattle.cqf.specs.Form.{Form, older, newer, formNumber, formFrom}
+use Rattle.cqf.specs.Form.{Form, older, newer, formNumber, formFrom, formFits}
 use Rattle.cqf.specs.Plan.{Plan, noPlan, validPlan}
+use Rattle.cqf.specs.laws.Ranges.{top-positive}
 use Rattle.plan.specs.Layout.{formBy}
 use Rattle.plan_reading.specs.Reading.{PlanRead, accepted, rejected, loose, readAs, maxBytes}
 use Rattle.plan_reading.specs.Saved.{formBytes}
@@ -14,6 +15,7 @@ use Rattle.plan_reading.specs.results.FormTheorem.{form-length}
 use Rattle.plan_reading.specs.results.StrictTheorem.{read-loosely}
 use Rattle.plan_reading.specs.laws.validity.Valid.{accepted-valid}
 use Rattle.tables.specs.Tables.{planOf}
+use Rattle.tables.specs.declared.Planner.{Planner}
 use Rattle.answers.specs.Answer.{result}
 use Rattle.loading.specs.Outcome.{Fields, readingForm, loadForm}
 use Rattle.loading.specs.Answer.{loadOf}
@@ -79,3 +81,13 @@ held-short given l held =
     form-of : (form : Form) → formFrom (formNumber form) ≡ form
     form-of older = refl
     form-of newer = refl
+
+-- the top of a plan that is held is the planner's own
+pub held-top : (s : Planner) → validPlan (planOf s) ≡ true → planOf s .top ≡ s .top
+held-top s valid = go (formFits (s .form) (s .hops)) refl
+  where
+    go : (b : Bool) → formFits (s .form) (s .hops) ≡ b → planOf s .top ≡ s .top
+    go true e = rw e
+    go false e =
+        let none : planOf s .top ≡ 0 = rw e in
+        absurd (omega (arith, top-positive (planOf s) valid))

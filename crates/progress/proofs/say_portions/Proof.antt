@@ -12,7 +12,7 @@ abbrev Inv-loop : tie.InvT-loop
 Inv-loop planner out₀ at₀ used₀ out at used = Reached (planOf planner) at used
 
 abbrev μ-loop : tie.MeasureT-loop
-μ-loop planner out₀ at₀ used₀ out at used = planner .top - used
+μ-loop planner out₀ at₀ used₀ out at used = planOf planner .top - used
 
 standard-output-requires : tie.Need-standard-output-requires Inv-loop μ-loop
 standard-output-requires c κs = search needs

@@ -13,6 +13,7 @@ use Rattle.questions.specs.Spans.{spanOf, spanAnswer}
 use Rattle.questions.specs.SpanAnswer.{spanAnswerOf}
 use Rattle.tables.specs.Tables.{planOf}
 use Rattle.questions.specs.laws.Spans.{span-result}
+use Rattle.console.specs.laws.Held.{held-top}
 use Rattle.spans.proofs.say_spans.Statement.{statement}
 use Rattle.spans.proofs.say_spans.Tie as tie
 
@@ -50,8 +51,12 @@ module _ (c : tie.After-struct-known2 Inv-loop μ-loop) where
       : (looped .loop .at ≤ found .span2 .given .0 .0 .last)
       × (found .span2 .given .0 .0 .last ≤ start .args .planner .top)
   further =
-      ends (planOf (start .args .planner)) (looped .loop .at) (spanOf (found .span2 .given .0 .0)) (start .pre) (looped .loop .inv) (omega arith)
-      (sym (found .before .before .span .ensures .0) ∙ ap spanAnswerOf (found .span2 .given .1))
+      let held = held-top (start .args .planner) (start .pre) in
+      let r =
+          ends (planOf (start .args .planner)) (looped .loop .at) (spanOf (found .span2 .given .0 .0)) (start .pre) (looped .loop .inv)
+          (omega (arith, held))
+          (sym (found .before .before .span .ensures .0) ∙ ap spanAnswerOf (found .span2 .given .1)) in
+      (r .0, omega (arith, held, r .1))
 
 add-at : tie.Need-add-at Inv-loop μ-loop
 add-at c = record { fits = omega (arith, further c .1) }
