@@ -8,6 +8,7 @@ use Rattle.numbers.specs.Clock.{clockOf}
 use Rattle.plan.specs.Answer.{faultNumber}
 use Rattle.plan_reading.specs.Draft.{Draft}
 use Rattle.plan_reading.specs.Reading.{PlanRead, accepted, rejected, Step, stop, more, namesAbsent, jitterAbsent, extraAbsent, closing}
+use Rattle.plan_reading.specs.Overlong.{overlong}
 use Rattle.tables.specs.Columns.{planBy}
 use Rattle.loading.specs.declared.LoadAnswer.{LoadAnswer}
 use Rattle.loading.specs.declared.first.Sought.{Sought}
@@ -35,6 +36,7 @@ abbrev pub soughtIn : Sought → (rates periods : List ℕ) → List ℕ → ℕ
 soughtIn Sought.AbsentPort rates periods = namesAbsent rates
 soughtIn Sought.AbsentJitterFlow rates periods = jitterAbsent periods
 soughtIn Sought.AbsentExtraPort rates periods = extraAbsent rates
+soughtIn Sought.LongRoute rates periods = overlong
 
 -- a whole plan read into these tables
 abbrev pub answerOf : Plan → LoadAnswer → PlanRead

@@ -1,4 +1,4 @@
-// The first field in the bytes that is sought, as test 9 wants it.
+// The first field in the bytes that is sought, as test 9 and the way back to the older form want it.
 
 use numbers::limits::flow_ok;
 use numbers::limits::port_ok;
@@ -10,6 +10,7 @@ use plan::layout::FLOW2_SIZE;
 use plan::layout::FLOW2_TAG;
 use plan::layout::HEAD_SIZE;
 use plan::layout::JITTER_TAG;
+use plan::layout::MAX_HOPS;
 use plan::number::first_number;
 use plan::route::route_bytes;
 use plan::route::route_len;
@@ -24,14 +25,16 @@ ghost use Rattle.cqf.specs.Plan.{portIn};
 ghost use Rattle.plan.specs.Bytes.{tagAt, wholeAt};
 ghost use Rattle.plan.specs.Field.{routePorts};
 ghost use Rattle.plan_reading.specs.Reading.{hasFlow, namesAbsent, jitterAbsent, extraAbsent, firstField, firstAbsent};
+ghost use Rattle.plan_reading.specs.Overlong.{overlong};
 ghost use Rattle.loading.specs.Loading.{soughtIn};
 
-// What is sought: a flow whose route names a port that is not in the plan, the jitter of a flow that is not in it, or extra bytes
-// of such a port.
-enum Sought {
+// What is sought: a flow whose route names a port that is not in the plan, the jitter of a flow that is not in it, extra bytes
+// of such a port, or a flow over more ports than the older form allows.
+pub enum Sought {
     AbsentPort,
     AbsentJitterFlow,
     AbsentExtraPort,
+    LongRoute,
 }
 
 // Whether a port of this number is in the plan.
@@ -107,6 +110,17 @@ fn extra_absent(plan: &[u8], at: usize, tag: u8, rates: &columns::Rates) -> bool
     !has_port(rates, first_number(field_value(plan, at)))
 }
 
+// Whether the whole field at this offset is a flow over more ports than the older form allows.
+fn long_route(plan: &[u8], at: usize, tag: u8) -> bool
+    requires { ⌜ (wholeAt (now plan) at ≡ true) × (tag ≡ tagAt (now plan) at) ⌝ }
+    ensures { λ r. ⌜ r ≡ overlong (now (plan .entry)) at ⌝ }
+{
+    if tag != FLOW2_TAG {
+        return false;
+    }
+    MAX_HOPS < route_len(route_bytes(field_value(plan, at), FLOW2_SIZE))
+}
+
 // Whether the whole field at this offset is sought.
 fn is_sought(
     sought: Sought,
@@ -123,15 +137,16 @@ fn is_sought(
         Sought::AbsentPort => names_absent(plan, at, tag, rates),
         Sought::AbsentJitterFlow => jitter_absent(plan, at, tag, periods),
         Sought::AbsentExtraPort => extra_absent(plan, at, tag, rates),
+        Sought::LongRoute => long_route(plan, at, tag),
     }
 }
 
 // The offset of the first field that is sought; the plan's length where none is.
-fn first_field(
+pub fn first_field<'a>(
     plan: &[u8],
     sought: Sought,
-    rates: &columns::Rates,
-    periods: &columns::Periods,
+    rates: &'a columns::Rates,
+    periods: &'a columns::Periods,
 ) -> usize
     ensures { λ r. ⌜ r ≡ firstField (soughtIn sought (now (rates .entry)) (now (periods .entry))) (now (plan .entry)) ⌝ }
 {
@@ -151,7 +166,11 @@ fn first_field(
 
 // Test 9: the first flow that names a port not in the plan; where there is none the first jitter of a flow not in it; where there
 // is none either the first extra bytes of a port not in it; the plan's length where there are none of these.
-pub(crate) fn first_absent(plan: &[u8], rates: &columns::Rates, periods: &columns::Periods) -> usize
+pub(crate) fn first_absent<'a>(
+    plan: &[u8],
+    rates: &'a columns::Rates,
+    periods: &'a columns::Periods,
+) -> usize
     ensures { λ r. ⌜ r ≡ firstAbsent (now (rates .entry)) (now (periods .entry)) (now (plan .entry)) ⌝ }
 {
     let route = first_field(plan, Sought::AbsentPort, rates, periods);

@@ -4,10 +4,12 @@ use tables::Planner;
 
 mod reading; // reading.rt: a whole plan read into columns of its own
 mod field; // field.rt: one field, tested and stored
-mod first; // first.rt: the first field that is sought, as test 9 wants it
+mod first; // first.rt: the first field that is sought
 mod store; // store.rt: a field stored into the columns
 mod slots; // slots.rt: the numbers of a port or a flow
 
+pub use first::Sought;
+pub use first::first_field;
 pub use reading::load;
 pub use reading::load_strict;
 pub use reading::read_form;

@@ -30,12 +30,12 @@ ghost use Rattle.loading.specs.Answer.{Loads, LoadsForm, modeOf};
 ghost use Rattle.loading.specs.Loading.{ClosesWith};
 
 // All fields are read: the tests 8 and 9.
-fn close(
+fn close<'a>(
     plan: &[u8],
     ports: u16,
     flows: u16,
-    rates: &columns::Rates,
-    periods: &columns::Periods,
+    rates: &'a columns::Rates,
+    periods: &'a columns::Periods,
     seen: &[u8; KEYS],
 ) -> LoadAnswer
     ensures { λ r. ⌜

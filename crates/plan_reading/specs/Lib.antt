@@ -11,6 +11,7 @@ pub mod FieldOrder
 pub mod Strict
 pub mod FieldBytes
 pub mod Saved
+pub mod Overlong
 pub mod SameParts
 pub mod Relength
 pub mod Sized

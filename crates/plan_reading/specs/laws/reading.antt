@@ -9,3 +9,4 @@ pub mod Fits
 pub mod Absent
 pub mod Closing
 pub mod Refusals
+pub mod Long

@@ -1,18 +1,16 @@
 -- Laws of what saving answers and leaves.
 use Prim.Native.Nat.{ℕ, _≤_, _<_}
-use mathlib.Core.Path.{_≡_, sym, _∙_}
+use mathlib.Core.Path.{_≡_}
 use mathlib.Core.Bool.{true, false}
 use mathlib.Core.List.{List, [], _∷_}
-use native.Mathlib.Omega.{arith}
 use borrow.Author.Tests.{le-leb, lt-leb}
 use lib.ListN.{length, take, drop}
-use lib.Seq.{take-at, drop-at}
 use Rattle.cqf.specs.Form.{Form}
 use Rattle.cqf.specs.Plan.{Plan, validPlan}
 use Rattle.plan_reading.specs.Saved.{formBytes}
 use Rattle.writing.specs.Laid.{over}
 use Rattle.writing.specs.laws.Laid.{laid-over, laid-short}
-use Rattle.writing.specs.laws.Answer.{Fits, written-fits}
+use Rattle.writing.specs.laws.Answer.{written-size, written-front, written-rest}
 use Rattle.answers.specs.Answer.{result, refusal}
 use Rattle.answers.specs.Refusals.{shortBuffer, noPlanHeld}
 use Rattle.saving.specs.Save.{saveAnswer, saveLeaves}
@@ -43,22 +41,15 @@ module _ (form : Form) (p : Plan) (buffer : List ℕ) where
     unfolding saveLeaves
     save-lays l = rw valid (laid-over (formBytes form p) buffer l)
 
-    -- where the answer is a length, it is that of the saved plan, and there is room for it
-    save-fits : (n : ℕ) → saveAnswer form p buffer ≡ result n → Fits (formBytes form p) buffer n
+    -- where the answer is a length, it is that of the saved plan; the first bytes are the saved plan, and the others as they were
+    pub save-size : (n : ℕ) → saveAnswer form p buffer ≡ result n → n ≡ length (formBytes form p)
     unfolding saveAnswer
-    save-fits n e = written-fits (formBytes form p) buffer n (rw valid at e)
+    save-size n e = written-size (formBytes form p) buffer n (rw valid at e)
 
-    -- and the first bytes are the saved plan, the others as they were
     pub save-front : (n : ℕ) → saveAnswer form p buffer ≡ result n → take n (saveLeaves form p buffer) ≡ formBytes form p
-    save-front n e =
-        let f = save-fits n e in
-        rw (save-lays (omega (arith, f .size, f .room))) (take-at (formBytes form p) (drop (length (formBytes form p)) buffer) n (sym (f .size)))
+    unfolding saveAnswer saveLeaves
+    save-front n e = rw valid (written-front (formBytes form p) buffer n (rw valid at e))
 
     pub save-rest : (n : ℕ) → saveAnswer form p buffer ≡ result n → drop n (saveLeaves form p buffer) ≡ drop n buffer
-    save-rest n e =
-        let f = save-fits n e in
-        rw (save-lays (omega (arith, f .size, f .room)))
-        (drop-at (formBytes form p) (drop (length (formBytes form p)) buffer) n (sym (f .size)) ∙ rw (f .size))
-
-    pub save-size : (n : ℕ) → saveAnswer form p buffer ≡ result n → n ≡ length (formBytes form p)
-    save-size n e = save-fits n e .size
+    unfolding saveAnswer saveLeaves
+    save-rest n e = rw valid (written-rest (formBytes form p) buffer n (rw valid at e))

@@ -178,10 +178,10 @@ row-most {form} (more {e = e} {es = es} ok rest) =
     (row-most rest)
 
 -- the plan fits the form that its bytes tell
-few-fits : (form : Form) (hops : List ℕ) → ((f : ℕ) → getD hops f 0 ≤ mostHopsIn form) → formFits (formNumber form) hops ≡ true
+pub few-fits : (form : Form) (hops : List ℕ) → ((f : ℕ) → f < flowSlots → getD hops f 0 ≤ mostHopsIn form) → formFits (formNumber form) hops ≡ true
 unfolding formFits
-few-fits older hops few = allTo-every flowSlots (λ f. leb (getD hops f 0) (mostHopsIn older)) (λ f l. le-leb _ _ (few f))
-few-fits newer hops few = allTo-every flowSlots (λ f. leb (getD hops f 0) (mostHopsIn newer)) (λ f l. le-leb _ _ (few f))
+few-fits older hops few = allTo-every flowSlots (λ f. leb (getD hops f 0) (mostHopsIn older)) (λ f l. le-leb _ _ (few f l))
+few-fits newer hops few = allTo-every flowSlots (λ f. leb (getD hops f 0) (mostHopsIn newer)) (λ f l. le-leb _ _ (few f l))
 
 pub read-fits
     : (mode : Mode) (s : List ℕ) (p : Plan) (ports flows : ℕ)
@@ -192,9 +192,10 @@ read-fits mode s p m k e =
     let a = accepted-row mode s p m k e in
     let xs = partsRow (fieldsIn s) in
     few-fits (formBy s) (p .hops)
-    (subst (Few (mostHopsIn (formBy s))) (a .tables)
+    (λ f l.
+    subst (Few (mostHopsIn (formBy s))) (a .tables)
     (parts-few (mostHopsIn (formBy s)) noPlan xs sized-none (a .fresh .ok) (row-most (free-ok (a .free)))
-    (λ f. omega (arith, zeros flowSlots f))))
+    (λ f. omega (arith, zeros flowSlots f))) f)
 
 pub accepted-fits
     : (form : Form) (mode : Mode) (s : List ℕ) (p : Plan) (ports flows : ℕ)

@@ -41,10 +41,10 @@ present-append (more k a) b = more k (present-append a b)
 
 -- neither a field that is not sought, nor the fields after it, nor the plan's end
 module _ (sought : List ℕ → ℕ → Bool) (s : List ℕ) (at : ℕ) where
-  none-at-end : length s ≤ at → NoneFrom sought s at
+  pub none-at-end : length s ≤ at → NoneFrom sought s at
   none-at-end end = omega (arith, first-cut sought s at (length s) (not-whole s at (omega arith)))
 
-  none-more : wholeAt s at ≡ true → sought s at ≡ false → NoneFrom sought s (at + headSize + sizeAt s at) → NoneFrom sought s at
+  pub none-more : wholeAt s at ≡ true → sought s at ≡ false → NoneFrom sought s (at + headSize + sizeAt s at) → NoneFrom sought s at
   none-more w front rest = rw (first-past sought s at w front) rest
 
 -- a walk over such fields

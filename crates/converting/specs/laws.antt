@@ -1,0 +1,4 @@
+-- Laws of what a converter reads and writes.
+pub mod Convert
+pub mod Long
+pub mod Forms

@@ -1,0 +1,2 @@
+-- What holds of the converters.
+pub mod Theorem
