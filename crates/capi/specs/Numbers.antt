@@ -45,7 +45,7 @@ abbrev pub spanNumbers : Answer Span → AnswerNumbers
 spanNumbers (result span) = answerNumbers 0 (span .first) (span .last)
 spanNumbers (refusal number values) = refusedWith number values
 
--- the length written; 13 has the length needed, 21 the lowest failing port and how many
+-- the length written; 13 has the length needed, 21 the lowest failing port and how many, a plan that is refused its offset
 abbrev pub writtenNumbers : Answer ℕ → AnswerNumbers
 writtenNumbers (result size) = answerNumbers 0 size 0
 writtenNumbers (refusal number values) = refusedWith number values

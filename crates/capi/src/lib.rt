@@ -13,6 +13,7 @@ use crate::batch_numbers::place_outcome_in_c;
 use crate::batch_numbers::serve_outcome_in_c;
 use crate::usable::span_in_c;
 use crate::usable::spans_in_c;
+use crate::written::convert_in_c;
 use crate::written::gates_in_c;
 use crate::written::save_in_c;
 use planner::Batch;
@@ -33,6 +34,7 @@ ghost use Rattle.questions.specs.FixedPoint.{fixedPointAnswer};
 ghost use Rattle.questions.specs.Reprice.{repriceAnswer, repriceLeaves};
 ghost use Rattle.questions.specs.Spans.{spanAnswer, spansAnswer, spansLeaves};
 ghost use Rattle.saving.specs.Save.{saveAnswer, saveLeaves};
+ghost use Rattle.converting.specs.Convert.{upgradeAnswer, upgradeLeaves, downgradeAnswer, downgradeLeaves};
 ghost use Rattle.gate_writing.specs.Gates.{gatesAnswer, gatesLeaves};
 ghost use Rattle.batches.specs.Batch.{emptyBatch, placeAnswer, placeLeaves, serveAnswer, serveLeaves, collectAnswer, collectLeaves};
 ghost use Rattle.batching.specs.Slots.{batchOf};
@@ -252,6 +254,26 @@ pub extern "C" fn cp_save(planner: Planner, buffer: &mut [u8]) -> AnswerNumbers
         ⌝ }
 {
     save_in_c(planner::save(planner, buffer))
+}
+
+#[no_mangle]
+pub extern "C" fn cp_upgrade(plan: &[u8], buffer: &mut [u8]) -> AnswerNumbers
+    ensures { λ r. ⌜
+        (r ≡ writtenNumbers (upgradeAnswer (now (plan .entry)) (now (buffer .entry))))
+        × (now (buffer .exit) ≡ upgradeLeaves (now (plan .entry)) (now (buffer .entry)))
+        ⌝ }
+{
+    convert_in_c(planner::upgrade(plan, buffer))
+}
+
+#[no_mangle]
+pub extern "C" fn cp_downgrade(plan: &[u8], buffer: &mut [u8]) -> AnswerNumbers
+    ensures { λ r. ⌜
+        (r ≡ writtenNumbers (downgradeAnswer (now (plan .entry)) (now (buffer .entry))))
+        × (now (buffer .exit) ≡ downgradeLeaves (now (plan .entry)) (now (buffer .entry)))
+        ⌝ }
+{
+    convert_in_c(planner::downgrade(plan, buffer))
 }
 
 // 0 means that the bytes written play two cycles of the plan held.

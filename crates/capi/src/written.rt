@@ -1,12 +1,15 @@
 // Each answer of a call that writes bytes as numbers: the refusal, 0 for a result, and the length written or needed.
 use crate::AnswerNumbers;
 use crate::answer_numbers::numbered;
+use planner::ConvertAnswer;
 use planner::GatesAnswer;
 use planner::SaveAnswer;
+use planner::convert_number;
 use planner::gates_number;
 use planner::save_number;
 ghost use mathlib.Core.Path.{_≡_};
 ghost use Rattle.saving.specs.Answer.{saveOf};
+ghost use Rattle.converting.specs.Answer.{convertOf};
 ghost use Rattle.gate_writing.specs.Answer.{gatesOf};
 ghost use Rattle.capi.specs.Numbers.{writtenNumbers};
 
@@ -18,6 +21,19 @@ pub(crate) fn save_in_c(answer: SaveAnswer) -> AnswerNumbers
         SaveAnswer::Written(length) => numbered(refusal, length as u64, 0),
         SaveAnswer::NoPlan => numbered(refusal, 0, 0),
         SaveAnswer::ShortBuffer(needed) => numbered(refusal, needed as u64, 0),
+    }
+}
+
+// Of a plan that is refused the offset.
+pub(crate) fn convert_in_c(answer: ConvertAnswer) -> AnswerNumbers
+    ensures { λ r. ⌜ r ≡ writtenNumbers (convertOf answer) ⌝ }
+{
+    let refusal = convert_number(answer);
+    match answer {
+        ConvertAnswer::Written(length) => numbered(refusal, length as u64, 0),
+        ConvertAnswer::Refused { fault: _, offset } => numbered(refusal, offset as u64, 0),
+        ConvertAnswer::LongRoute(offset) => numbered(refusal, offset as u64, 0),
+        ConvertAnswer::ShortBuffer(needed) => numbered(refusal, needed as u64, 0),
     }
 }
 

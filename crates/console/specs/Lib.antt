@@ -7,6 +7,7 @@ use lib.ListN.{length, take}
 use Rattle.cqf.specs.Plan.{noPlan}
 use Rattle.plan_reading.specs.Reading.{loose, maxBytes}
 use Rattle.loading.specs.Answer.{Loads}
+use Rattle.converting.specs.declared.ConvertAnswer.{ConvertAnswer}
 use Rattle.console.specs.declared.Input.{Input}
 use Rattle.console.specs.declared.Given.{Given}
 pub mod laws
@@ -15,6 +16,13 @@ pub mod laws
 abbrev pub Within : ℕ → Input → Type 0
 Within room (Input.Bytes n) = n ≤ room
 Within room Input.Failed = Unit {0}
+
+-- what a converter wrote lies within so many bytes
+abbrev pub Inside : ℕ → ConvertAnswer → Type 0
+Inside room (ConvertAnswer.Written n) = n ≤ room
+Inside room (ConvertAnswer.Refused fault offset) = Unit {0}
+Inside room (ConvertAnswer.LongRoute offset) = Unit {0}
+Inside room (ConvertAnswer.ShortBuffer n) = Unit {0}
 
 -- whether the input could be read, and the bytes that were read of it: the first of the buffer, none where it could not
 abbrev pub readable : Input → Bool

@@ -1,10 +1,11 @@
 // The programs' input and output: the plan on standard input, loaded into the empty planner, and what they print of a refusal.
 ghost use Prim.Native.Nat.{_≤_};
 ghost use lib.ListN.{length};
-ghost use Rattle.console.specs.{Within, LoadedAs, LoadedFrom, LoadedInput};
+ghost use Rattle.console.specs.{Within, LoadedAs, LoadedFrom, LoadedInput, Inside};
 use libc::STDERR_FILENO;
 use libc::STDIN_FILENO;
 use libc::STDOUT_FILENO;
+use planner::ConvertAnswer;
 use planner::LoadOutcome;
 
 // One byte more than a plan may have: a longer input is read no further.
@@ -92,6 +93,22 @@ pub fn say_refused_plan(out: Output, readable: bool, refusal: u32, offset: usize
 pub fn finish(out: Output) {
     if !out.whole {
         io::write_all(STDERR_FILENO, b"cannot write\n");
+    }
+}
+
+fn say_not_converted(answer: ConvertAnswer, place: usize) {
+    say_refused_plan(standard_error(), true, planner::convert_number(answer), place);
+}
+
+// What a converter gave: the bytes that it wrote in front of the buffer, or what it refused.
+pub fn say_converted(answer: ConvertAnswer, buffer: &[u8])
+    requires { ⌜ Inside (length (now buffer)) answer ⌝ }
+{
+    match answer {
+        ConvertAnswer::Written(size) => finish(say(standard_output(), &buffer[..size])),
+        ConvertAnswer::Refused { fault: _, offset } => say_not_converted(answer, offset),
+        ConvertAnswer::LongRoute(offset) => say_not_converted(answer, offset),
+        ConvertAnswer::ShortBuffer(needed) => say_not_converted(answer, needed),
     }
 }
 

@@ -2,3 +2,4 @@
 pub mod Convert
 pub mod Long
 pub mod Forms
+pub mod Room

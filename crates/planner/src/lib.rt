@@ -1,4 +1,4 @@
-// The cycle planner: the held plan, the load, and the questions; and batches of plans.
+// The cycle planner: the held plan, the load, and the questions; batches of plans; and the converters of plans.
 mod calls;
 mod forms;
 mod lean;
@@ -24,6 +24,9 @@ pub use calls::margin_safe;
 pub use calls::reprice;
 pub use calls::save;
 pub use calls::slack;
+pub use converting::ConvertAnswer;
+pub use converting::downgrade;
+pub use converting::upgrade;
 pub use gate_writing::GatesAnswer;
 pub use lean::lean_least;
 pub use lean::lean_margin_safe;
@@ -34,6 +37,7 @@ pub use loading::load_strict;
 pub use loading::read_plan;
 pub use number::check_number;
 pub use number::collect_number;
+pub use number::convert_number;
 pub use number::fixed_point_number;
 pub use number::gates_number;
 pub use number::least_number;

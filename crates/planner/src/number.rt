@@ -1,6 +1,7 @@
 // The papers' number of each answer, 0 for a result.
 use batching::CollectAnswer;
 use batching::PlaceAnswer;
+use converting::ConvertAnswer;
 use gate_writing::GatesAnswer;
 use loading::LoadAnswer;
 use plan::fault_number;
@@ -18,6 +19,7 @@ ghost use Rattle.loading.specs.Answer.{loadOf};
 ghost use Rattle.questions.specs.Answer.{checkOf, slackOf, searchOf, leastOf, marginSafeOf, fixedPointOf, repriceOf};
 ghost use Rattle.questions.specs.SpanAnswer.{spanAnswerOf, spansAnswerOf};
 ghost use Rattle.saving.specs.Answer.{saveOf};
+ghost use Rattle.converting.specs.Answer.{convertOf};
 ghost use Rattle.gate_writing.specs.Answer.{gatesOf};
 ghost use Rattle.batching.specs.Answer.{placeOf, collectOf};
 
@@ -28,6 +30,8 @@ const SHORT_SCRATCH: u32 = 11;
 const SHORT_BUFFER: u32 = 13;
 
 const BAD_SLOT: u32 = 15;
+
+const LONG_ROUTE: u32 = 16;
 
 const BAD_LENGTH: u32 = 17;
 
@@ -150,6 +154,17 @@ pub fn save_number(answer: SaveAnswer) -> u32
         SaveAnswer::Written(_) => 0,
         SaveAnswer::NoPlan => NO_PLAN,
         SaveAnswer::ShortBuffer(_) => SHORT_BUFFER,
+    }
+}
+
+pub fn convert_number(answer: ConvertAnswer) -> u32
+    ensures { λ r. ⌜ r ≡ refusalNumber (convertOf answer) ⌝ }
+{
+    match answer {
+        ConvertAnswer::Written(_) => 0,
+        ConvertAnswer::Refused { fault, offset: _ } => fault_number(fault) as u32,
+        ConvertAnswer::LongRoute(_) => LONG_ROUTE,
+        ConvertAnswer::ShortBuffer(_) => SHORT_BUFFER,
     }
 }
 
