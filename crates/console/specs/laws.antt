@@ -1,2 +1,3 @@
--- Laws of what is loaded of the input.
+-- Laws of what is loaded of the input, and of what a converter wrote.
 pub mod Held
+pub mod Inside

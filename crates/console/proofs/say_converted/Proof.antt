@@ -6,7 +6,7 @@ use Rattle.console.proofs.say_converted.Statement.{statement}
 use Rattle.console.proofs.say_converted.Tie as tie
 
 slice-aggregate-say : tie.Need-slice-aggregate-say
-slice-aggregate-say c = sym (length-take-le _ _ (rw (c .before .before .answer .given .1) at (c .before .before .before .before .pre)))
+slice-aggregate-say c = sym (length-take-le _ _ (rw (c .before .before .before .answer .given .1) at (c .before .before .before .before .before .before .pre)))
 
 pub say-converted-spec : {M : Type 1} → statement M
 say-converted-spec =
