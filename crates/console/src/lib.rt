@@ -97,7 +97,12 @@ pub fn finish(out: Output) {
 }
 
 fn say_not_converted(answer: ConvertAnswer, place: usize) {
-    say_refused_plan(standard_error(), true, planner::convert_number(answer), place);
+    say_refused_plan(
+        standard_error(),
+        true,
+        planner::convert_number(answer),
+        place,
+    );
 }
 
 // What a converter gave: the bytes that it wrote in front of the buffer, or what it refused.

@@ -53,9 +53,9 @@ module _ (c : tie.After-struct-known2 Inv-loop μ-loop) where
   further =
       let held = held-top (start .args .planner) (start .pre) in
       let r =
-          ends (planOf (start .args .planner)) (looped .loop .at) (spanOf (found .span2 .given .0 .0)) (start .pre) (looped .loop .inv)
-          (omega (arith, held))
-          (sym (found .before .before .span .ensures .0) ∙ ap spanAnswerOf (found .span2 .given .1)) in
+      ends (planOf (start .args .planner)) (looped .loop .at) (spanOf (found .span2 .given .0 .0)) (start .pre) (looped .loop .inv)
+      (omega (arith, held))
+      (sym (found .before .before .span .ensures .0) ∙ ap spanAnswerOf (found .span2 .given .1)) in
       (r .0, omega (arith, held, r .1))
 
 add-at : tie.Need-add-at Inv-loop μ-loop
