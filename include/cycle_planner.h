@@ -1,27 +1,113 @@
 /* The cycle planner as a static library (libcapi.a), for C and C++ on x86-64, which is what the toolchain makes it for. Every function
  * answers any planner value, any number and any slice, an empty one too. A slice is a pointer and a length; a pointer that does not hold as many elements as its length says is
  * outside what is proved. An empty slice wants a pointer that is not null, aligned for its elements. A mutable slice overlaps nothing else.
- * Document 01's refusal number is in `refusal`, 0 where there is a result:
- *   1 a plan of no byte, or of more than 16,384     12 a field should have stood earlier (strict reading)
- *   2 a field is cut short                          13 a buffer or a list of spans is too short
- *   3 an unknown tag                                17 a frame length outside 64 to 2,000
- *   4 a length that the tag does not have           18 a queue above 7, or the same queue twice
- *   5 a number out of its range                     20 no plan is held
- *   6 something is given twice                      21 the duration is not admissible: some port fails
- *   7 a route names a port twice                    22 no duration up to top is admissible
- *   8 no header, or no flow                         23 top is not admissible
- *   9 a port or a flow is named that is not given   24 no flow crosses the port, or there is no such port
- *  10 a duration or start of 0 or above top         25 no span ends at the duration or later
- *  11 a scratch of fewer than 64 numbers            26 the steps ended before the search did
- *  15 a batch has no such slot                      27 the slot of a batch has a plan
- *  16 a route is too long for the older form        28 the slot of a batch has no final answer
- *                                                   29 a flow that is not in the plan
+ * The refusal number of document 01 is in `refusal`, CP_OK where there is a result; enum cp_refusal has them, and cp_refusal_text a
+ * sentence for each.
  * Durations, intervals, guard band, jitter and synchronization error are in ns, rates in Mbit/s, lengths in bytes. Stack of a call, beside the planner and the answer that the
- * caller holds: a load 31 KB, cp_spans 21 KB, another question 11.4 KB. No heap. */
+ * caller holds: a load 31 KB, cp_spans 21 KB, another question 11.4 KB. No heap. The library keeps nothing between calls and has no data
+ * of its own: calls are re-entrant, and may be made from several tasks at once. */
 #ifndef CYCLE_PLANNER_H
 #define CYCLE_PLANNER_H
 #include <stddef.h>
 #include <stdint.h>
+
+/* Of the library and this header. Where MAJOR differs, or MINOR while MAJOR is 0, a program has to be compiled again. */
+#define CP_VERSION_MAJOR 0
+#define CP_VERSION_MINOR 9
+#define CP_VERSION_PATCH 0
+#define CP_VERSION "0.9.0"
+
+/* What a caller lends, in elements: the scratch of a search, that of a lean one, the list of cp_reprice. For the length of a list of
+ * spans call cp_spans with size 0 first: it answers how many there are. */
+#define CP_SCRATCH 64
+#define CP_LEAN_SCRATCH 1
+#define CP_SPARES 64
+
+/* In bytes: the longest plan that a load takes; what any plan that a load left is saved as, at most; what cp_upgrade and cp_downgrade
+ * write, at most; the longest gate list. */
+#define CP_MAX_PLAN 16384
+#define CP_MAX_SAVED 16384
+#define CP_MAX_UPGRADED 13399
+#define CP_MAX_DOWNGRADED 15002
+#define CP_MAX_GATES 48
+
+/* Ports, flows and slots of a batch are numbered from 1, 1 and 0. */
+#define CP_PORTS 64
+#define CP_FLOWS 256
+#define CP_SLOTS 8
+
+enum cp_refusal {
+  CP_OK = 0,
+  CP_PLAN_SIZE = 1,
+  CP_FIELD_CUT = 2,
+  CP_UNKNOWN_TAG = 3,
+  CP_FIELD_LENGTH = 4,
+  CP_OUT_OF_RANGE = 5,
+  CP_GIVEN_TWICE = 6,
+  CP_PORT_TWICE = 7,
+  CP_MISSING = 8,
+  CP_ABSENT = 9,
+  CP_BAD_DURATION = 10,
+  CP_SHORT_SCRATCH = 11,
+  CP_OUT_OF_ORDER = 12,
+  CP_SHORT_BUFFER = 13,
+  CP_NO_SLOT = 15,
+  CP_LONG_ROUTE = 16,
+  CP_BAD_FRAME_LENGTH = 17,
+  CP_BAD_QUEUE = 18,
+  CP_NO_PLAN = 20,
+  CP_NOT_ADMISSIBLE = 21,
+  CP_NO_LEAST = 22,
+  CP_NO_MARGIN_SAFE = 23,
+  CP_NOT_CROSSED = 24,
+  CP_NO_SPAN = 25,
+  CP_STEPS_ENDED = 26,
+  CP_SLOT_TAKEN = 27,
+  CP_NO_ANSWER_YET = 28,
+  CP_ABSENT_FLOW = 29
+};
+
+/* A sentence for each refusal, without a full stop; one for any other number too. */
+static inline const char *cp_refusal_text(uint32_t refusal) {
+  switch (refusal) {
+    case CP_OK: return "a result, no refusal";
+    case CP_PLAN_SIZE: return "the plan has no byte, or more than 16,384";
+    case CP_FIELD_CUT: return "a field is cut short";
+    case CP_UNKNOWN_TAG: return "a field has an unknown tag";
+    case CP_FIELD_LENGTH: return "a field has a length that its tag does not have";
+    case CP_OUT_OF_RANGE: return "a number is out of its range";
+    case CP_GIVEN_TWICE: return "something is given twice";
+    case CP_PORT_TWICE: return "a route names a port twice";
+    case CP_MISSING: return "the plan has no header, or no flow";
+    case CP_ABSENT: return "a port or a flow is named that is not given";
+    case CP_BAD_DURATION: return "the duration or start is 0 or above the plan's top";
+    case CP_SHORT_SCRATCH: return "the scratch or the list has too few numbers";
+    case CP_OUT_OF_ORDER: return "a field should have stood earlier";
+    case CP_SHORT_BUFFER: return "the buffer or the list of spans is too short";
+    case CP_NO_SLOT: return "the batch has no such slot";
+    case CP_LONG_ROUTE: return "a route is too long for the older form";
+    case CP_BAD_FRAME_LENGTH: return "the frame length is not 64 to 2,000 bytes";
+    case CP_BAD_QUEUE: return "a queue is above 7, or both are the same";
+    case CP_NO_PLAN: return "no plan is held";
+    case CP_NOT_ADMISSIBLE: return "the duration is not admissible: some port fails";
+    case CP_NO_LEAST: return "no duration up to the plan's top is admissible";
+    case CP_NO_MARGIN_SAFE: return "the plan's top is not admissible";
+    case CP_NOT_CROSSED: return "no flow crosses the port, or there is no such port";
+    case CP_NO_SPAN: return "no admissible duration at this one or later";
+    case CP_STEPS_ENDED: return "the steps ended before the search did";
+    case CP_SLOT_TAKEN: return "the slot of the batch has a plan";
+    case CP_NO_ANSWER_YET: return "the slot of the batch has no final answer";
+    case CP_ABSENT_FLOW: return "the flow is not in the plan";
+    default: return "no refusal of this library";
+  }
+}
+
+/* A planner that a call gives back is the one to use next: where it is dropped, compilers that can warn. */
+#if defined(__GNUC__) || defined(__clang__)
+#define CP_MUST_USE __attribute__((warn_unused_result))
+#else
+#define CP_MUST_USE
+#endif
 
 #ifdef __cplusplus
 extern "C" {
@@ -60,12 +146,12 @@ cp_planner cp_empty(void);
  * other form's tags are unknown in it. Result: first = port fields, second = flow fields, planner = the one that holds this plan.
  * Refusal 1 to 9: first = offset (place), second = 0, planner = the one given. Fields of the older form may stand in any order; those of
  * the newer one stand in strict order, and refusal 12 is as below. */
-cp_load_outcome cp_load(cp_planner planner, const uint8_t *plan, size_t length);
+cp_load_outcome cp_load(cp_planner planner, const uint8_t *plan, size_t length) CP_MUST_USE;
 
 /* The same by the strict reading: the header first, then the ports, the flows and the later tags, by tag and then by number.
  * Refusal 12 too: a field should have stood earlier; it is tested between 6 and 7, first = that field's offset, second = 0,
  * planner = the one given, as for 1 to 9. */
-cp_load_outcome cp_load_strict(cp_planner planner, const uint8_t *plan, size_t length);
+cp_load_outcome cp_load_strict(cp_planner planner, const uint8_t *plan, size_t length) CP_MUST_USE;
 
 /* The plain question. Result: 0, 0. Refusal 20, 10: 0, 0. 21: first = lowest failing port, second = how many fail. */
 cp_answer cp_check(cp_planner planner, uint64_t duration);
@@ -158,17 +244,17 @@ cp_batch cp_batch_empty(void);
 
 /* Reads a plan loosely into a slot, 0 to 7. Result: first = port fields, second = flow fields; the slot has the plan. Refusal 15, no
  * such slot: 0, 0. 27, the slot has a plan, finished or not: 0, 0. Then as from cp_load. A refusal leaves the batch as it was. */
-cp_place_outcome cp_batch_place(cp_batch batch, uint64_t slot, const uint8_t *plan, size_t length);
+cp_place_outcome cp_batch_place(cp_batch batch, uint64_t slot, const uint8_t *plan, size_t length) CP_MUST_USE;
 
 /* A turn: sixteen steps of cp_fixed_point, from 1 ns on and then from where the plan's last turn stopped, for one unfinished plan, the
  * first from the slot after the last one served, going round, at first from slot 0. slot = the one served; 8 where no plan is
  * unfinished, and then the batch is as it was. A plan that takes r steps has its final answer within 8 * ceil(r / 16) turns of being
  * placed. */
-cp_serve_outcome cp_batch_serve(cp_batch batch);
+cp_serve_outcome cp_batch_serve(cp_batch batch) CP_MUST_USE;
 
 /* The final answer of a slot's plan, as from cp_fixed_point from 1 ns on with all its steps: a result or 22. The slot then has no plan
  * and can be used again. Refusal 15, no such slot, and 28, no final answer there: 0, 0, 0; the batch is as it was. */
-cp_collect_outcome cp_batch_collect(cp_batch batch, uint64_t slot);
+cp_collect_outcome cp_batch_collect(cp_batch batch, uint64_t slot) CP_MUST_USE;
 
 /* The field at an offset of a plan, by tests 2 to 5; the plan's first byte says of which form it is, whatever the offset. Result: the
  * tag; offset = the one after the field; numbers:
