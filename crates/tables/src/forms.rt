@@ -23,17 +23,19 @@ fn most_hops(form: u32) -> u8
     numbers::limits::MAX_HOPS as u8
 }
 
+// Every slot is looked at, whatever the first ones say: a loop without an exit is one over many slots at once in the machine.
 fn hops_within(hops: &columns::Hops, most: u8) -> bool
     ensures { λ r. ⌜ r ≡ allTo flowSlots (λ f. leb (getD (now (hops .entry)) f 0) most) ⌝ }
 {
+    let mut within = true;
     let mut f: usize = 0;
     while f < FLOWS {
         if most < hops[f] {
-            return false;
+            within = false;
         }
         f += 1;
     }
-    true
+    within
 }
 
 pub fn held_top(form: u32, hops: &columns::Hops, top: u32) -> u32
