@@ -4,7 +4,7 @@
  * The refusal number of document 01 is in `refusal`, CP_OK where there is a result; enum cp_refusal has them, and cp_refusal_text a
  * sentence for each.
  * Durations, intervals, guard band, jitter and synchronization error are in ns, rates in Mbit/s, lengths in bytes. Stack of a call, beside the planner and the answer that the
- * caller holds: a load 31 KB, cp_spans 21 KB, another question 11.4 KB. No heap. The library keeps nothing between calls and has no data
+ * caller holds: a load 51 KB, cp_spans 21 KB, another question 11.4 KB. No heap. The library keeps nothing between calls and has no data
  * of its own: calls are re-entrant, and may be made from several tasks at once. */
 #ifndef CYCLE_PLANNER_H
 #define CYCLE_PLANNER_H
@@ -224,7 +224,7 @@ cp_answer cp_gates(cp_planner planner, uint64_t duration, uint64_t even, uint64_
 
 /* A batch: eight plans whose least durations are searched in turn. For an office's computer and not for the cabinet: plain data of
  * 79,816 bytes that goes into each call by value and comes back as the call leaves it; keep it so, and do not look inside. A call of
- * these takes up to 270 KB of stack, beside the batch given and the outcome, 160 KB, that the caller holds, and copies up to 429 KB.
+ * these takes up to 281 KB of stack, beside the batch given and the outcome, 160 KB, that the caller holds, and copies up to 429 KB.
  * No call here takes or gives a cp_planner: a plan held elsewhere stays as it is. A slot's state is 0 for no plan, 1 for a plan that
  * is searched, with the duration reached and the steps used, and 2 to 5 for a final answer: found, 22, and 20 and 10 for tables and
  * durations that no call leaves. Any other state, and state 1 with as many steps as its duration or more, is a slot with no plan; next
