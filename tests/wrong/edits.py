@@ -77,11 +77,19 @@ def errors(answer):
             if inside:
                 found[-1] = (found[-1][0], found[-1][1] + "\n" + line)
             continue
-        error = re.match(r"(\S+:\d+:\d+): error: ", line) or re.match(r"note: (\S+:\d+:\d+): .*not proved", line)
+        error = re.match(r"(\S+?(?::\d+:\d+)?): error: ", line) or re.match(r"note: (\S+:\d+:\d+): .*not proved", line)
         inside = bool(error) and "was not admitted" not in line
         if inside:
             found.append((error[1], line))
     return found
+
+
+def told(found):
+    """What these errors say, in one word, and the place of the first, or of the first that says so."""
+    unfit = [place for place, words in found if UNFIT.search(words)]
+    if unfit:
+        return "unfit", unfit[0]
+    return ("refused", found[0][0]) if found else ("silent", "")
 
 
 def judged(status, answer):
@@ -89,11 +97,7 @@ def judged(status, answer):
     if status == 0 and re.search(r"^logic=proved", answer, re.M):
         return "proved", ""
     if status == 1 and re.search(r"^logic=not-proved", answer, re.M):
-        found = errors(answer)
-        unfit = [place for place, words in found if UNFIT.search(words)]
-        if unfit:
-            return "unfit", unfit[0]
-        return ("refused", found[0][0]) if found else ("silent", "")
+        return told(errors(answer))
     if status == 1 and re.search(r"^\S+:\d+:\d+: error\[", answer, re.M) and not re.search(r"^logic=", answer, re.M):
         return "rejected", re.search(r"^(\S+:\d+:\d+): error\[", answer, re.M)[1]
     return "no verdict", ""
