@@ -1,3 +1,4 @@
 -- Laws of the load.
 pub mod Copy
 pub mod Load
+pub mod Lent

@@ -2,7 +2,9 @@
 use plan::Fault;
 use tables::Planner;
 
-mod reading; // reading.rt: a whole plan read into columns of its own
+mod held; // held.rt: the load of a planner by value
+mod lent; // lent.rt: the load into lent columns
+mod reading; // reading.rt: a whole plan read into fresh columns
 mod field; // field.rt: one field, tested and stored
 mod first; // first.rt: the first field that is sought
 mod store; // store.rt: a field stored into the columns
@@ -10,10 +12,11 @@ mod slots; // slots.rt: the numbers of a port or a flow
 
 pub use first::Sought;
 pub use first::first_field;
-pub use reading::load;
-pub use reading::load_strict;
-pub use reading::read_form;
-pub use reading::read_plan;
+pub use held::load;
+pub use held::load_strict;
+pub use held::read_form;
+pub use held::read_plan;
+pub use lent::load_columns;
 
 pub enum LoadAnswer {
     Held { ports: u16, flows: u16 },

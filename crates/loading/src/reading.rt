@@ -1,8 +1,7 @@
-// A whole plan read into columns of its own: test 1; fields from the front, each tested for 2 to 7, strictly
+// A whole plan read into fresh columns: test 1; fields from the front, each tested for 2 to 7, strictly
 // with 12 between 6 and 7; then 8, then 9.
 
 use crate::LoadAnswer;
-use crate::LoadOutcome;
 use crate::MAX_BYTES;
 use crate::field::Progress;
 use crate::field::step;
@@ -14,20 +13,22 @@ use crate::store::Totals;
 use numbers::clock::Clock;
 use plan::Fault;
 use plan::Form;
-use plan::form_by;
-use plan::form_number;
-use tables::FLOWS;
-use tables::PORTS;
-use tables::Planner;
-use tables::STRIDE;
 use tables::columns;
 ghost use mathlib.Core.Path.{_≡_};
 ghost use Rattle.cqf.specs.Bounded.{within};
-ghost use Rattle.plan_reading.specs.Reading.{loose, strict, maxBytes};
+ghost use Rattle.cqf.specs.Plan.{equalClocks, noPlan};
+ghost use Rattle.numbers.specs.Clock.{clockOf};
 ghost use Rattle.plan.specs.Answer.{formOf};
-ghost use Rattle.tables.specs.Tables.{planOf};
-ghost use Rattle.loading.specs.Answer.{Loads, LoadsForm, modeOf};
-ghost use Rattle.loading.specs.Loading.{ClosesWith};
+ghost use Rattle.plan_reading.specs.Reading.{maxBytes, readForm};
+ghost use Rattle.tables.specs.Columns.{planBy};
+ghost use Rattle.loading.specs.Answer.{modeOf};
+ghost use Rattle.loading.specs.Loading.{answerOf, ClosesWith};
+
+// What was read of a plan beside its columns: the header's and the clock's numbers, and what the rules answer.
+pub(crate) struct ColumnsRead {
+    pub totals: Totals,
+    pub answer: LoadAnswer,
+}
 
 // All fields are read: the tests 8 and 9.
 fn close<'a>(
@@ -74,34 +75,34 @@ fn size_ok(size: usize) -> bool
     size <= MAX_BYTES
 }
 
-// Bytes read as a plan of this form, in either reading. The plan in them is held in place of the one before, where the rules find no
-// refusal; otherwise the planner is given back as it came. The columns are fresh, and go into the planner once, where the plan is
-// accepted.
-pub fn read_form(form: Form, strict: bool, planner: Planner, plan: &[u8]) -> LoadOutcome
+// The bytes read as a plan of this form, in either reading, into columns that are all 0: what the rules answer, and beside it the numbers
+// that are in no column. The columns then hold the plan where it is accepted, and what was read of it where not.
+pub(crate) fn read_columns(
+    form: Form,
+    strict: bool,
+    plan: &[u8],
+    rates: &mut columns::Rates,
+    blockings: &mut columns::Blockings,
+    extras: &mut columns::Extras,
+    periods: &mut columns::Periods,
+    counts: &mut columns::Counts,
+    lengths: &mut columns::Lengths,
+    jitters: &mut columns::Jitters,
+    hops: &mut columns::Hops,
+    routes: &mut columns::Routes,
+) -> ColumnsRead
+    requires { ⌜
+        planBy 0 0 equalClocks (now rates) (now blockings) (now extras) (now periods) (now counts) (now lengths)
+        (now jitters) (now hops) (now routes) ≡ noPlan
+        ⌝ }
     ensures { λ r. ⌜
-        LoadsForm (formOf form) (modeOf strict) (planOf planner) (planner .form) (now (plan .entry)) r
+        answerOf
+        (planBy (r .totals .guard) (r .totals .top) (clockOf (r .totals .clock)) (now (rates .exit)) (now (blockings .exit))
+        (now (extras .exit)) (now (periods .exit)) (now (counts .exit)) (now (lengths .exit)) (now (jitters .exit))
+        (now (hops .exit)) (now (routes .exit)))
+        (r .answer) ≡ readForm (formOf form) (modeOf strict) (now (plan .entry))
         ⌝ }
 {
-    if !size_ok(plan.len()) {
-        return LoadOutcome {
-            planner,
-            answer: LoadAnswer::Refused {
-                fault: Fault::Size,
-                offset: 0,
-            },
-        };
-    }
-    let strictly = strict_in(form, strict);
-    let mut rates = [0u32; PORTS];
-    let mut blockings = [0u16; PORTS];
-    let mut extras = [0u8; PORTS];
-    let mut periods = [0u32; FLOWS];
-    let mut counts = [0u16; FLOWS];
-    let mut lengths = [0u16; FLOWS];
-    let mut jitters = [0u32; FLOWS];
-    let mut hops = [0u8; FLOWS];
-    let mut routes = [0u8; FLOWS * STRIDE];
-    let mut seen = [0u8; KEYS];
     let mut totals = Totals {
         guard: 0,
         top: 0,
@@ -113,6 +114,17 @@ pub fn read_form(form: Form, strict: bool, planner: Planner, plan: &[u8]) -> Loa
         ports: 0,
         flows: 0,
     };
+    if !size_ok(plan.len()) {
+        return ColumnsRead {
+            totals,
+            answer: LoadAnswer::Refused {
+                fault: Fault::Size,
+                offset: 0,
+            },
+        };
+    }
+    let strictly = strict_in(form, strict);
+    let mut seen = [0u8; KEYS];
     let mut last = 0;
     let mut at = 0;
     while at < plan.len() {
@@ -123,15 +135,15 @@ pub fn read_form(form: Form, strict: bool, planner: Planner, plan: &[u8]) -> Loa
             at,
             last,
             totals,
-            &mut rates,
-            &mut blockings,
-            &mut extras,
-            &mut periods,
-            &mut counts,
-            &mut lengths,
-            &mut jitters,
-            &mut hops,
-            &mut routes,
+            rates,
+            blockings,
+            extras,
+            periods,
+            counts,
+            lengths,
+            jitters,
+            hops,
+            routes,
             &mut seen,
         ) {
             Progress::More {
@@ -144,61 +156,13 @@ pub fn read_form(form: Form, strict: bool, planner: Planner, plan: &[u8]) -> Loa
                 at = next;
             }
             Progress::Stop { fault, offset } => {
-                return LoadOutcome {
-                    planner,
+                return ColumnsRead {
+                    totals,
                     answer: LoadAnswer::Refused { fault, offset },
                 };
             }
         }
     }
-    let answer = close(plan, totals.ports, totals.flows, &rates, &periods, &seen);
-    let clock = totals.clock;
-    let number = form_number(form);
-    match answer {
-        LoadAnswer::Held { ports: _, flows: _ } => {
-            let mut held = planner;
-            held.form = number;
-            held.guard = totals.guard;
-            held.top = totals.top;
-            held.clock = clock;
-            held.rates = rates;
-            held.blockings = blockings;
-            held.extras = extras;
-            held.periods = periods;
-            held.counts = counts;
-            held.lengths = lengths;
-            held.jitters = jitters;
-            held.hops = hops;
-            held.routes = routes;
-            LoadOutcome {
-                planner: held,
-                answer,
-            }
-        }
-        LoadAnswer::Refused {
-            fault: _,
-            offset: _,
-        } => LoadOutcome { planner, answer },
-    }
-}
-
-// A load in either reading, by the form that the bytes tell.
-pub fn read_plan(strict: bool, planner: Planner, plan: &[u8]) -> LoadOutcome
-    ensures { λ r. ⌜ Loads (modeOf strict) (planOf planner) (planner .form) (now (plan .entry)) r ⌝ }
-{
-    read_form(form_by(plan), strict, planner, plan)
-}
-
-// The load: fields may stand in any order, but for those of a plan of the newer form.
-pub fn load(planner: Planner, plan: &[u8]) -> LoadOutcome
-    ensures { λ r. ⌜ Loads loose (planOf planner) (planner .form) (now (plan .entry)) r ⌝ }
-{
-    read_plan(false, planner, plan)
-}
-
-// The strict load: each field stands before all that follow it, by tag and number, or the plan is refused.
-pub fn load_strict(planner: Planner, plan: &[u8]) -> LoadOutcome
-    ensures { λ r. ⌜ Loads strict (planOf planner) (planner .form) (now (plan .entry)) r ⌝ }
-{
-    read_plan(true, planner, plan)
+    let answer = close(plan, totals.ports, totals.flows, rates, periods, &seen);
+    ColumnsRead { totals, answer }
 }

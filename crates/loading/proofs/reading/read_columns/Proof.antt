@@ -1,4 +1,4 @@
--- `read_form` meets its contract: test 1, then the fields. The invariant: the reading from this offset on gives what the reading from the start gives.
+-- `read_columns` meets its contract: test 1, then the fields. The invariant: the reading from this offset on gives what the reading from the start gives.
 use Prim.Native.Nat.{ℕ, _-_, _≤_}
 use mathlib.Core.Path.{_≡_, refl, sym, ap, _∙_}
 use mathlib.Core.Bool.{true}
@@ -6,25 +6,23 @@ use mathlib.Core.List.{List}
 use borrow.Author.Needs.{needs}
 use borrow.Author.Tests.{not-true, not-false}
 use native.Mathlib.Omega.{arith}
-use lib.ListN.{length}
+use lib.ListN.{length, replicate}
 use denote.Ref.{now}
 use Rattle.cqf.specs.Bounded.{within}
-use Rattle.cqf.specs.Plan.{noPlan}
-use Rattle.cqf.specs.Form.{Form, formNumber}
+use Rattle.cqf.specs.Plan.{Plan, noPlan}
+use Rattle.cqf.specs.Form.{Form}
 use Rattle.plan.specs.Answer.{formOf}
+use Rattle.plan_reading.specs.Key.{keySlots}
 use Rattle.plan_reading.specs.Draft.{Draft, blank}
 use Rattle.plan_reading.specs.Reading.{Mode, Step, more, stepAt, readFrom, readForm, maxBytes}
 use Rattle.plan_reading.specs.laws.reading.PlanLength.{form-sized, form-unsized}
 use Rattle.plan_reading.specs.laws.fields.Within.{within-high}
 use Rattle.plan_reading.specs.laws.reading.Onward.{Onward, onward, read-end, read-stop, read-more}
-use Rattle.plan_reading.specs.laws.reading.Fits.{accepted-fits}
-use Rattle.tables.specs.laws.Forms.{fits-plan}
-use Rattle.loading.specs.laws.Load.{refused-loads, accepted-loads}
-use Rattle.loading.specs.Answer.{loadOf, modeOf}
+use Rattle.loading.specs.Answer.{modeOf}
 use Rattle.loading.specs.Loading.{draftOf, progressOf, answerOf}
 use Rattle.loading.specs.declared.field.Progress.{Progress}
-use Rattle.loading.proofs.reading.read_form.Statement.{statement}
-use Rattle.loading.proofs.reading.read_form.Tie as tie
+use Rattle.loading.proofs.reading.read_columns.Statement.{statement}
+use Rattle.loading.proofs.reading.read_columns.Tie as tie
 
 -- the fields before this offset are read, into this draft
 record Reached (form : Form) (mode : Mode) (s : List ℕ) (d : Draft) (at last : ℕ) : Type 0 where
@@ -34,11 +32,11 @@ record Reached (form : Form) (mode : Mode) (s : List ℕ) (d : Draft) (at last :
   rest : readFrom form mode (length s) s 0 0 blank ≡ readFrom form mode (length s) s at last d
 
 abbrev Inv-loop : tie.InvT-loop
-Inv-loop form strict planner plan strictly rates₀ blockings₀ extras₀ periods₀ counts₀ lengths₀ jitters₀ hops₀ routes₀ seen₀ totals₀ last₀ at₀ rates blockings extras periods counts lengths jitters hops routes seen totals last at =
+Inv-loop form strict plan rates₀ blockings₀ extras₀ periods₀ counts₀ lengths₀ jitters₀ hops₀ routes₀ totals₀ strictly seen₀ last₀ at₀ rates blockings extras periods counts lengths jitters hops routes totals seen last at =
     Reached (formOf form) (modeOf strictly) plan (draftOf totals rates blockings extras periods counts lengths jitters hops routes seen) at last
 
 abbrev μ-loop : tie.MeasureT-loop
-μ-loop form strict planner plan strictly rates₀ blockings₀ extras₀ periods₀ counts₀ lengths₀ jitters₀ hops₀ routes₀ seen₀ totals₀ last₀ at₀ rates blockings extras periods counts lengths jitters hops routes seen totals last at =
+μ-loop form strict plan rates₀ blockings₀ extras₀ periods₀ counts₀ lengths₀ jitters₀ hops₀ routes₀ totals₀ strictly seen₀ last₀ at₀ rates blockings extras periods counts lengths jitters hops routes totals seen last at =
     length plan - at
 
 -- the states on the way, each named once: in a turn from where its columns are lent, the loop's from its end, and the start
@@ -133,12 +131,24 @@ at-end c =
 returns : tie.Need-returns Inv-loop μ-loop
 returns c =
     let a = c .before .before .before .args in
-    let e = form-unsized (formOf (a .form)) (modeOf (a .strict)) (now (a .plan)) (sym (c .before .size-ok .ensures) ∙ not-true (c .before .size-ok .result) (c .if1 .taken)) in
-    refused-loads _ _ _ _ 1 0 e refl refl refl
+    sym (form-unsized (formOf (a .form)) (modeOf (a .strict)) (now (a .plan)) (sym (c .before .size-ok .ensures) ∙ not-true (c .before .size-ok .result) (c .if1 .taken)))
+
+-- the draft of the tables that hold nothing
+abbrev fresh : Plan → Draft
+fresh p = record { tables = p; seen = replicate keySlots 0; ports = 0; flows = 0 }
 
 loop-holds : tie.Need-loop-holds Inv-loop μ-loop
-unfolding blank noPlan
-loop-holds c = record { inside = omega arith; ports = omega arith; flows = omega arith; rest = refl }
+unfolding blank
+loop-holds c =
+    let s = c .before .before .before .before in
+    record {
+      inside = omega arith;
+      ports = omega arith;
+      flows = omega arith;
+      rest =
+          ap (λ (p : Plan). readFrom (formOf (s .args .form)) (modeOf (c .strict-in .result)) (length (now (s .args .plan))) (now (s .args .plan)) 0 0 (fresh p))
+          (sym (s .pre));
+    }
 
 step-requires : tie.Need-step-requires Inv-loop μ-loop
 step-requires c κs =
@@ -165,27 +175,16 @@ returns-2 : tie.Need-returns-2 Inv-loop μ-loop
 returns-2 c =
     let test = in-turn (c .before .before .before .before) in
     let l = test .before in
-    let e =
-    rest-read l
+    sym
+    (rest-read l
     ∙ read-stop (form l) (mode l) (bytes l) (here l) (last l) (held l) (test .loop-test .taken) _ _
-    (sym (c .before .before .before .step .ensures) ∙ ap (stepped-as (c .before .before .before)) (c .before .fault .given .1)) in
-    refused-loads _ _ _ _ _ _ e refl refl refl
+    (sym (c .before .before .before .step .ensures) ∙ ap (stepped-as (c .before .before .before)) (c .before .fault .given .1)))
 
 returns-3 : tie.Need-returns-3 Inv-loop μ-loop
-returns-3 c =
-    let l = at-last (c .before .before .before .before) in
-    let e = at-end (c .before .before .before .before) ∙ ap (answerOf _) (c .enum-told .given .1) in
-    let number = c .before .before .form-number .ensures in
-    let fits = accepted-fits (form l) (reading l) (bytes l) _ _ _ e in
-    accepted-loads _ _ _ _ _ _ _ e (fits-plan _ (rw number fits)) number (ap loadOf (c .enum-told .given .1))
+returns-3 c = sym (at-end c)
 
-returns-4 : tie.Need-returns-4 Inv-loop μ-loop
-returns-4 c =
-    let e = at-end (c .before .before .before .before) ∙ ap (answerOf _) (c .enum-told2 .given .1) in
-    refused-loads _ _ _ _ _ _ e refl refl (ap loadOf (c .enum-told2 .given .1))
-
-pub read-form-spec : {M : Type 1} → statement M
-read-form-spec =
+pub read-columns-spec : {M : Type 1} → statement M
+read-columns-spec =
     tie.close
     (tie.spec
     Inv-loop
@@ -201,8 +200,4 @@ read-form-spec =
     (λ c. search needs)
     returns-2
     (λ c κs. tt)
-    (λ c κs. tt)
-    (λ c. search needs)
-    (λ c. search needs)
-    returns-3
-    returns-4)
+    returns-3)

@@ -1,8 +1,8 @@
 -- `read_plan` meets its contract: the form is the one that the bytes tell.
 use borrow.Author.Needs.{needs}
 use Rattle.loading.specs.laws.Load.{told-loads}
-use Rattle.loading.proofs.reading.read_plan.Statement.{statement}
-use Rattle.loading.proofs.reading.read_plan.Tie as tie
+use Rattle.loading.proofs.held.read_plan.Statement.{statement}
+use Rattle.loading.proofs.held.read_plan.Tie as tie
 
 returns : tie.Need-returns
 returns c = told-loads _ _ _ _ _ _ (c .before .form-by .ensures) (c .read-form .ensures)
