@@ -1,22 +1,20 @@
-// The calls: the planner by value, its tables lent column by column, with the top that they have by their form.
-use crate::forms::form_from;
+// The calls: the planner by value, its tables lent column by column.
+use crate::lent::check_columns;
+use crate::lent::fixed_point_columns;
+use crate::lent::slack_columns;
+use crate::lent_lists::reprice_columns;
+use crate::lent_searches::least_columns;
+use crate::lent_searches::margin_safe_columns;
+use crate::lent_writes::gates_columns;
+use crate::lent_writes::save_columns;
 use gate_writing::GatesAnswer;
-use gate_writing::gates_tables;
 use questions::CheckAnswer;
 use questions::FixedPointAnswer;
-use questions::Goal;
 use questions::RepriceAnswer;
 use questions::SearchAnswer;
 use questions::SlackAnswer;
-use questions::check_tables;
-use questions::fixed_point_tables;
-use questions::reprice_tables;
-use questions::search_tables;
-use questions::slack_tables;
 use saving::SaveAnswer;
-use saving::save_tables;
 use tables::Planner;
-use tables::held_top;
 ghost use mathlib.Core.Path.{_≡_};
 ghost use Rattle.cqf.specs.Form.{formFrom};
 ghost use Rattle.tables.specs.Tables.{planOf};
@@ -37,10 +35,10 @@ pub fn check(planner: Planner, duration: u64) -> CheckAnswer
     ensures answers { λ r. ⌜ checkOf r ≡ checkAnswer (planOf planner) duration ⌝ }
     ensures means { λ r. ⌜ CheckMeans (planOf planner) duration (checkOf r) ⌝ }
 {
-    let top = held_top(planner.form, &planner.hops, planner.top);
-    check_tables(
+    check_columns(
+        planner.form,
         planner.guard,
-        top,
+        planner.top,
         planner.clock,
         &planner.rates,
         &planner.blockings,
@@ -59,10 +57,10 @@ pub fn check(planner: Planner, duration: u64) -> CheckAnswer
 pub fn slack(planner: Planner, port: u64, duration: u64) -> SlackAnswer
     ensures { λ r. ⌜ slackOf r ≡ slackAnswer (planOf planner) port duration ⌝ }
 {
-    let top = held_top(planner.form, &planner.hops, planner.top);
-    slack_tables(
+    slack_columns(
+        planner.form,
         planner.guard,
-        top,
+        planner.top,
         planner.clock,
         &planner.rates,
         &planner.blockings,
@@ -85,11 +83,10 @@ pub fn least(planner: Planner, scratch: &mut [u64]) -> SearchAnswer
         × (now (scratch .exit) ≡ leastLeaves (planOf planner) (now (scratch .entry)))
         ⌝ }
 {
-    let top = held_top(planner.form, &planner.hops, planner.top);
-    search_tables(
-        Goal::Least,
+    least_columns(
+        planner.form,
         planner.guard,
-        top,
+        planner.top,
         planner.clock,
         &planner.rates,
         &planner.blockings,
@@ -111,11 +108,10 @@ pub fn margin_safe(planner: Planner, scratch: &mut [u64]) -> SearchAnswer
         × (now (scratch .exit) ≡ marginSafeLeaves (planOf planner) (now (scratch .entry)))
         ⌝ }
 {
-    let top = held_top(planner.form, &planner.hops, planner.top);
-    search_tables(
-        Goal::MarginSafe,
+    margin_safe_columns(
+        planner.form,
         planner.guard,
-        top,
+        planner.top,
         planner.clock,
         &planner.rates,
         &planner.blockings,
@@ -136,10 +132,10 @@ pub fn fixed_point(planner: Planner, start: u64, steps: u64) -> FixedPointAnswer
     ensures answers { λ r. ⌜ fixedPointOf r ≡ fixedPointAnswer (planOf planner) start steps ⌝ }
     ensures means { λ r. ⌜ FixedPointMeans (planOf planner) start steps (fixedPointOf r) ⌝ }
 {
-    let top = held_top(planner.form, &planner.hops, planner.top);
-    fixed_point_tables(
+    fixed_point_columns(
+        planner.form,
         planner.guard,
-        top,
+        planner.top,
         planner.clock,
         &planner.rates,
         &planner.blockings,
@@ -166,10 +162,10 @@ pub fn reprice(
 ) -> RepriceAnswer
     ensures { λ r. ⌜ (repriceOf r ≡ repriceAnswer (planOf planner) duration flow length (now (out .entry))) × (now (out .exit) ≡ repriceLeaves (planOf planner) duration flow length (now (out .entry))) ⌝ }
 {
-    let top = held_top(planner.form, &planner.hops, planner.top);
-    reprice_tables(
+    reprice_columns(
+        planner.form,
         planner.guard,
-        top,
+        planner.top,
         planner.clock,
         &planner.rates,
         &planner.blockings,
@@ -194,12 +190,10 @@ pub fn save(planner: Planner, buffer: &mut [u8]) -> SaveAnswer
         × (now (buffer .exit) ≡ saveLeaves (formFrom (planner .form)) (planOf planner) (now (buffer .entry)))
         ⌝ }
 {
-    let form = form_from(planner.form);
-    let top = held_top(planner.form, &planner.hops, planner.top);
-    save_tables(
-        form,
+    save_columns(
+        planner.form,
         planner.guard,
-        top,
+        planner.top,
         planner.clock,
         &planner.rates,
         &planner.blockings,
@@ -223,10 +217,10 @@ pub fn gates(planner: Planner, duration: u64, even: u64, odd: u64, buffer: &mut 
         ⌝ }
     ensures means { λ r. ⌜ GatesMean (planOf planner) duration even odd (now (buffer .entry)) (now (buffer .exit)) (gatesOf r) ⌝ }
 {
-    let top = held_top(planner.form, &planner.hops, planner.top);
-    gates_tables(
+    gates_columns(
+        planner.form,
         planner.guard,
-        top,
+        planner.top,
         planner.clock,
         &planner.rates,
         &planner.blockings,

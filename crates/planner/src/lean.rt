@@ -1,9 +1,8 @@
 // The two searches over a scratch of one number.
-use questions::Goal;
+use crate::lent_searches::lean_least_columns;
+use crate::lent_searches::lean_margin_safe_columns;
 use questions::SearchAnswer;
-use questions::lean_tables;
 use tables::Planner;
-use tables::held_top;
 ghost use mathlib.Core.Path.{_≡_};
 ghost use Rattle.tables.specs.Tables.{planOf};
 ghost use Rattle.questions.specs.Answer.{leastOf, marginSafeOf};
@@ -16,11 +15,10 @@ pub fn lean_least(planner: Planner, scratch: &mut [u64]) -> SearchAnswer
         × (now (scratch .exit) ≡ leanLeastLeaves (planOf planner) (now (scratch .entry)))
         ⌝ }
 {
-    let top = held_top(planner.form, &planner.hops, planner.top);
-    lean_tables(
-        Goal::Least,
+    lean_least_columns(
+        planner.form,
         planner.guard,
-        top,
+        planner.top,
         planner.clock,
         &planner.rates,
         &planner.blockings,
@@ -42,11 +40,10 @@ pub fn lean_margin_safe(planner: Planner, scratch: &mut [u64]) -> SearchAnswer
         × (now (scratch .exit) ≡ leanMarginSafeLeaves (planOf planner) (now (scratch .entry)))
         ⌝ }
 {
-    let top = held_top(planner.form, &planner.hops, planner.top);
-    lean_tables(
-        Goal::MarginSafe,
+    lean_margin_safe_columns(
+        planner.form,
         planner.guard,
-        top,
+        planner.top,
         planner.clock,
         &planner.rates,
         &planner.blockings,

@@ -1,10 +1,9 @@
 // The usable durations: one span, and all of them.
+use crate::lent_writes::span_columns;
 use questions::SpanAnswer;
 use questions::SpanRecord;
 use questions::SpansAnswer;
-use questions::span_tables;
 use tables::Planner;
-use tables::held_top;
 ghost use mathlib.Core.Path.{_≡_};
 ghost use lib.ListN.{length};
 ghost use Rattle.tables.specs.Tables.{planOf};
@@ -18,10 +17,10 @@ pub fn span(planner: Planner, duration: u64) -> SpanAnswer
     ensures answers { λ r. ⌜ spanAnswerOf r ≡ spanAnswer (planOf planner) duration ⌝ }
     ensures means { λ r. ⌜ SpanMeans (planOf planner) duration (spanAnswerOf r) ⌝ }
 {
-    let top = held_top(planner.form, &planner.hops, planner.top);
-    span_tables(
+    span_columns(
+        planner.form,
         planner.guard,
-        top,
+        planner.top,
         planner.clock,
         &planner.rates,
         &planner.blockings,

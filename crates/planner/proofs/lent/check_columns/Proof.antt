@@ -1,4 +1,4 @@
--- `planner::calls::check` meets its contract: the columns are lent on, and the answer means what demand 3 says of it.
+-- `planner::lent::check_columns` meets its contract: the columns are lent on, and the answer means what demand 3 says of it.
 use mathlib.Core.Path.{_≡_, sym, subst}
 use Prim.Native.Nat.{ℕ}
 use Rattle.cqf.specs.Plan.{Plan}
@@ -6,15 +6,15 @@ use Rattle.answers.specs.Answer.{Answer}
 use Rattle.questions.specs.Outcome.{checkAnswer}
 use Rattle.sequences.specs.Meaning.{CheckMeans}
 use Rattle.sequences.specs.results.Theorem.{check-means}
-use Rattle.planner.proofs.calls.check.Statement.{statement}
-use Rattle.planner.proofs.calls.check.Tie as tie
+use Rattle.planner.proofs.lent.check_columns.Statement.{statement}
+use Rattle.planner.proofs.lent.check_columns.Tie as tie
 
 -- the answer of the definition, and with it what demand 3 says of it
 told : (p : Plan) (T : ℕ) (a : Answer (Unit {0})) → a ≡ checkAnswer p T → (a ≡ checkAnswer p T) × CheckMeans p T a
 told p T a e = (e, subst (λ (x : Answer (Unit {0})). CheckMeans p T x) (sym e) (check-means p T))
 
 returns : tie.Need-returns
-returns c = told _ _ _ (rw (c .before .before .before .before .before .before .before .before .before .before .before .before .held-top .ensures) at (c .check-tables .ensures))
+returns c = told _ _ _ (rw (c .before .held-top .ensures) at (c .check-tables .ensures))
 
-pub check-spec : {M : Type 1} → statement M
-check-spec = tie.close (tie.spec (λ c κs. tt) (λ c κs. tt) returns)
+pub check-columns-spec : {M : Type 1} → statement M
+check-columns-spec = tie.close (tie.spec (λ c κs. tt) (λ c κs. tt) returns)

@@ -1,4 +1,4 @@
--- `planner::calls::fixed_point` meets its contract: the columns are lent on, and the answer means what is said of the iteration.
+-- `planner::lent::fixed_point_columns` meets its contract: the columns are lent on, and the answer means what is said of the iteration.
 use mathlib.Core.Path.{_≡_, sym, subst}
 use Prim.Native.Nat.{ℕ}
 use Rattle.cqf.specs.Plan.{Plan}
@@ -6,8 +6,8 @@ use Rattle.answers.specs.Answer.{Answer}
 use Rattle.questions.specs.FixedPoint.{FixedPoint, fixedPointAnswer}
 use Rattle.sequences.specs.FixedPointMeaning.{FixedPointMeans}
 use Rattle.sequences.specs.results.IterationsTheorem.{fixed-point-means}
-use Rattle.planner.proofs.calls.fixed_point.Statement.{statement}
-use Rattle.planner.proofs.calls.fixed_point.Tie as tie
+use Rattle.planner.proofs.lent.fixed_point_columns.Statement.{statement}
+use Rattle.planner.proofs.lent.fixed_point_columns.Tie as tie
 
 -- the answer of the definition, and with it what it means
 told
@@ -20,7 +20,7 @@ fixed-point-tables-requires : tie.Need-fixed-point-tables-requires
 fixed-point-tables-requires c κs = tt
 
 returns : tie.Need-returns
-returns c = told _ _ _ _ (rw (c .before .before .before .before .before .before .before .before .before .before .before .before .held-top .ensures) at (c .fixed-point-tables .ensures))
+returns c = told _ _ _ _ (rw (c .before .held-top .ensures) at (c .fixed-point-tables .ensures))
 
-pub fixed-point-spec : {M : Type 1} → statement M
-fixed-point-spec = tie.close (tie.spec (λ c κs. tt) fixed-point-tables-requires returns)
+pub fixed-point-columns-spec : {M : Type 1} → statement M
+fixed-point-columns-spec = tie.close (tie.spec (λ c κs. tt) fixed-point-tables-requires returns)

@@ -1,4 +1,4 @@
--- `planner::calls::gates` meets its contract: the columns are lent on, and what was written plays two cycles.
+-- `planner::lent_writes::gates_columns` meets its contract: the columns are lent on, and what was written plays two cycles.
 use mathlib.Core.Path.{_≡_, sym, subst}
 use mathlib.Core.List.{List}
 use Prim.Native.Nat.{ℕ}
@@ -8,8 +8,8 @@ use Rattle.answers.specs.Answer.{Answer}
 use Rattle.gate_writing.specs.Gates.{gatesAnswer, gatesLeaves}
 use Rattle.sequences.specs.GatesMeaning.{GatesMean}
 use Rattle.sequences.specs.results.GatesTheorem.{gates-mean}
-use Rattle.planner.proofs.calls.gates.Statement.{statement}
-use Rattle.planner.proofs.calls.gates.Tie as tie
+use Rattle.planner.proofs.lent_writes.gates_columns.Statement.{statement}
+use Rattle.planner.proofs.lent_writes.gates_columns.Tie as tie
 
 -- the answer of the definition and what it leaves, and with them what they mean
 told
@@ -29,7 +29,7 @@ same-length : tie.Need-same-length
 same-length c = search needs
 
 returns : tie.Need-returns
-returns c = told _ _ _ _ _ _ _ (rw (c .before .before .before .before .before .before .before .before .before .before .before .before .before .before .before .held-top .ensures) at (c .before .before .gates-tables .ensures))
+returns c = told _ _ _ _ _ _ _ (rw (c .before .before .before .before .held-top .ensures) at (c .before .before .gates-tables .ensures))
 
-pub gates-spec : {M : Type 1} → statement M
-gates-spec = tie.close (tie.spec (λ c κs. tt) gates-tables-requires same-length returns)
+pub gates-columns-spec : {M : Type 1} → statement M
+gates-columns-spec = tie.close (tie.spec (λ c κs. tt) gates-tables-requires same-length returns)
