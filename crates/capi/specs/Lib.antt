@@ -1,4 +1,5 @@
 -- The outcomes of the calls as numbers, as include/cycle_planner.h tells them.
 pub mod Numbers
 pub mod Meaning
+pub mod Loads
 pub mod laws

@@ -5,3 +5,4 @@ pub mod StepsMeaning
 pub mod GatesMeaning
 pub mod SpansMeaning
 pub mod Reprice
+pub mod Clear

@@ -2,7 +2,6 @@
 use crate::AnswerNumbers;
 use crate::FieldReadNumbers;
 use crate::FixedPointAnswerNumbers;
-use crate::LoadOutcomeNumbers;
 use crate::SlackAnswerNumbers;
 use plan::Field;
 use plan::FieldRead;
@@ -10,7 +9,6 @@ use plan::Form;
 use planner::CheckAnswer;
 use planner::FixedPointAnswer;
 use planner::LoadAnswer;
-use planner::LoadOutcome;
 use planner::RepriceAnswer;
 use planner::SearchAnswer;
 use planner::SlackAnswer;
@@ -24,7 +22,6 @@ use planner::slack_number;
 ghost use mathlib.Core.Path.{_≡_};
 ghost use Prim.Native.Nat.{ℕ};
 ghost use Rattle.plan.specs.Answer.{formOf, fieldReadOf};
-ghost use Rattle.tables.specs.Tables.{planOf};
 ghost use Rattle.answers.specs.Answer.{refusalNumber};
 ghost use Rattle.loading.specs.Answer.{loadOf};
 ghost use Rattle.questions.specs.Answer.{checkOf, slackOf, searchOf, leastOf, marginSafeOf, fixedPointOf, repriceOf};
@@ -59,30 +56,13 @@ pub(crate) fn numbered(refusal: u32, first: u64, second: u64) -> AnswerNumbers
     }
 }
 
-fn load_in_c(answer: LoadAnswer) -> AnswerNumbers
+pub(crate) fn load_in_c(answer: LoadAnswer) -> AnswerNumbers
     ensures { λ r. ⌜ r ≡ loadNumbers (loadOf answer) ⌝ }
 {
     let refusal = load_number(answer);
     match answer {
         LoadAnswer::Held { ports, flows } => numbered(refusal, ports as u64, flows as u64),
         LoadAnswer::Refused { fault: _, offset } => numbered(refusal, offset as u64, 0),
-    }
-}
-
-// A load's answer as numbers, beside the planner that it leaves.
-pub(crate) fn outcome_numbers(outcome: LoadOutcome) -> LoadOutcomeNumbers
-    ensures { λ r. ⌜
-        (planOf (r .planner) ≡ planOf (outcome .planner))
-        × (r .planner .form ≡ outcome .planner .form)
-        × (r .answer ≡ loadNumbers (loadOf (outcome .answer)))
-        ⌝ }
-{
-    let planner = outcome.planner;
-    let answer = outcome.answer;
-    let numbers = load_in_c(answer);
-    LoadOutcomeNumbers {
-        planner,
-        answer: numbers,
     }
 }
 
