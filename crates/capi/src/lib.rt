@@ -4,30 +4,25 @@ use crate::answer_numbers::form_by_tag;
 use crate::batch_numbers::collect_outcome_in_c;
 use crate::batch_numbers::place_outcome_in_c;
 use crate::batch_numbers::serve_outcome_in_c;
-use crate::usable::spans_in_c;
 use crate::written::convert_in_c;
 use planner::Batch;
-use planner::Planner;
-use planner::SpanRecord;
 ghost use mathlib.Core.Path.{_≡_};
-ghost use lib.ListN.{length};
 ghost use Rattle.plan.specs.Layout.{formBy};
 ghost use Rattle.plan.specs.Field.{fieldAt, repeats};
-ghost use Rattle.tables.specs.Tables.{planOf};
-ghost use Rattle.questions.specs.Spans.{spansAnswer, spansLeaves};
 ghost use Rattle.converting.specs.Convert.{upgradeAnswer, upgradeLeaves, downgradeAnswer, downgradeLeaves};
 ghost use Rattle.batches.specs.Batch.{emptyBatch, placeAnswer, placeLeaves, serveAnswer, serveLeaves, collectAnswer, collectLeaves};
 ghost use Rattle.batching.specs.Slots.{batchOf};
-ghost use Rattle.capi.specs.Meaning.{SpansNumbersMean};
-ghost use Rattle.capi.specs.Numbers.{loadNumbers, searchNumbers, stepsNumbers, writtenNumbers, servedNumber, fieldNumbers, formByTag};
+ghost use Rattle.capi.specs.Numbers.{loadNumbers, stepsNumbers, writtenNumbers, servedNumber, fieldNumbers, formByTag};
 
 mod answer_numbers; // answer_numbers.rt: each answer as numbers
 mod asked; // asked.rt: questions about one duration
 mod batch_numbers; // batch_numbers.rt: those of the calls of a batch
+mod lean; // lean.rt: the searches over a scratch of one number
+mod listed; // listed.rt: spans, and a list of slacks
 mod loads; // loads.rt: the loads
 mod searches; // searches.rt: the searches
 mod usable; // usable.rt: those of the calls that name spans
-mod writes; // writes.rt: calls that write
+mod writes; // writes.rt: calls that write fields
 mod written; // written.rt: those of the calls that write bytes
 
 #[repr(C)]
@@ -90,18 +85,6 @@ pub extern "C" fn cp_repeats(tag: u32, value: &[u8]) -> bool
     ensures { λ r. ⌜ r ≡ repeats (formByTag tag) (now (value .entry)) ⌝ }
 {
     plan::repeats_port(form_by_tag(tag), value)
-}
-
-// The numbers mean what the answer of `planner::spans` means.
-#[no_mangle]
-pub extern "C" fn cp_spans(planner: Planner, list: &mut [SpanRecord]) -> AnswerNumbers
-    ensures answers { λ r. ⌜
-        (r ≡ searchNumbers (spansAnswer (planOf planner) (length (now (list .entry)))))
-        × (now (list .exit) ≡ spansLeaves (planOf planner) (now (list .entry)))
-        ⌝ }
-    ensures means { λ r. ⌜ SpansNumbersMean (planOf planner) (now (list .entry)) (now (list .exit)) r ⌝ }
-{
-    spans_in_c(planner::spans(planner, list))
 }
 
 #[no_mangle]

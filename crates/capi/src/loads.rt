@@ -151,7 +151,7 @@ pub extern "C" fn cp_load_strict_columns(
         r
         ⌝ }
 {
-    load_in_c(planner::load_columns(
+    let answer = planner::load_columns(
         true,
         form,
         guard,
@@ -169,5 +169,6 @@ pub extern "C" fn cp_load_strict_columns(
         hops,
         routes,
         plan,
-    ))
+    );
+    load_in_c(answer)
 }

@@ -1,7 +1,5 @@
-// Calls for C that write fields, or slacks, or name a span: the planner by its columns, each at a pointer.
+// Calls for C that write fields: the planner by its columns, each at a pointer, and a lent buffer.
 use crate::AnswerNumbers;
-use crate::answer_numbers::reprice_in_c;
-use crate::usable::span_in_c;
 use crate::written::gates_in_c;
 use crate::written::save_in_c;
 use numbers::clock::Clock;
@@ -9,139 +7,10 @@ use tables::columns;
 ghost use mathlib.Core.Path.{_≡_};
 ghost use Rattle.cqf.specs.Form.{formFrom};
 ghost use Rattle.loading.specs.Lent.{lent, lentPlan};
-ghost use Rattle.questions.specs.Reprice.{repriceAnswer, repriceLeaves};
-ghost use Rattle.questions.specs.Spans.{spanAnswer};
 ghost use Rattle.saving.specs.Save.{saveAnswer, saveLeaves};
 ghost use Rattle.gate_writing.specs.Gates.{gatesAnswer, gatesLeaves};
-ghost use Rattle.capi.specs.Meaning.{GatesNumbersMean, SpanNumbersMean};
-ghost use Rattle.capi.specs.Numbers.{checkNumbers, spanNumbers, writtenNumbers};
-
-#[no_mangle]
-pub extern "C" fn cp_reprice_columns<'a>(
-    form: &u32,
-    guard: &u32,
-    top: &u32,
-    drift: &u32,
-    timing_jitter: &u32,
-    sync_error: &u32,
-    rates: &'a columns::Rates,
-    blockings: &'a columns::Blockings,
-    extras: &'a columns::Extras,
-    periods: &'a columns::Periods,
-    counts: &'a columns::Counts,
-    lengths: &'a columns::Lengths,
-    jitters: &'a columns::Jitters,
-    hops: &'a columns::Hops,
-    routes: &'a columns::Routes,
-    duration: u64,
-    flow: u64,
-    length: u64,
-    out: &mut [i64],
-) -> AnswerNumbers
-    ensures { λ r. ⌜
-        (r ≡ checkNumbers (repriceAnswer
-        (lentPlan
-        (lent (now (form .entry)) (now (guard .entry)) (now (top .entry)) (now (drift .entry))
-        (now («timing_jitter» .entry)) (now («sync_error» .entry)) (now (rates .entry)) (now (blockings .entry))
-        (now (extras .entry)) (now (periods .entry)) (now (counts .entry)) (now (lengths .entry))
-        (now (jitters .entry)) (now (hops .entry)) (now (routes .entry))))
-        duration flow length (now (out .entry))))
-        × (now (out .exit) ≡ repriceLeaves
-        (lentPlan
-        (lent (now (form .entry)) (now (guard .entry)) (now (top .entry)) (now (drift .entry))
-        (now («timing_jitter» .entry)) (now («sync_error» .entry)) (now (rates .entry)) (now (blockings .entry))
-        (now (extras .entry)) (now (periods .entry)) (now (counts .entry)) (now (lengths .entry))
-        (now (jitters .entry)) (now (hops .entry)) (now (routes .entry))))
-        duration flow length (now (out .entry)))
-        ⌝ }
-{
-    let clock = Clock {
-        drift: *drift,
-        timing_jitter: *timing_jitter,
-        sync_error: *sync_error,
-    };
-    reprice_in_c(planner::reprice_columns(
-        *form,
-        *guard,
-        *top,
-        clock,
-        rates,
-        blockings,
-        extras,
-        periods,
-        counts,
-        lengths,
-        jitters,
-        hops,
-        routes,
-        duration,
-        flow,
-        length,
-        out,
-    ))
-}
-
-// The numbers mean what the answer of `planner::span` means.
-#[no_mangle]
-pub extern "C" fn cp_span_columns<'a>(
-    form: &u32,
-    guard: &u32,
-    top: &u32,
-    drift: &u32,
-    timing_jitter: &u32,
-    sync_error: &u32,
-    rates: &'a columns::Rates,
-    blockings: &'a columns::Blockings,
-    extras: &'a columns::Extras,
-    periods: &'a columns::Periods,
-    counts: &'a columns::Counts,
-    lengths: &'a columns::Lengths,
-    jitters: &'a columns::Jitters,
-    hops: &'a columns::Hops,
-    routes: &'a columns::Routes,
-    duration: u64,
-) -> AnswerNumbers
-    ensures answers { λ r. ⌜
-        r ≡ spanNumbers (spanAnswer
-        (lentPlan
-        (lent (now (form .entry)) (now (guard .entry)) (now (top .entry)) (now (drift .entry))
-        (now («timing_jitter» .entry)) (now («sync_error» .entry)) (now (rates .entry)) (now (blockings .entry))
-        (now (extras .entry)) (now (periods .entry)) (now (counts .entry)) (now (lengths .entry))
-        (now (jitters .entry)) (now (hops .entry)) (now (routes .entry))))
-        duration)
-        ⌝ }
-    ensures means { λ r. ⌜
-        SpanNumbersMean
-        (lentPlan
-        (lent (now (form .entry)) (now (guard .entry)) (now (top .entry)) (now (drift .entry))
-        (now («timing_jitter» .entry)) (now («sync_error» .entry)) (now (rates .entry)) (now (blockings .entry))
-        (now (extras .entry)) (now (periods .entry)) (now (counts .entry)) (now (lengths .entry))
-        (now (jitters .entry)) (now (hops .entry)) (now (routes .entry))))
-        duration r
-        ⌝ }
-{
-    let clock = Clock {
-        drift: *drift,
-        timing_jitter: *timing_jitter,
-        sync_error: *sync_error,
-    };
-    span_in_c(planner::span_columns(
-        *form,
-        *guard,
-        *top,
-        clock,
-        rates,
-        blockings,
-        extras,
-        periods,
-        counts,
-        lengths,
-        jitters,
-        hops,
-        routes,
-        duration,
-    ))
-}
+ghost use Rattle.capi.specs.Meaning.{GatesNumbersMean};
+ghost use Rattle.capi.specs.Numbers.{writtenNumbers};
 
 #[no_mangle]
 pub extern "C" fn cp_save_columns<'a>(

@@ -24,6 +24,7 @@ mod run_end;
 mod search;
 mod seek;
 mod set_demand;
+mod span_columns;
 mod span_count;
 mod span_list;
 mod upward;
@@ -38,6 +39,7 @@ pub use port_slack::slack_tables;
 pub use reprice::reprice_tables;
 pub use search::search_tables;
 pub use seek::Goal;
+pub use span_columns::spans_columns;
 pub use span_list::SpansAnswer;
 pub use span_list::spans;
 

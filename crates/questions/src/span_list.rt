@@ -23,9 +23,9 @@ pub enum SpansAnswer {
 
 // How many spans there are, and of how many a list is given the records: all, or none where the list is shorter or no plan is held.
 pub(crate) struct SpanCount {
-    held: bool,
-    count: u64,
-    listed: usize,
+    pub held: bool,
+    pub count: u64,
+    pub listed: usize,
 }
 
 // The span that follows one, or no span.
@@ -101,7 +101,7 @@ fn span_count(planner: Planner, size: usize) -> SpanCount
     }
 }
 
-fn count_answer(counted: SpanCount, size: usize) -> SpansAnswer
+pub(crate) fn count_answer(counted: SpanCount, size: usize) -> SpansAnswer
     ensures { λ r. ⌜ spansAnswerOf r ≡ countedOf counted size ⌝ }
 {
     if !counted.held {
