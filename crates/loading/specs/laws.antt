@@ -2,3 +2,4 @@
 pub mod Copy
 pub mod Load
 pub mod Lent
+pub mod Twice

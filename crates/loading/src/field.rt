@@ -1,5 +1,6 @@
 // One field of a plan that is being read: the tests 2 to 7, with 12 between 6 and 7, and the field stored.
 
+use crate::repeat::names_twice;
 use crate::store::KEYS;
 use crate::store::Totals;
 use crate::store::key_of;
@@ -11,7 +12,6 @@ use plan::Form;
 use plan::layout::route_start;
 use plan::read::field_at;
 use plan::route::route_bytes;
-use plan::route::route_repeats;
 use plan::split::field_value;
 use tables::columns;
 ghost use Prim.Native.Nat.{_≤_};
@@ -102,7 +102,7 @@ fn take_field(
         };
     }
     let route = route_bytes(field_value(plan, at), route_start(x));
-    if route_repeats(route) {
+    if names_twice(route) {
         return Progress::Stop {
             fault: Fault::RepeatedPort,
             offset: at,

@@ -6,6 +6,7 @@ mod held; // held.rt: the load of a planner by value
 mod lent; // lent.rt: the load into lent columns
 mod reading; // reading.rt: a whole plan read into fresh columns
 mod field; // field.rt: one field, tested and stored
+mod repeat; // repeat.rt: a port twice in a route
 mod first; // first.rt: the first field that is sought
 mod store; // store.rt: a field stored into the columns
 mod slots; // slots.rt: the numbers of a port or a flow

@@ -60,10 +60,10 @@ route-read c =
       part-whole _ _ (field-is-whole _ _ _ (fieldOf (a .args .x)) (a .args .next) (a .pre .2)),
     )
 
-repeats-read : (c : tie.After-route-repeats) →
+repeats-read : (c : tie.After-names-twice) →
     let a = entry (past-6 (c .before .before .before .before)) in
-    c .route-repeats .result ≡ fieldRepeats (routeAt (fieldOf (a .args .x) .kind) (now (a .args .plan)) (a .args .at))
-repeats-read c = c .route-repeats .ensures ∙ rw (route-read (c .before))
+    c .names-twice .result ≡ fieldRepeats (routeAt (fieldOf (a .args .x) .kind) (now (a .args .plan)) (a .args .at))
+repeats-read c = c .names-twice .ensures ∙ rw (route-read (c .before))
 
 element-copy-out-if1 : tie.Need-element-copy-out-if1
 element-copy-out-if1 c = omega (arith, c .key-of .ensures, key-below (fieldOf (c .before .before .args .x)) (found-numbers _ _ _ _ _ (c .before .before .pre .2)))
@@ -81,6 +81,11 @@ returns-2 c =
     sym (step-late _ (modeOf (a .args .strict)) _ _ _ (held a) (fieldOf (a .args .x)) (a .args .next) (a .pre .2)
     (free six)
     (sym (c .before .is-late .ensures) ∙ c .if2 .taken))
+
+names-twice-requires : tie.Need-names-twice-requires
+names-twice-requires c κs =
+    let a = entry (past-6 (c .before .before .before)) in
+    rw (route-read c) (found-route _ _ _ _ _ (a .pre .2) .ports)
 
 returns-3 : tie.Need-returns-3
 returns-3 c =
@@ -125,7 +130,7 @@ take-field-spec =
     (λ c κs. search needs)
     (λ c κs. search needs)
     (λ c κs. search needs)
-    (λ c κs. search needs)
+    names-twice-requires
     returns-3
     store-field-requires
     returns-4)
