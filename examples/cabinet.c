@@ -10,7 +10,7 @@
 enum { EVEN_QUEUE = 2, ODD_QUEUE = 3 };
 
 static uint8_t plan[CP_MAX_PLAN + 1];
-static cp_load_outcome held;
+static cp_planner held; /* all 0: no plan is held */
 
 /* One byte more than a plan may have is read: a longer file is then refused as too long. */
 static size_t read_plan(const char *name) {
@@ -31,22 +31,22 @@ static int refused(const char *what, uint32_t refusal) {
 
 static int load(const char *name) {
   size_t length = read_plan(name);
-  held = cp_load(cp_empty(), plan, length);
-  if (held.answer.refusal != CP_OK) {
-    printf("at byte %" PRIu64 " of the plan, ", held.answer.first);
-    return refused(name, held.answer.refusal);
+  cp_answer answer = cp_load(&held, plan, length);
+  if (answer.refusal != CP_OK) {
+    printf("at byte %" PRIu64 " of the plan, ", answer.first);
+    return refused(name, answer.refusal);
   }
-  printf("%s: %" PRIu64 " ports, %" PRIu64 " flows\n", name, held.answer.first, held.answer.second);
+  printf("%s: %" PRIu64 " ports, %" PRIu64 " flows\n", name, answer.first, answer.second);
   return 0;
 }
 
 /* The duration to use: the one asked for where it is admissible, else the first one above it that is. 0 where there is none. */
 static uint64_t usable(uint64_t duration) {
-  cp_answer check = cp_check(held.planner, duration);
+  cp_answer check = cp_check(&held, duration);
   if (check.refusal == CP_OK) printf("%" PRIu64 " ns: admissible\n", duration);
   if (check.refusal == CP_NOT_ADMISSIBLE) printf("port %" PRIu64 " fails, %" PRIu64 " in all; ", check.first, check.second);
   if (check.refusal != CP_OK) refused("the duration", check.refusal);
-  cp_answer span = cp_span(held.planner, duration);
+  cp_answer span = cp_span(&held, duration);
   if (span.refusal != CP_OK) {
     if (span.refusal != check.refusal) refused("the next span", span.refusal);
     return 0;
@@ -57,7 +57,7 @@ static uint64_t usable(uint64_t duration) {
 
 static int write_gates(uint64_t duration) {
   uint8_t list[CP_MAX_GATES];
-  cp_answer gates = cp_gates(held.planner, duration, EVEN_QUEUE, ODD_QUEUE, list, sizeof list);
+  cp_answer gates = cp_gates(&held, duration, EVEN_QUEUE, ODD_QUEUE, list, sizeof list);
   if (gates.refusal != CP_OK) return refused("the gate list", gates.refusal);
   printf("gate list for %" PRIu64 " ns:\n", duration);
   for (uint64_t at = 0; at < gates.first; at += 8) { /* tag, length 5, states, interval */

@@ -1,11 +1,17 @@
-/* The cycle planner as a static library (libcapi.a), for C and C++ on x86-64, which is what the toolchain makes it for. Every function
- * answers any planner value, any number and any slice, an empty one too. A slice is a pointer and a length; a pointer that does not hold as many elements as its length says is
- * outside what is proved. An empty slice wants a pointer that is not null, aligned for its elements. A mutable slice overlaps nothing else.
+/* The cycle planner as a static library (libcapi.a), for C and C++ on x86-64, which is what the toolchain makes it for.
+ *
+ * The caller holds the planner and gives its address: a load writes it, a question reads it. Every call answers any planner value, any
+ * number and any slice. A slice is a pointer and a length in elements; with length 0 the pointer may be null. What is written overlaps
+ * nothing else that a call is given. A planner or a slice that is not there, or shorter than its length says, is outside what is proved.
+ *
  * The refusal number of document 01 is in `refusal`, CP_OK where there is a result; enum cp_refusal has them, and cp_refusal_text a
- * sentence for each.
- * Durations, intervals, guard band, jitter and synchronization error are in ns, rates in Mbit/s, lengths in bytes. Stack of a call, beside the planner and the answer that the
- * caller holds: a load 51 KB, cp_spans 21 KB, another question 11.4 KB. No heap. The library keeps nothing between calls and has no data
- * of its own: calls are re-entrant, and may be made from several tasks at once. */
+ * sentence for each. All numbers are unsigned but the spares of cp_slack and cp_reprice, which are negative where a port fails.
+ * Durations, intervals, guard band, jitter and synchronization error are in ns, rates in Mbit/s, lengths of frames and plans in bytes,
+ * demands in bits on the wire, spares in thousandths of a bit.
+ *
+ * Stack of a call, with what the functions of this header take: a question at most 1.5 KB, a load at most 1.5 planners. No heap. The library keeps
+ * nothing between calls and has no data of its own: calls are re-entrant, and may be made from several tasks at once, also about one
+ * planner as long as none of them loads it. */
 #ifndef CYCLE_PLANNER_H
 #define CYCLE_PLANNER_H
 #include <stddef.h>
@@ -13,9 +19,9 @@
 
 /* Of the library and this header. Where MAJOR differs, or MINOR while MAJOR is 0, a program has to be compiled again. */
 #define CP_VERSION_MAJOR 0
-#define CP_VERSION_MINOR 9
+#define CP_VERSION_MINOR 10
 #define CP_VERSION_PATCH 0
-#define CP_VERSION "0.9.0"
+#define CP_VERSION "0.10.0"
 
 /* What a caller lends, in elements: the scratch of a search, that of a lean one, the list of cp_reprice. For the length of a list of
  * spans call cp_spans with size 0 first: it answers how many there are. */
@@ -102,7 +108,7 @@ static inline const char *cp_refusal_text(uint32_t refusal) {
   }
 }
 
-/* A planner that a call gives back is the one to use next: where it is dropped, compilers that can warn. */
+/* Whether a load was refused, and the batch to use next, are in what the call gives back: where it is dropped, compilers that can warn. */
 #if defined(__GNUC__) || defined(__clang__)
 #define CP_MUST_USE __attribute__((warn_unused_result))
 #else
@@ -119,8 +125,9 @@ typedef struct { uint32_t drift, timing_jitter, sync_error; } cp_clock;
 /* Places in the table of routes from one flow's route to the next. */
 #define CP_ROUTE_STRIDE 24
 
-/* Plain data, 9,944 bytes. Keep it as the last call left it; do not look inside. form is that of the plan's bytes: 0 for the older form,
- * 1 for the newer one. Any other number, and 0 with a route of over sixteen ports, is what no call leaves: no plan is held. */
+/* Plain data, 9,944 bytes. Keep it as the last load left it; do not look inside. form is that of the plan's bytes: 0 for the older form,
+ * 1 for the newer one. Any other number, and 0 with a route of over sixteen ports, is what no call leaves: no plan is held. A planner
+ * whose bytes are all 0 holds no plan, so that a static one needs no cp_clear. */
 typedef struct {
   uint32_t form, guard, top;
   cp_clock clock;
@@ -134,67 +141,134 @@ typedef struct {
 } cp_planner;
 
 typedef struct { uint32_t refusal; uint64_t first, second; } cp_answer;
-typedef struct { cp_planner planner; cp_answer answer; } cp_load_outcome;
 typedef struct { uint32_t refusal; int64_t slack; } cp_slack_answer;
 typedef struct { uint32_t refusal; uint64_t first, second, steps; } cp_fixed_point_answer;
 typedef struct { uint32_t refusal, tag; uint64_t offset; uint64_t numbers[6]; } cp_field_read;
 
-/* The planner that holds no plan. */
-cp_planner cp_empty(void);
+/* A span: a run of admissible durations from 1 to top that can grow at neither end, given by its first and its last, in ns. */
+typedef struct { uint64_t first, last; } cp_span_record;
+
+/* What the library exports is lent the planner's columns one by one. Call the functions below instead: they take the columns off the
+ * planner's address, and put the address of a number in place of the pointer of an empty slice. */
+#define CP_LENT(CONST)                                                                                                            \
+  CONST uint32_t *form, CONST uint32_t *guard, CONST uint32_t *top, CONST uint32_t *drift, CONST uint32_t *timing_jitter,         \
+      CONST uint32_t *sync_error, CONST uint32_t *rates, CONST uint16_t *blockings, CONST uint8_t *extras,                        \
+      CONST uint32_t *periods, CONST uint16_t *counts, CONST uint16_t *lengths, CONST uint32_t *jitters, CONST uint8_t *hops,     \
+      CONST uint8_t *routes
+void cp_clear_columns(CP_LENT());
+cp_answer cp_load_columns(CP_LENT(), const uint8_t *plan, size_t length);
+cp_answer cp_load_strict_columns(CP_LENT(), const uint8_t *plan, size_t length);
+cp_answer cp_check_columns(CP_LENT(const), uint64_t duration);
+cp_slack_answer cp_slack_columns(CP_LENT(const), uint64_t port, uint64_t duration);
+cp_answer cp_least_columns(CP_LENT(const), uint64_t *scratch, size_t length);
+cp_answer cp_margin_safe_columns(CP_LENT(const), uint64_t *scratch, size_t length);
+cp_answer cp_lean_least_columns(CP_LENT(const), uint64_t *scratch, size_t length);
+cp_answer cp_lean_margin_safe_columns(CP_LENT(const), uint64_t *scratch, size_t length);
+cp_fixed_point_answer cp_fixed_point_columns(CP_LENT(const), uint64_t start, uint64_t steps);
+cp_answer cp_reprice_columns(CP_LENT(const), uint64_t duration, uint64_t flow, uint64_t length, int64_t *out, size_t size);
+cp_answer cp_span_columns(CP_LENT(const), uint64_t duration);
+cp_answer cp_spans_columns(CP_LENT(const), cp_span_record *list, size_t size);
+cp_answer cp_save_columns(CP_LENT(const), uint8_t *buffer, size_t length);
+cp_answer cp_gates_columns(CP_LENT(const), uint64_t duration, uint64_t even, uint64_t odd, uint8_t *buffer, size_t length);
+cp_answer cp_upgrade_bytes(const uint8_t *plan, size_t length, uint8_t *buffer, size_t room);
+cp_answer cp_downgrade_bytes(const uint8_t *plan, size_t length, uint8_t *buffer, size_t room);
+cp_field_read cp_field_bytes(const uint8_t *plan, size_t length, size_t offset);
+uint8_t cp_repeats_bytes(uint32_t tag, const uint8_t *value, size_t length);
+
+/* The columns in the order of CP_LENT. Nothing proves that this and the library name the same ones: tests/header/layout holds them
+ * against each other. */
+#define CP_COLUMNS(planner)                                                                                                       \
+  &(planner)->form, &(planner)->guard, &(planner)->top, &(planner)->clock.drift, &(planner)->clock.timing_jitter,                 \
+      &(planner)->clock.sync_error, (planner)->rates, (planner)->blockings, (planner)->extras, (planner)->periods,                \
+      (planner)->counts, (planner)->lengths, (planner)->jitters, (planner)->hops, (planner)->routes
+
+/* Sets the planner that holds no plan. */
+static inline void cp_clear(cp_planner *planner) { cp_clear_columns(CP_COLUMNS(planner)); }
 
 /* A plan whose first byte is 0x11 is of the newer form, with tags 0x11 to 0x13; any other is of the older one, with tags 1 to 6. The
- * other form's tags are unknown in it. Result: first = port fields, second = flow fields, planner = the one that holds this plan.
- * Refusal 1 to 9: first = offset (place), second = 0, planner = the one given. Fields of the older form may stand in any order; those of
- * the newer one stand in strict order, and refusal 12 is as below. */
-cp_load_outcome cp_load(cp_planner planner, const uint8_t *plan, size_t length) CP_MUST_USE;
+ * other form's tags are unknown in it. Result: first = port fields, second = flow fields; the planner holds this plan and no other.
+ * Refusal 1 to 9: first = offset (place), second = 0; every byte of the planner is as it was. Fields of the older form may stand in any
+ * order; those of the newer one stand in strict order, and refusal 12 is as below. */
+CP_MUST_USE static inline cp_answer cp_load(cp_planner *planner, const uint8_t *plan, size_t length) {
+  const uint8_t none = 0;
+  return cp_load_columns(CP_COLUMNS(planner), length == 0 ? &none : plan, length);
+}
 
 /* The same by the strict reading: the header first, then the ports, the flows and the later tags, by tag and then by number.
- * Refusal 12 too: a field should have stood earlier; it is tested between 6 and 7, first = that field's offset, second = 0,
- * planner = the one given, as for 1 to 9. */
-cp_load_outcome cp_load_strict(cp_planner planner, const uint8_t *plan, size_t length) CP_MUST_USE;
+ * Refusal 12 too: a field should have stood earlier; it is tested between 6 and 7, first = that field's offset, second = 0, the planner
+ * as it was, as for 1 to 9. */
+CP_MUST_USE static inline cp_answer cp_load_strict(cp_planner *planner, const uint8_t *plan, size_t length) {
+  const uint8_t none = 0;
+  return cp_load_strict_columns(CP_COLUMNS(planner), length == 0 ? &none : plan, length);
+}
 
 /* The plain question. Result: 0, 0. Refusal 20, 10: 0, 0. 21: first = lowest failing port, second = how many fail. */
-cp_answer cp_check(cp_planner planner, uint64_t duration);
+static inline cp_answer cp_check(const cp_planner *planner, uint64_t duration) {
+  return cp_check_columns(CP_COLUMNS(planner), duration);
+}
 
 /* A port's spare at a duration: how much more the port could send in its window, in thousandths of a bit (rate in Mbit/s times ns).
  * Negative exactly where the port fails; 0 is just enough. Refusal 20, 10, 24: slack = 0. */
-cp_slack_answer cp_slack(cp_planner planner, uint64_t port, uint64_t duration);
+static inline cp_slack_answer cp_slack(const cp_planner *planner, uint64_t port, uint64_t duration) {
+  return cp_slack_columns(CP_COLUMNS(planner), port, duration);
+}
 
 /* The least and the margin-safe duration. Result: first = duration in ns, second = 0; the scratch's first 64 numbers are each
- * port's demand there in bits on the wire, port n at n - 1, 0 for a port that no flow crosses. Refusal 20, 11: 0, 0, scratch untouched. 22 (least), 23 (margin-safe): first = lowest
- * failing port at top, second = how many fail; the first 64 numbers are the demand at top. Later numbers never change. */
-cp_answer cp_least(cp_planner planner, uint64_t *scratch, size_t length);
-cp_answer cp_margin_safe(cp_planner planner, uint64_t *scratch, size_t length);
+ * port's demand there in bits on the wire, port n at n - 1, 0 for a port that no flow crosses. Refusal 20, 11: 0, 0, scratch untouched.
+ * 22 (least), 23 (margin-safe): first = lowest failing port at top, second = how many fail; the first 64 numbers are the demand at top.
+ * Later numbers never change. */
+static inline cp_answer cp_least(const cp_planner *planner, uint64_t *scratch, size_t length) {
+  uint64_t none = 0;
+  return cp_least_columns(CP_COLUMNS(planner), length == 0 ? &none : scratch, length);
+}
+static inline cp_answer cp_margin_safe(const cp_planner *planner, uint64_t *scratch, size_t length) {
+  uint64_t none = 0;
+  return cp_margin_safe_columns(CP_COLUMNS(planner), length == 0 ? &none : scratch, length);
+}
 
 /* The same two searches over a scratch of one number or more: the same answers. The scratch's first number is the demand of the
  * highest-numbered crossed port, at the duration answered, or at top after 22 or 23; later numbers never change. Refusal 20, 11 (an
- * empty scratch): 0, 0, scratch untouched. They need no more stack than the two above. */
-cp_answer cp_lean_least(cp_planner planner, uint64_t *scratch, size_t length);
-cp_answer cp_lean_margin_safe(cp_planner planner, uint64_t *scratch, size_t length);
+ * empty scratch): 0, 0, scratch untouched. */
+static inline cp_answer cp_lean_least(const cp_planner *planner, uint64_t *scratch, size_t length) {
+  uint64_t none = 0;
+  return cp_lean_least_columns(CP_COLUMNS(planner), length == 0 ? &none : scratch, length);
+}
+static inline cp_answer cp_lean_margin_safe(const cp_planner *planner, uint64_t *scratch, size_t length) {
+  uint64_t none = 0;
+  return cp_lean_margin_safe_columns(CP_COLUMNS(planner), length == 0 ? &none : scratch, length);
+}
 
 /* The least admissible duration at or after a start, by at most so many steps of the fixed-point iteration. Result: first =
  * duration in ns, second = 0, steps = how many were used. Refusal 20, 10 (a start outside 1 to top): 0, 0, 0. 22, none up to top:
  * first = lowest failing port at top, second = how many fail, steps = how many were used. 26, the steps ended before: first = the
  * duration reached, second = 0, steps = those given; another call with that duration for its start goes on from there. */
-cp_fixed_point_answer cp_fixed_point(cp_planner planner, uint64_t start, uint64_t steps);
+static inline cp_fixed_point_answer cp_fixed_point(const cp_planner *planner, uint64_t start, uint64_t steps) {
+  return cp_fixed_point_columns(CP_COLUMNS(planner), start, steps);
+}
 
-/* What if a flow's frames had another length? The spares along its route at a duration go into the list, port n at n - 1. Result: 0, 0; the other numbers of the list remain, past the 64th too. Refusal 20, 10 (a duration outside 1
- * to top), 11 (a list under 64 numbers), 17 (a length outside 64 to 2,000), 29 (a flow that is not in the plan), in this order: 0, 0,
- * list untouched. The held plan remains. Where the list held the spare of each crossed port at that duration, it now holds those of
- * the plan with that length. */
-cp_answer cp_reprice(cp_planner planner, uint64_t duration, uint64_t flow, uint64_t length, int64_t *list, size_t size);
-
-/* A span: a run of admissible durations from 1 to top that can grow at neither end, given by its first and its last, in ns. */
-typedef struct { uint64_t first, last; } cp_span_record;
+/* What if a flow's frames had another length? The spares along its route at a duration go into a list, port n at n - 1, signed and in
+ * thousandths of a bit as from cp_slack. Result: 0, 0; the other numbers of the list remain, past the 64th too. Refusal 20, 10 (a
+ * duration outside 1 to top), 11 (a list under 64 numbers), 17 (a length outside 64 to 2,000), 29 (a flow that is not in the plan), in
+ * this order: 0, 0, list untouched. The held plan remains. Where the list held the spare of each crossed port at that duration, it now
+ * holds those of the plan with that length. */
+static inline cp_answer cp_reprice(const cp_planner *planner, uint64_t duration, uint64_t flow, uint64_t length, int64_t *out, size_t size) {
+  int64_t none = 0;
+  return cp_reprice_columns(CP_COLUMNS(planner), duration, flow, length, size == 0 ? &none : out, size);
+}
 
 /* The first span that ends at a duration or later; it may begin before that duration. Result: first and second = the span's first
  * and last duration. Refusal 20, 10 (a duration outside 1 to top), 25 (no span ends there or later): 0, 0. */
-cp_answer cp_span(cp_planner planner, uint64_t duration);
+static inline cp_answer cp_span(const cp_planner *planner, uint64_t duration) {
+  return cp_span_columns(CP_COLUMNS(planner), duration);
+}
 
 /* All spans, rising, into the first records of the list; those behind them remain. Result: first = how many there are, second = 0;
  * 0 where no duration is admissible, also with an empty list. Refusal 20: 0, 0. 13, the list is shorter: first = how many there
  * are, second = 0. Neither writes a record. */
-cp_answer cp_spans(cp_planner planner, cp_span_record *list, size_t size);
+static inline cp_answer cp_spans(const cp_planner *planner, cp_span_record *list, size_t size) {
+  cp_span_record none = {0, 0};
+  return cp_spans_columns(CP_COLUMNS(planner), size == 0 ? &none : list, size);
+}
 
 /* The held plan written into the buffer in the form in which it was read: its fields in strict order, in the older form without those
  * that say what their absence says (extra bytes or a jitter of 0, clocks that are all 0). Result: first = the length written, at most
@@ -202,7 +276,10 @@ cp_answer cp_spans(cp_planner planner, cp_span_record *list, size_t size);
  * shorter than the plan: first = the length needed, second = 0. Neither writes a byte. Either load accepts what was written and holds
  * the same plan. Tables of the newer form that no load left may say more than 16,384 bytes, up to 17,495: these are written too, and no
  * load accepts them. */
-cp_answer cp_save(cp_planner planner, uint8_t *buffer, size_t length);
+static inline cp_answer cp_save(const cp_planner *planner, uint8_t *buffer, size_t length) {
+  uint8_t none = 0;
+  return cp_save_columns(CP_COLUMNS(planner), length == 0 ? &none : buffer, length);
+}
 
 /* The converters. cp_upgrade reads a plan of the older form loosely and writes it in the newer one, at most 13,399 bytes; cp_downgrade
  * reads a plan of the newer form and writes it in the older one as cp_save does, at most 15,002 bytes. Each knows only the tags of the
@@ -210,8 +287,14 @@ cp_answer cp_save(cp_planner planner, uint8_t *buffer, size_t length);
  * to 9, and for cp_downgrade 12, as from a load; then, for cp_downgrade, 16 for the first flow of over sixteen ports: first = offset
  * (place), second = 0. Then 13, the buffer is shorter than what is written: first = the length needed, second = 0. A refusal writes no
  * byte. */
-cp_answer cp_upgrade(const uint8_t *plan, size_t length, uint8_t *buffer, size_t room);
-cp_answer cp_downgrade(const uint8_t *plan, size_t length, uint8_t *buffer, size_t room);
+static inline cp_answer cp_upgrade(const uint8_t *plan, size_t length, uint8_t *buffer, size_t room) {
+  uint8_t none = 0;
+  return cp_upgrade_bytes(length == 0 ? &none : plan, length, room == 0 ? &none : buffer, room);
+}
+static inline cp_answer cp_downgrade(const uint8_t *plan, size_t length, uint8_t *buffer, size_t room) {
+  uint8_t none = 0;
+  return cp_downgrade_bytes(length == 0 ? &none : plan, length, room == 0 ? &none : buffer, room);
+}
 
 /* The gate control list of an admissible duration for two cycles, written into the buffer as fields of tag 0x21, length 5: gate
  * states (1 byte; bit q, from the lowest as 0, is 1 where queue q is open) and interval (4 bytes, ns, high byte first). Each cycle
@@ -220,7 +303,10 @@ cp_answer cp_downgrade(const uint8_t *plan, size_t length, uint8_t *buffer, size
  * written, 48, or 16 without a guard band, second = 0; the bytes behind it remain. Refusal 20, 10, 21 as from cp_check; then 18, a
  * queue is above 7 or both are equal: 0, 0; then 13, the buffer is shorter than the list: first = the length needed, second = 0. A
  * refusal writes nothing. */
-cp_answer cp_gates(cp_planner planner, uint64_t duration, uint64_t even, uint64_t odd, uint8_t *buffer, size_t length);
+static inline cp_answer cp_gates(const cp_planner *planner, uint64_t duration, uint64_t even, uint64_t odd, uint8_t *buffer, size_t length) {
+  uint8_t none = 0;
+  return cp_gates_columns(CP_COLUMNS(planner), duration, even, odd, length == 0 ? &none : buffer, length);
+}
 
 /* A batch: eight plans whose least durations are searched in turn. For an office's computer and not for the cabinet: plain data of
  * 79,816 bytes that goes into each call by value and comes back as the call leaves it; keep it so, and do not look inside. A call of
@@ -244,7 +330,11 @@ cp_batch cp_batch_empty(void);
 
 /* Reads a plan loosely into a slot, 0 to 7. Result: first = port fields, second = flow fields; the slot has the plan. Refusal 15, no
  * such slot: 0, 0. 27, the slot has a plan, finished or not: 0, 0. Then as from cp_load. A refusal leaves the batch as it was. */
-cp_place_outcome cp_batch_place(cp_batch batch, uint64_t slot, const uint8_t *plan, size_t length) CP_MUST_USE;
+cp_place_outcome cp_batch_place_bytes(cp_batch batch, uint64_t slot, const uint8_t *plan, size_t length);
+CP_MUST_USE static inline cp_place_outcome cp_batch_place(cp_batch batch, uint64_t slot, const uint8_t *plan, size_t length) {
+  const uint8_t none = 0;
+  return cp_batch_place_bytes(batch, slot, length == 0 ? &none : plan, length);
+}
 
 /* A turn: sixteen steps of cp_fixed_point, from 1 ns on and then from where the plan's last turn stopped, for one unfinished plan, the
  * first from the slot after the last one served, going round, at first from slot 0. slot = the one served; 8 where no plan is
@@ -263,11 +353,17 @@ cp_collect_outcome cp_batch_collect(cp_batch batch, uint64_t slot) CP_MUST_USE;
  * timing jitter, synchronization error; and in the newer form 0x11, header: guard, top, drift, timing jitter, synchronization error;
  * 0x12, port: number, rate, blocker, extra bytes; 0x13, flow: number, period, count, length, jitter, hops; 0 in the others.
  * Refusal 2 to 5: offset = the one asked, tag and numbers 0. */
-cp_field_read cp_field(const uint8_t *plan, size_t length, size_t offset);
+static inline cp_field_read cp_field(const uint8_t *plan, size_t length, size_t offset) {
+  const uint8_t none = 0;
+  return cp_field_bytes(length == 0 ? &none : plan, length, offset);
+}
 
 /* Whether the value of a flow field of this tag names a port twice (test 7): 1 or 0. Tag 0x13 is the newer form's flow; any other number
  * counts as 3, the older one's. */
-uint8_t cp_repeats(uint32_t tag, const uint8_t *value, size_t length);
+static inline uint8_t cp_repeats(uint32_t tag, const uint8_t *value, size_t length) {
+  const uint8_t none = 0;
+  return cp_repeats_bytes(tag, length == 0 ? &none : value, length);
+}
 
 #ifdef __cplusplus
 }

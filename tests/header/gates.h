@@ -27,7 +27,7 @@ static void gated(const char *plan, cp_planner planner, const gates_row *table, 
     if (table->want.refusal == 0) listed(want, table->list);
     snprintf(call, sizeof call, "cp_gates of %s at %" PRIu64 ", queues %" PRIu64 " and %" PRIu64 ", %zu bytes lent", plan,
              table->duration, table->even, table->odd, table->length);
-    same_answer(call, cp_gates(planner, table->duration, table->even, table->odd, got, table->length), table->want);
+    same_answer(call, cp_gates(&planner, table->duration, table->even, table->odd, got, table->length), table->want);
     for (size_t at = 0; at < sizeof got; at++) same_slot(call, "buffer", at, got[at], want[at]);
   }
 }

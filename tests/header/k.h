@@ -2,6 +2,24 @@
 #include "same.h"
 #include <string.h>
 
+static void same_planner(const char *call, cp_planner got, cp_planner want) {
+  same(call, "form", got.form, want.form);
+  same(call, "guard", got.guard, want.guard);
+  same(call, "top", got.top, want.top);
+  same(call, "drift", got.clock.drift, want.clock.drift);
+  same(call, "timing_jitter", got.clock.timing_jitter, want.clock.timing_jitter);
+  same(call, "sync_error", got.clock.sync_error, want.clock.sync_error);
+  SAME_TABLE(call, rates, got, want);
+  SAME_TABLE(call, blockings, got, want);
+  SAME_TABLE(call, extras, got, want);
+  SAME_TABLE(call, periods, got, want);
+  SAME_TABLE(call, counts, got, want);
+  SAME_TABLE(call, lengths, got, want);
+  SAME_TABLE(call, jitters, got, want);
+  SAME_TABLE(call, hops, got, want);
+  SAME_TABLE(call, routes, got, want);
+}
+
 static const uint8_t K[52] = {
     0x01, 0x00, 0x08, 0x00, 0x00, 0x03, 0xE8, 0x00, 0x0F, 0x42, 0x40,
     0x02, 0x00, 0x08, 0x00, 0x01, 0x00, 0x00, 0x00, 0x64, 0x00, 0x00,
@@ -30,15 +48,24 @@ static cp_planner planner_of_k(void) {
   return k;
 }
 
-typedef cp_load_outcome (*load)(cp_planner planner, const uint8_t *plan, size_t length);
+/* The planner that holds no plan, set over bytes that were none of 0. */
+static cp_planner cleared(void) {
+  cp_planner planner;
+  memset(&planner, 0xA5, sizeof planner);
+  cp_clear(&planner);
+  return planner;
+}
 
-/* A load's answer and the planner that it gives back, in either reading. */
+typedef cp_answer (*load)(cp_planner *planner, const uint8_t *plan, size_t length);
+
+/* A load's answer and the planner that it leaves, in either reading; a refused one leaves every byte as it was. */
 static cp_planner loaded_by(load read, const char *call, cp_planner before, const uint8_t *plan, size_t length, cp_answer want,
                             cp_planner left) {
-  cp_load_outcome got = read(before, plan, length);
-  same_answer(call, got.answer, want);
-  same_planner(call, got.planner, left);
-  return got.planner;
+  cp_planner planner = before;
+  same_answer(call, read(&planner, plan, length), want);
+  same_planner(call, planner, left);
+  if (want.refusal != 0) same(call, "the planner changed", memcmp(&planner, &before, sizeof before) != 0, 0);
+  return planner;
 }
 
 static cp_planner loaded(const char *call, cp_planner before, const uint8_t *plan, size_t length, cp_answer want, cp_planner left) {
@@ -53,11 +80,11 @@ static void rows(const char *plan, cp_planner planner, const row *table, size_t 
     char call[64];
     uint64_t fails = table->refusal == 21;
     snprintf(call, sizeof call, "cp_check of %s at %" PRIu64, plan, table->duration);
-    same_answer(call, cp_check(planner, table->duration), answer(table->refusal, fails, fails));
+    same_answer(call, cp_check(&planner, table->duration), answer(table->refusal, fails, fails));
     snprintf(call, sizeof call, "cp_slack of %s, port 1 at %" PRIu64, plan, table->duration);
-    same_slack(call, cp_slack(planner, 1, table->duration), table->refusal == 10 ? 10 : 0, table->slack);
+    same_slack(call, cp_slack(&planner, 1, table->duration), table->refusal == 10 ? 10 : 0, table->slack);
   }
-  same_slack("cp_slack of a port not in K", cp_slack(planner, 2, 72000), 24, 0);
+  same_slack("cp_slack of a port not in K", cp_slack(&planner, 2, 72000), 24, 0);
 }
 
 /* The rows of K's table. */
@@ -70,14 +97,14 @@ static void rows_of_k(cp_planner k) {
   rows("K", k, table, sizeof table / sizeof table[0]);
 }
 
-typedef cp_answer (*search)(cp_planner planner, uint64_t *scratch, size_t length);
+typedef cp_answer (*search)(const cp_planner *planner, uint64_t *scratch, size_t length);
 
 /* A search on a scratch whose numbers were 1000 + position: the first 64 become port 1's demand and 0s, or nothing changes. */
 static void searched(const char *call, search ask, cp_planner planner, size_t length, cp_answer want, uint64_t demand) {
   uint64_t scratch[SCRATCH];
   int writes = want.refusal != 11 && want.refusal != 20;
   for (size_t slot = 0; slot < SCRATCH; slot++) scratch[slot] = 1000 + slot;
-  same_answer(call, ask(planner, scratch, length), want);
+  same_answer(call, ask(&planner, scratch, length), want);
   for (size_t slot = 0; slot < SCRATCH; slot++) {
     uint64_t expected = !writes || slot >= 64 ? 1000 + slot : slot == 0 ? demand : 0;
     same_slot(call, "scratch", slot, scratch[slot], expected);

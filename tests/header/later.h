@@ -24,10 +24,10 @@ static void extra_bytes(cp_planner k) {
   k = lengthened("cp_load of K with extra bytes cut short", k, 32, 6, answer(2, sizeof K, 0), left);
   lengthened("cp_load of K with 0 extra bytes", k, 0, 7, answer(0, 1, 2), planner_of_k());
   left.extras[1] = 1;
-  same_answer("cp_check, extra bytes at an absent port", cp_check(left, 77120), answer(20, 0, 0));
+  same_answer("cp_check, extra bytes at an absent port", cp_check(&left, 77120), answer(20, 0, 0));
   left = planner_of_k();
   left.extras[0] = 65;
-  same_answer("cp_check, 65 extra bytes", cp_check(left, 1000000), answer(20, 0, 0));
+  same_answer("cp_check, 65 extra bytes", cp_check(&left, 1000000), answer(20, 0, 0));
 }
 
 /* K and then so many bytes of a field for the jitter of a flow (tag 5). */
@@ -70,10 +70,10 @@ static void jitter(cp_planner k) {
   k = late("cp_load of K with jitter cut short", k, 2, 38000, 8, answer(2, sizeof K, 0), left);
   late("cp_load of K with jitter 0", k, 1, 0, 9, answer(0, 1, 2), planner_of_k());
   left.jitters[2] = 1;
-  same_answer("cp_check, jitter of an absent flow", cp_check(left, 72000), answer(20, 0, 0));
+  same_answer("cp_check, jitter of an absent flow", cp_check(&left, 72000), answer(20, 0, 0));
   left = planner_of_k();
   left.jitters[0] = 10000001;
-  same_answer("cp_check, jitter 10,000,001", cp_check(left, 1000000), answer(20, 0, 0));
+  same_answer("cp_check, jitter 10,000,001", cp_check(&left, 1000000), answer(20, 0, 0));
 }
 
 /* K with 32 extra bytes at port 1 and jitter 30,000 for flow 1 where these are wanted, and then so many bytes of a field for clocks
@@ -129,12 +129,12 @@ static void clocks(cp_planner k) {
   rows_of_k(k);
   left.clock.drift = left.clock.timing_jitter = 1000, left.clock.sync_error = 5;
   k = apart("cp_load of K with clocks 1,000, 1,000, 5", k, 0, small_error, 15, answer(0, 1, 2), left);
-  same_answer("cp_check of that at 109,990", cp_check(k, 109990), answer(0, 0, 0));
-  same_answer("cp_check of that at 109,991", cp_check(k, 109991), answer(21, 1, 1));
+  same_answer("cp_check of that at 109,990", cp_check(&k, 109990), answer(0, 0, 0));
+  same_answer("cp_check of that at 109,991", cp_check(&k, 109991), answer(21, 1, 1));
   left.clock.sync_error = 0;
   k = apart("cp_load of K with clocks 1,000, 1,000, 0", k, 0, no_error, 15, answer(0, 1, 2), left);
   rows_of_k(k);
   apart("cp_load of K with clocks of 0", k, 0, none, 15, answer(0, 1, 2), planner_of_k());
   left.clock.drift = 1001;
-  same_answer("cp_check, drift 1,001", cp_check(left, 1000000), answer(20, 0, 0));
+  same_answer("cp_check, drift 1,001", cp_check(&left, 1000000), answer(20, 0, 0));
 }

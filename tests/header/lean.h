@@ -4,7 +4,7 @@ static void lean(const char *call, search ask, cp_planner planner, size_t length
   uint64_t scratch[SCRATCH];
   int writes = want.refusal != 11 && want.refusal != 20;
   for (size_t slot = 0; slot < SCRATCH; slot++) scratch[slot] = 1000 + slot;
-  same_answer(call, ask(planner, scratch, length), want);
+  same_answer(call, ask(&planner, scratch, length), want);
   for (size_t slot = 0; slot < SCRATCH; slot++)
     same_slot(call, "scratch", slot, scratch[slot], writes && slot == 0 ? demand : 1000 + slot);
 }

@@ -52,7 +52,7 @@ static size_t seventeen_ports(uint8_t *plan) {
 
 static void converters(void) {
   static const size_t exchanged[] = {PORT_AT, FLOW_2_AT, 0, FLOW_1_AT};
-  cp_load_outcome held;
+  cp_planner held = cleared();
   uint8_t plan[320];
   size_t length = fields_of_k(plan, exchanged, 4);
   converted_to("cp_upgrade of K", cp_upgrade, K, sizeof K, K_NEWER, sizeof K_NEWER);
@@ -66,14 +66,13 @@ static void converters(void) {
   memcpy(plan + 13, K_NEWER, NEWER_PORT_AT);
   memcpy(plan + NEWER_FLOW_1_AT, K_NEWER + NEWER_FLOW_1_AT, sizeof K_NEWER - NEWER_FLOW_1_AT);
   not_converted("cp_downgrade of K, its port first", cp_downgrade, plan, sizeof K_NEWER, answer(12, 13, 0));
-  same_answer("cp_load of K in the newer form, its port first", cp_load(cp_empty(), plan, sizeof K_NEWER).answer, answer(3, 0, 0));
+  loaded("cp_load of K in the newer form, its port first", cleared(), plan, sizeof K_NEWER, answer(3, 0, 0), cleared());
   length = seventeen_ports(plan);
   not_converted("cp_downgrade of seventeen ports", cp_downgrade, plan, length, answer(16, 23 + 17 * 13, 0));
-  held = cp_load(cp_empty(), plan, length);
-  same_answer("cp_load of seventeen ports", held.answer, answer(0, 17, 1));
-  same_answer("cp_check of seventeen ports", cp_check(held.planner, 22000), answer(0, 0, 0));
-  held.planner.form = 0;
-  same_answer("cp_check of seventeen ports, form 0", cp_check(held.planner, 22000), answer(20, 0, 0));
+  same_answer("cp_load of seventeen ports", cp_load(&held, plan, length), answer(0, 17, 1));
+  same_answer("cp_check of seventeen ports", cp_check(&held, 22000), answer(0, 0, 0));
+  held.form = 0;
+  same_answer("cp_check of seventeen ports, form 0", cp_check(&held, 22000), answer(20, 0, 0));
 }
 
 /* A jitter of 0x00070007, then ports 1 and 2, then 1 again: by the newer flow's tag and by numbers that count as the older one's. */
@@ -93,7 +92,7 @@ static void newer(cp_planner k) {
   cp_planner left = planner_of_k(), held;
   left.form = 1;
   held = loaded("cp_load of K in the newer form", k, K_NEWER, sizeof K_NEWER, answer(0, 1, 2), left);
-  loaded_by(cp_load_strict, "cp_load_strict of K in the newer form", cp_empty(), K_NEWER, sizeof K_NEWER, answer(0, 1, 2), left);
+  loaded_by(cp_load_strict, "cp_load_strict of K in the newer form", cleared(), K_NEWER, sizeof K_NEWER, answer(0, 1, 2), left);
   loaded("cp_load of 73 bytes of K in the newer form", k, K_NEWER, sizeof K_NEWER - 1, answer(2, NEWER_FLOW_2_AT, 0), k);
   rows_of_k(held);
   saved_as("K in the newer form", held, K_NEWER, sizeof K_NEWER, left);
@@ -103,7 +102,7 @@ static void newer(cp_planner k) {
   saved_as("K in the newer form, form 0", held, K, sizeof K, planner_of_k());
   held.form = 2;
   saved("K, form 2", held, BUFFER, answer(20, 0, 0), K);
-  same_answer("cp_check of K, form 2", cp_check(held, 0), answer(20, 0, 0));
+  same_answer("cp_check of K, form 2", cp_check(&held, 0), answer(20, 0, 0));
   field_of("cp_field of the header", K_NEWER, sizeof K_NEWER, 0,
            (cp_field_read){.tag = 0x11, .offset = NEWER_PORT_AT, .numbers = {1000, 1000000}});
   field_of("cp_field of the port", K_NEWER, sizeof K_NEWER, NEWER_PORT_AT,

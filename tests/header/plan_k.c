@@ -11,13 +11,13 @@
 #include "batch.h"
 #include "spans.h"
 #include "newer.h"
+#include "null.h"
 
 _Static_assert(sizeof(cp_planner) == 9944, "a planner has 9,944 bytes");
 _Static_assert(offsetof(cp_planner, clock) == 12, "clocks come after top");
 _Static_assert(offsetof(cp_planner, extras) == 408, "extra bytes come after the blockers");
 _Static_assert(offsetof(cp_planner, jitters) == 2520, "jitters come after the frame lengths");
 _Static_assert(sizeof(cp_span_record) == 16, "a span is two numbers");
-_Static_assert(offsetof(cp_load_outcome, answer) == 9944, "a load's answer comes after the planner, at a multiple of 8 bytes");
 
 _Static_assert(sizeof(cp_batch) == 79816, "a batch has 79,816 bytes");
 _Static_assert(offsetof(cp_slot, planner) == 28, "a slot's tables come after its numbers");
@@ -68,7 +68,7 @@ static void uncrossed_port(cp_planner k) {
   left.blockings[1] = 2000;
   k = loaded("cp_load of K with port 2", k, plan, sizeof plan, answer(0, 2, 2), left);
   searched("cp_least of K with port 2", cp_least, k, SCRATCH, answer(0, 72000, 0), 7000);
-  same_slack("cp_slack of port 2, not crossed", cp_slack(k, 2, 72000), 24, 0);
+  same_slack("cp_slack of port 2, not crossed", cp_slack(&k, 2, 72000), 24, 0);
 }
 
 static void field(const char *call, size_t length, size_t offset, cp_field_read want) {
@@ -103,18 +103,18 @@ int main(void) {
   static const uint8_t lone_tag[] = {0x04, 0x00, 0x01}, unknown_tag[] = {0x07, 0x00, 0x01, 0x00};
   cp_planner none, k;
   memset(&none, 0, sizeof none);
-  same_planner("cp_empty", cp_empty(), none);
-  same_answer("cp_check without a plan", cp_check(cp_empty(), 72000), answer(20, 0, 0));
-  same_slack("cp_slack without a plan", cp_slack(cp_empty(), 1, 72000), 20, 0);
-  loaded("cp_load of 04 0001", cp_empty(), lone_tag, sizeof lone_tag, answer(2, 0, 0), none);
-  loaded("cp_load of 07 0001", cp_empty(), unknown_tag, 3, answer(2, 0, 0), none);
-  loaded("cp_load of 07 0001 00", cp_empty(), unknown_tag, 4, answer(3, 0, 0), none);
-  k = loaded("cp_load of K", cp_empty(), K, sizeof K, answer(0, 1, 2), planner_of_k());
+  same_planner("cp_clear", cleared(), none);
+  same_answer("cp_check without a plan", cp_check(&none, 72000), answer(20, 0, 0));
+  same_slack("cp_slack without a plan", cp_slack(&none, 1, 72000), 20, 0);
+  loaded("cp_load of 04 0001", cleared(), lone_tag, sizeof lone_tag, answer(2, 0, 0), none);
+  loaded("cp_load of 07 0001", cleared(), unknown_tag, 3, answer(2, 0, 0), none);
+  loaded("cp_load of 07 0001 00", cleared(), unknown_tag, 4, answer(3, 0, 0), none);
+  k = loaded("cp_load of K", cleared(), K, sizeof K, answer(0, 1, 2), planner_of_k());
   k = loaded("cp_load of 51 bytes of K", k, K, sizeof K - 1, answer(2, FLOW_2_AT, 0), planner_of_k());
   rows_of_k(k);
-  searches(cp_empty(), k);
-  lean_searches(cp_empty(), k);
-  fixed_points(cp_empty(), k);
+  searches(cleared(), k);
+  lean_searches(cleared(), k);
+  fixed_points(cleared(), k);
   neighbours(k);
   uncrossed_port(k);
   extra_bytes(k);
@@ -122,12 +122,13 @@ int main(void) {
   clocks(k);
   strict(k);
   saving(k);
-  gate_lists(cp_empty(), k);
-  repricing(cp_empty(), k);
+  gate_lists(cleared(), k);
+  repricing(cleared(), k);
   batches();
-  spans(cp_empty(), k);
+  spans(cleared(), k);
   fields();
   newer(k);
+  nulls(none, k);
   printf("header: %u passed, %u failed\n", passed, failed);
   return failed != 0;
 }

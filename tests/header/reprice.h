@@ -8,7 +8,7 @@ static void repriced(const char *call, cp_planner planner, uint64_t duration, ui
   int64_t list[LIST];
   cp_planner before = planner;
   for (size_t at = 0; at < LIST; at++) list[at] = -1000 - (int64_t)at;
-  same_answer(call, cp_reprice(planner, duration, flow, length, list, size), answer(refusal, 0, 0));
+  same_answer(call, cp_reprice(&planner, duration, flow, length, list, size), answer(refusal, 0, 0));
   for (size_t at = 0; at < LIST; at++)
     same_slot(call, "list", at, (uint64_t)list[at], (uint64_t)(refusal == 0 ? want[at] : -1000 - (int64_t)at));
   same_planner(call, planner, before);
@@ -67,7 +67,7 @@ static void long_routes(void) {
   cp_planner p = planner_of_long_routes();
   int64_t want[LIST];
   for (size_t port = 49; port <= 64; port++)
-    same_slack("cp_slack of the longest route", cp_slack(p, port, 100000), 0, long_route_spare(port, 100, 200));
+    same_slack("cp_slack of the longest route", cp_slack(&p, port, 100000), 0, long_route_spare(port, 100, 200));
   for (size_t at = 0; at < LIST; at++)
     want[at] = at >= 48 && at < 64 ? long_route_spare(at + 1, 100, 2000) : -1000 - (int64_t)at;
   repriced("cp_reprice of the longest route", p, 100000, 256, 2000, LIST, 0, want);

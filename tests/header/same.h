@@ -25,24 +25,6 @@ static void same_slot(const char *call, const char *table, size_t slot, uint64_t
   for (size_t slot = 0; slot < sizeof(got).table / sizeof(got).table[0]; slot++) \
     same_slot(call, #table, slot, (got).table[slot], (want).table[slot])
 
-static void same_planner(const char *call, cp_planner got, cp_planner want) {
-  same(call, "form", got.form, want.form);
-  same(call, "guard", got.guard, want.guard);
-  same(call, "top", got.top, want.top);
-  same(call, "drift", got.clock.drift, want.clock.drift);
-  same(call, "timing_jitter", got.clock.timing_jitter, want.clock.timing_jitter);
-  same(call, "sync_error", got.clock.sync_error, want.clock.sync_error);
-  SAME_TABLE(call, rates, got, want);
-  SAME_TABLE(call, blockings, got, want);
-  SAME_TABLE(call, extras, got, want);
-  SAME_TABLE(call, periods, got, want);
-  SAME_TABLE(call, counts, got, want);
-  SAME_TABLE(call, lengths, got, want);
-  SAME_TABLE(call, jitters, got, want);
-  SAME_TABLE(call, hops, got, want);
-  SAME_TABLE(call, routes, got, want);
-}
-
 static cp_answer answer(uint32_t refusal, uint64_t first, uint64_t second) {
   return (cp_answer){.refusal = refusal, .first = first, .second = second};
 }

@@ -9,7 +9,7 @@ static void saved(const char *plan, cp_planner planner, size_t length, cp_answer
   size_t written = want.refusal == 0 ? (size_t)want.first : 0;
   for (size_t at = 0; at < BUFFER; at++) buffer[at] = (uint8_t)(128 + at);
   snprintf(call, sizeof call, "cp_save of %s, %zu bytes lent", plan, length);
-  same_answer(call, cp_save(planner, buffer, length), want);
+  same_answer(call, cp_save(&planner, buffer, length), want);
   for (size_t at = 0; at < BUFFER; at++) same_slot(call, "buffer", at, buffer[at], at < written ? bytes[at] : 128 + at);
 }
 
@@ -20,15 +20,15 @@ static void saved_as(const char *plan, cp_planner planner, const uint8_t *bytes,
     saved(plan, planner, length, answer(length < needed ? 13 : 0, needed, 0), bytes);
   saved(plan, planner, 0, answer(13, needed, 0), bytes);
   saved(plan, planner, BUFFER, answer(0, needed, 0), bytes);
-  if (cp_save(planner, buffer, BUFFER).refusal != 0) return;
-  loaded_by(cp_load_strict, "cp_load_strict of what is saved", cp_empty(), buffer, needed, answer(0, 1, 2), left);
+  if (cp_save(&planner, buffer, BUFFER).refusal != 0) return;
+  loaded_by(cp_load_strict, "cp_load_strict of what is saved", cleared(), buffer, needed, answer(0, 1, 2), left);
 }
 
 /* What the plan in given bytes is saved as. */
 static void saves(const char *plan, const uint8_t *given, size_t length, const uint8_t *bytes, size_t needed) {
-  cp_load_outcome held = cp_load(cp_empty(), given, length);
-  same_answer(plan, held.answer, answer(0, 1, 2));
-  saved_as(plan, held.planner, bytes, needed, held.planner);
+  cp_planner held = cleared();
+  same_answer(plan, cp_load(&held, given, length), answer(0, 1, 2));
+  saved_as(plan, held, bytes, needed, held);
 }
 
 static void saving(cp_planner k) {
@@ -54,7 +54,7 @@ static void saving(cp_planner k) {
   memcpy(plan, zeros, sizeof zeros);
   memcpy(plan + sizeof zeros, K, sizeof K);
   saves("K with fields of 0", plan, sizeof zeros + sizeof K, K, sizeof K);
-  for (size_t length = 0; length <= BUFFER; length += 15) saved("no plan", cp_empty(), length, answer(20, 0, 0), K);
+  for (size_t length = 0; length <= BUFFER; length += 15) saved("no plan", cleared(), length, answer(20, 0, 0), K);
   for (size_t at = 0; at < sizeof k.routes; at++)
     if (at != 0 && at != CP_ROUTE_STRIDE) k.routes[at] = (uint8_t)(at * 7);
   saved_as("K, other ports behind its routes", k, K, sizeof K, planner_of_k());

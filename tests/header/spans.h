@@ -9,7 +9,7 @@ static void spanned(const char *plan, cp_planner planner, const span_row *table,
   for (; count > 0; table++, count--) {
     char call[96];
     snprintf(call, sizeof call, "cp_span of %s at %" PRIu64, plan, table->duration);
-    same_answer(call, cp_span(planner, table->duration), table->want);
+    same_answer(call, cp_span(&planner, table->duration), table->want);
   }
 }
 
@@ -19,7 +19,7 @@ static void listed_spans(const char *plan, cp_planner planner, size_t size, cp_a
   char call[96];
   snprintf(call, sizeof call, "cp_spans of %s, %zu records lent", plan, size);
   for (size_t at = 0; at < RECORDS; at++) list[at] = (cp_span_record){.first = 3000 + at, .last = 4000 + at};
-  same_answer(call, cp_spans(planner, list, size), want);
+  same_answer(call, cp_spans(&planner, list, size), want);
   for (size_t at = 0; at < RECORDS; at++) {
     int written = want.refusal == 0 && at < want.first;
     same_slot(call, "first of list", at, list[at].first, written ? spans[at].first : 3000 + at);

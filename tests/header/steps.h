@@ -6,7 +6,7 @@ static void iterated(const char *plan, cp_planner planner, const steps_row *tabl
   for (; count > 0; table++, count--) {
     char call[96];
     snprintf(call, sizeof call, "cp_fixed_point of %s from %" PRIu64 ", %" PRIu64 " steps", plan, table->start, table->steps);
-    same_steps(call, cp_fixed_point(planner, table->start, table->steps), table->want, table->used);
+    same_steps(call, cp_fixed_point(&planner, table->start, table->steps), table->want, table->used);
   }
 }
 

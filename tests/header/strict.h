@@ -17,14 +17,14 @@ static void strict(cp_planner k) {
   size_t length;
   cp_planner left = planner_of_k();
   left.top = 71999;
-  loaded_by(cp_load_strict, "cp_load_strict of K", cp_empty(), K, sizeof K, answer(0, 1, 2), planner_of_k());
+  loaded_by(cp_load_strict, "cp_load_strict of K", cleared(), K, sizeof K, answer(0, 1, 2), planner_of_k());
   loaded_by(cp_load_strict, "cp_load_strict of K over another plan", left, K, sizeof K, answer(0, 1, 2), planner_of_k());
   loaded_by(cp_load_strict, "cp_load_strict of 51 bytes of K", left, K, sizeof K - 1, answer(2, FLOW_2_AT, 0), left);
   loaded_by(cp_load_strict, "cp_load_strict of nothing", left, K, 0, answer(1, 0, 0), left);
   length = fields_of_k(plan, exchanged, 4);
   left = loaded_by(cp_load_strict, "cp_load_strict of K, flows exchanged", left, plan, length, answer(12, 37, 0), left);
   searched("cp_least after 12", cp_least, left, SCRATCH, answer(22, 1, 1), 7000);
-  loaded_by(cp_load_strict, "cp_load_strict of that without a plan", cp_empty(), plan, length, answer(12, 37, 0), cp_empty());
+  loaded_by(cp_load_strict, "cp_load_strict of that without a plan", cleared(), plan, length, answer(12, 37, 0), cleared());
   rows_of_k(loaded("cp_load of K, flows exchanged", k, plan, length, answer(0, 1, 2), planner_of_k()));
   length = fields_of_k(plan, header_last, 4);
   loaded_by(cp_load_strict, "cp_load_strict of K, header last", left, plan, length, answer(12, 41, 0), left);

@@ -17,24 +17,22 @@ static const uint8_t k[] = {1, 0, 8, 0, 0, 3, 0xe8, 0, 0x0f, 0x42, 0x40, 2, 0, 8
 static uint8_t zeros[CP_MAX_PLAN + 1], buffer[CP_MAX_PLAN];
 static uint64_t scratch[CP_SCRATCH];
 static int64_t spares[CP_SPARES];
-static cp_load_outcome held;
+static cp_planner held;
 
 static void lengths(void) {
-  cp_load_outcome longest = cp_load(cp_empty(), zeros, CP_MAX_PLAN);
-  holds("a plan of CP_MAX_PLAN bytes is read", longest.answer.refusal == CP_UNKNOWN_TAG);
-  longest = cp_load(cp_empty(), zeros, CP_MAX_PLAN + 1);
-  holds("one byte more is not", longest.answer.refusal == CP_PLAN_SIZE);
-  holds("CP_SCRATCH", cp_least(held.planner, scratch, CP_SCRATCH).refusal == CP_OK);
-  holds("one number less", cp_least(held.planner, scratch, CP_SCRATCH - 1).refusal == CP_SHORT_SCRATCH);
-  holds("CP_LEAN_SCRATCH", cp_lean_least(held.planner, scratch, CP_LEAN_SCRATCH).refusal == CP_OK);
-  holds("no number", cp_lean_least(held.planner, scratch, CP_LEAN_SCRATCH - 1).refusal == CP_SHORT_SCRATCH);
-  holds("CP_SPARES", cp_reprice(held.planner, 100000, 1, 64, spares, CP_SPARES).refusal == CP_OK);
-  holds("one spare less", cp_reprice(held.planner, 100000, 1, 64, spares, CP_SPARES - 1).refusal == CP_SHORT_SCRATCH);
-  holds("CP_MAX_GATES", cp_gates(held.planner, 100000, 0, 1, buffer, CP_MAX_GATES).first == CP_MAX_GATES);
-  holds("one byte less", cp_gates(held.planner, 100000, 0, 1, buffer, CP_MAX_GATES - 1).refusal == CP_SHORT_BUFFER);
-  holds("no list of spans", cp_spans(held.planner, (cp_span_record *)(void *)scratch, 0).first == 2);
-  holds("CP_PORTS", cp_slack(held.planner, CP_PORTS + 1, 1).refusal == CP_NOT_CROSSED && sizeof held.planner.rates == 4 * CP_PORTS);
-  holds("CP_FLOWS", sizeof held.planner.hops == CP_FLOWS);
+  holds("a plan of CP_MAX_PLAN bytes is read", cp_load(&held, zeros, CP_MAX_PLAN).refusal == CP_UNKNOWN_TAG);
+  holds("one byte more is not", cp_load(&held, zeros, CP_MAX_PLAN + 1).refusal == CP_PLAN_SIZE);
+  holds("CP_SCRATCH", cp_least(&held, scratch, CP_SCRATCH).refusal == CP_OK);
+  holds("one number less", cp_least(&held, scratch, CP_SCRATCH - 1).refusal == CP_SHORT_SCRATCH);
+  holds("CP_LEAN_SCRATCH", cp_lean_least(&held, scratch, CP_LEAN_SCRATCH).refusal == CP_OK);
+  holds("no number", cp_lean_least(&held, scratch, CP_LEAN_SCRATCH - 1).refusal == CP_SHORT_SCRATCH);
+  holds("CP_SPARES", cp_reprice(&held, 100000, 1, 64, spares, CP_SPARES).refusal == CP_OK);
+  holds("one spare less", cp_reprice(&held, 100000, 1, 64, spares, CP_SPARES - 1).refusal == CP_SHORT_SCRATCH);
+  holds("CP_MAX_GATES", cp_gates(&held, 100000, 0, 1, buffer, CP_MAX_GATES).first == CP_MAX_GATES);
+  holds("one byte less", cp_gates(&held, 100000, 0, 1, buffer, CP_MAX_GATES - 1).refusal == CP_SHORT_BUFFER);
+  holds("no list of spans", cp_spans(&held, NULL, 0).first == 2);
+  holds("CP_PORTS", cp_slack(&held, CP_PORTS + 1, 1).refusal == CP_NOT_CROSSED && sizeof held.rates == 4 * CP_PORTS);
+  holds("CP_FLOWS", sizeof held.hops == CP_FLOWS);
 }
 
 /* Each refusal has a sentence of its own, and no other number has one. */
@@ -51,8 +49,8 @@ static void texts(void) {
 }
 
 int main(void) {
-  held = cp_load(cp_empty(), k, sizeof k);
-  holds("K", held.answer.refusal == CP_OK);
+  cp_clear(&held);
+  holds("K", cp_load(&held, k, sizeof k).refusal == CP_OK);
   lengths();
   texts();
   return failed;

@@ -7,10 +7,11 @@ int main(void)
 {
     static uint8_t plan[16385];
     size_t length = fread(plan, 1, sizeof plan, stdin);
-    cp_load_outcome outcome = cp_load_strict(cp_empty(), plan, length);
-    if (outcome.answer.refusal == 0)
-        printf("ports %" PRIu64 " flows %" PRIu64 "\n", outcome.answer.first, outcome.answer.second);
+    static cp_planner planner;
+    cp_answer answer = cp_load_strict(&planner, plan, length);
+    if (answer.refusal == 0)
+        printf("ports %" PRIu64 " flows %" PRIu64 "\n", answer.first, answer.second);
     else
-        printf("refused %" PRIu32 " place %" PRIu64 "\n", outcome.answer.refusal, outcome.answer.first);
+        printf("refused %" PRIu32 " place %" PRIu64 "\n", answer.refusal, answer.first);
     return 0;
 }

@@ -1,11 +1,56 @@
-//! The C interface of the planner. A Rust slice is never null, an empty one neither.
+//! The C interface of the planner. Most exports are lent its columns one by one: `raw` takes them off a planner, as the C header does.
+//! A Rust slice is never null, an empty one neither.
 
-use crate::answers::{Answer, Batch, FieldRead, Planner, SlackAnswer, SpanRecord, StepsAnswer};
+use crate::answers::{Answer, Batch, FieldRead, Planner, SlackAnswer, SpanRecord, StepsAnswer, PLANNER_BYTES};
 
-#[repr(C)]
-struct LoadOutcome {
-    planner: Planner,
-    answer: Answer,
+mod raw {
+    use crate::answers::{Answer, Planner, SlackAnswer, SpanRecord, StepsAnswer, STRIDE};
+    use std::ptr::{addr_of, addr_of_mut};
+
+    /// For each export a function on the planner: the export is declared, and called with the planner's columns.
+    macro_rules! lent {
+        ($planner:ty, $kind:tt, $address:ident: $($export:ident as $name:ident($($given:ident: $type:ty),*) -> $answer:ty;)*) => { $(
+            pub unsafe fn $name(planner: $planner, $($given: $type),*) -> $answer {
+                extern "C" {
+                    fn $export(
+                        form: *$kind u32, guard: *$kind u32, top: *$kind u32,
+                        drift: *$kind u32, timing_jitter: *$kind u32, sync_error: *$kind u32,
+                        rates: *$kind [u32; 64], blockings: *$kind [u16; 64], extras: *$kind [u8; 64],
+                        periods: *$kind [u32; 256], counts: *$kind [u16; 256], lengths: *$kind [u16; 256], jitters: *$kind [u32; 256],
+                        hops: *$kind [u8; 256], routes: *$kind [u8; 256 * STRIDE], $($given: $type),*
+                    ) -> $answer;
+                }
+                $export(
+                    $address!(planner.form), $address!(planner.guard), $address!(planner.top),
+                    $address!(planner.drift), $address!(planner.timing_jitter), $address!(planner.sync_error),
+                    $address!(planner.rates), $address!(planner.blockings), $address!(planner.extras),
+                    $address!(planner.periods), $address!(planner.counts), $address!(planner.lengths), $address!(planner.jitters),
+                    $address!(planner.hops), $address!(planner.routes), $($given),*
+                )
+            }
+        )* };
+    }
+
+    lent! { &mut Planner, mut, addr_of_mut:
+        cp_clear_columns as clear() -> ();
+        cp_load_columns as load(plan: *const u8, length: usize) -> Answer;
+        cp_load_strict_columns as load_strict(plan: *const u8, length: usize) -> Answer;
+    }
+
+    lent! { &Planner, const, addr_of:
+        cp_check_columns as check(duration: u64) -> Answer;
+        cp_slack_columns as slack(port: u64, duration: u64) -> SlackAnswer;
+        cp_least_columns as least(scratch: *mut u64, length: usize) -> Answer;
+        cp_margin_safe_columns as margin_safe(scratch: *mut u64, length: usize) -> Answer;
+        cp_lean_least_columns as lean_least(scratch: *mut u64, length: usize) -> Answer;
+        cp_lean_margin_safe_columns as lean_margin_safe(scratch: *mut u64, length: usize) -> Answer;
+        cp_fixed_point_columns as fixed_point(start: u64, steps: u64) -> StepsAnswer;
+        cp_reprice_columns as reprice(duration: u64, flow: u64, length: u64, out: *mut i64, size: usize) -> Answer;
+        cp_span_columns as span(duration: u64) -> Answer;
+        cp_spans_columns as spans(list: *mut SpanRecord, size: usize) -> Answer;
+        cp_save_columns as save(buffer: *mut u8, length: usize) -> Answer;
+        cp_gates_columns as gates(duration: u64, even: u64, odd: u64, buffer: *mut u8, length: usize) -> Answer;
+    }
 }
 
 #[repr(C)]
@@ -27,91 +72,86 @@ struct CollectOutcome {
 }
 
 extern "C" {
-    fn cp_empty() -> Planner;
-    fn cp_load(planner: Planner, plan: *const u8, length: usize) -> LoadOutcome;
-    fn cp_load_strict(planner: Planner, plan: *const u8, length: usize) -> LoadOutcome;
-    fn cp_check(planner: Planner, duration: u64) -> Answer;
-    fn cp_slack(planner: Planner, port: u64, duration: u64) -> SlackAnswer;
-    fn cp_least(planner: Planner, scratch: *mut u64, length: usize) -> Answer;
-    fn cp_margin_safe(planner: Planner, scratch: *mut u64, length: usize) -> Answer;
-    fn cp_lean_least(planner: Planner, scratch: *mut u64, length: usize) -> Answer;
-    fn cp_lean_margin_safe(planner: Planner, scratch: *mut u64, length: usize) -> Answer;
-    fn cp_fixed_point(planner: Planner, start: u64, steps: u64) -> StepsAnswer;
-    fn cp_reprice(planner: Planner, duration: u64, flow: u64, length: u64, list: *mut i64, size: usize) -> Answer;
-    fn cp_span(planner: Planner, duration: u64) -> Answer;
-    fn cp_spans(planner: Planner, list: *mut SpanRecord, size: usize) -> Answer;
-    fn cp_save(planner: Planner, buffer: *mut u8, length: usize) -> Answer;
-    fn cp_gates(planner: Planner, duration: u64, even: u64, odd: u64, buffer: *mut u8, length: usize) -> Answer;
     fn cp_batch_empty() -> Batch;
-    fn cp_batch_place(batch: Batch, slot: u64, plan: *const u8, length: usize) -> PlaceOutcome;
+    fn cp_batch_place_bytes(batch: Batch, slot: u64, plan: *const u8, length: usize) -> PlaceOutcome;
     fn cp_batch_serve(batch: Batch) -> ServeOutcome;
     fn cp_batch_collect(batch: Batch, slot: u64) -> CollectOutcome;
-    fn cp_field(plan: *const u8, length: usize, offset: usize) -> FieldRead;
-    fn cp_repeats(tag: u32, value: *const u8, length: usize) -> u8;
-    fn cp_upgrade(plan: *const u8, length: usize, buffer: *mut u8, room: usize) -> Answer;
-    fn cp_downgrade(plan: *const u8, length: usize, buffer: *mut u8, room: usize) -> Answer;
+    fn cp_field_bytes(plan: *const u8, length: usize, offset: usize) -> FieldRead;
+    fn cp_repeats_bytes(tag: u32, value: *const u8, length: usize) -> u8;
+    fn cp_upgrade_bytes(plan: *const u8, length: usize, buffer: *mut u8, room: usize) -> Answer;
+    fn cp_downgrade_bytes(plan: *const u8, length: usize, buffer: *mut u8, room: usize) -> Answer;
 }
 
+/// The planner that holds no plan, set over bytes that were none of 0.
 pub fn empty() -> Planner {
-    unsafe { cp_empty() }
+    let mut planner = Planner::from_bytes([0xA5; PLANNER_BYTES]);
+    unsafe { raw::clear(&mut planner) };
+    planner
 }
 
+pub fn load_into(planner: &mut Planner, plan: &[u8]) -> Answer {
+    unsafe { raw::load(planner, plan.as_ptr(), plan.len()) }
+}
+
+/// A load into a copy of the planner given.
 pub fn load(planner: &Planner, plan: &[u8]) -> (Planner, Answer) {
-    let outcome = unsafe { cp_load(planner.clone(), plan.as_ptr(), plan.len()) };
-    (outcome.planner, outcome.answer)
+    let mut after = planner.clone();
+    let answer = load_into(&mut after, plan);
+    (after, answer)
 }
 
 pub fn load_strict(planner: &Planner, plan: &[u8]) -> (Planner, Answer) {
-    let outcome = unsafe { cp_load_strict(planner.clone(), plan.as_ptr(), plan.len()) };
-    (outcome.planner, outcome.answer)
+    let mut after = planner.clone();
+    let answer = unsafe { raw::load_strict(&mut after, plan.as_ptr(), plan.len()) };
+    (after, answer)
 }
 
 pub fn check(planner: &Planner, duration: u64) -> Answer {
-    unsafe { cp_check(planner.clone(), duration) }
+    unsafe { raw::check(planner, duration) }
 }
 
 pub fn slack(planner: &Planner, port: u64, duration: u64) -> SlackAnswer {
-    unsafe { cp_slack(planner.clone(), port, duration) }
+    unsafe { raw::slack(planner, port, duration) }
 }
 
 pub fn least(planner: &Planner, scratch: &mut [u64]) -> Answer {
-    unsafe { cp_least(planner.clone(), scratch.as_mut_ptr(), scratch.len()) }
+    unsafe { raw::least(planner, scratch.as_mut_ptr(), scratch.len()) }
 }
 
 pub fn margin_safe(planner: &Planner, scratch: &mut [u64]) -> Answer {
-    unsafe { cp_margin_safe(planner.clone(), scratch.as_mut_ptr(), scratch.len()) }
+    unsafe { raw::margin_safe(planner, scratch.as_mut_ptr(), scratch.len()) }
 }
 
 pub fn lean_least(planner: &Planner, scratch: &mut [u64]) -> Answer {
-    unsafe { cp_lean_least(planner.clone(), scratch.as_mut_ptr(), scratch.len()) }
+    unsafe { raw::lean_least(planner, scratch.as_mut_ptr(), scratch.len()) }
 }
 
 pub fn lean_margin_safe(planner: &Planner, scratch: &mut [u64]) -> Answer {
-    unsafe { cp_lean_margin_safe(planner.clone(), scratch.as_mut_ptr(), scratch.len()) }
+    unsafe { raw::lean_margin_safe(planner, scratch.as_mut_ptr(), scratch.len()) }
 }
 
 pub fn fixed_point(planner: &Planner, start: u64, steps: u64) -> StepsAnswer {
-    unsafe { cp_fixed_point(planner.clone(), start, steps) }
+    unsafe { raw::fixed_point(planner, start, steps) }
 }
 
 pub fn reprice(planner: &Planner, duration: u64, flow: u64, length: u64, list: &mut [i64]) -> Answer {
-    unsafe { cp_reprice(planner.clone(), duration, flow, length, list.as_mut_ptr(), list.len()) }
+    unsafe { raw::reprice(planner, duration, flow, length, list.as_mut_ptr(), list.len()) }
 }
 
 pub fn span(planner: &Planner, duration: u64) -> Answer {
-    unsafe { cp_span(planner.clone(), duration) }
+    unsafe { raw::span(planner, duration) }
 }
 
 pub fn spans(planner: &Planner, list: &mut [SpanRecord]) -> Answer {
-    unsafe { cp_spans(planner.clone(), list.as_mut_ptr(), list.len()) }
+    unsafe { raw::spans(planner, list.as_mut_ptr(), list.len()) }
 }
 
 pub fn save(planner: &Planner, buffer: &mut [u8]) -> Answer {
-    unsafe { cp_save(planner.clone(), buffer.as_mut_ptr(), buffer.len()) }
+    unsafe { raw::save(planner, buffer.as_mut_ptr(), buffer.len()) }
 }
 
 pub fn gates(planner: &Planner, duration: u64, even: u64, odd: u64, buffer: &mut [u8]) -> Answer {
-    unsafe { cp_gates(planner.clone(), duration, even, odd, buffer.as_mut_ptr(), buffer.len()) }
+    unsafe { raw::gates(planner, duration, even, odd, buffer.as_mut_ptr(), buffer.len()) }
 }
 
 pub fn empty_batch() -> Batch {
@@ -119,7 +159,7 @@ pub fn empty_batch() -> Batch {
 }
 
 pub fn place(batch: &Batch, slot: u64, plan: &[u8]) -> (Batch, Answer) {
-    let outcome = unsafe { cp_batch_place(batch.clone(), slot, plan.as_ptr(), plan.len()) };
+    let outcome = unsafe { cp_batch_place_bytes(batch.clone(), slot, plan.as_ptr(), plan.len()) };
     (outcome.batch, outcome.answer)
 }
 
@@ -134,18 +174,18 @@ pub fn collect(batch: &Batch, slot: u64) -> (Batch, StepsAnswer) {
 }
 
 pub fn field(plan: &[u8], offset: usize) -> FieldRead {
-    unsafe { cp_field(plan.as_ptr(), plan.len(), offset) }
+    unsafe { cp_field_bytes(plan.as_ptr(), plan.len(), offset) }
 }
 
 /// Whether the value of a flow field of this tag names a port twice.
 pub fn repeats(tag: u32, value: &[u8]) -> u8 {
-    unsafe { cp_repeats(tag, value.as_ptr(), value.len()) }
+    unsafe { cp_repeats_bytes(tag, value.as_ptr(), value.len()) }
 }
 
 pub fn upgrade(plan: &[u8], buffer: &mut [u8]) -> Answer {
-    unsafe { cp_upgrade(plan.as_ptr(), plan.len(), buffer.as_mut_ptr(), buffer.len()) }
+    unsafe { cp_upgrade_bytes(plan.as_ptr(), plan.len(), buffer.as_mut_ptr(), buffer.len()) }
 }
 
 pub fn downgrade(plan: &[u8], buffer: &mut [u8]) -> Answer {
-    unsafe { cp_downgrade(plan.as_ptr(), plan.len(), buffer.as_mut_ptr(), buffer.len()) }
+    unsafe { cp_downgrade_bytes(plan.as_ptr(), plan.len(), buffer.as_mut_ptr(), buffer.len()) }
 }

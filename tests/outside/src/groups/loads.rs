@@ -1,4 +1,4 @@
-//! Loads of good and damaged plans: answer, place, and the planner given back.
+//! Loads of good and damaged plans: answer, place, and the planner that is left; a refused load leaves every byte of it.
 
 use super::clocks::with_clocks;
 use super::extra::with_extra;
@@ -34,6 +34,9 @@ pub fn load_as(tally: &mut Tally, reading: Reading, before: &Planner, plan: &[u8
     let shift = tally.passed as usize % 8;
     let (after, answer) = load(before, &moved(plan, shift)[shift..]);
     tally.same(format_args!("cp_{call}"), answer, want);
+    if want.refusal != 0 {
+        tally.same(format_args!("every byte of the planner is as it came to cp_{call}"), after.to_bytes() == before.to_bytes(), true);
+    }
     let want = outcome.map_or(before.clone(), |held| tables_of(&held));
     tally.same(format_args!("planner after cp_{call}: first table and slot that differ"), after.differs(&want), None);
     after
@@ -113,7 +116,7 @@ fn without_zeros(tally: &mut Tally, planner: &Planner, good: &[Piece]) {
 
 pub fn run(tally: &mut Tally) {
     let empty = ffi::empty();
-    tally.same(format_args!("cp_empty: first table and slot that differ"), empty.differs(&Planner::zero()), None);
+    tally.same(format_args!("cp_clear: first table and slot that differ"), empty.differs(&Planner::zero()), None);
     let held = ffi::load(&empty, &K).0;
     sizes(tally, &held, one_load);
     pairs(tally, &held);
