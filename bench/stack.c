@@ -1,20 +1,21 @@
-/* How far down the stack each call of the planner goes: the stack below the caller is painted, the call made, and the lowest
- * word that no longer has the paint looked up. The caller's own copies lie above that and are told apart: the planner given by
- * value, and the answer's place. With COPIES defined, how many bytes each call copies instead: the library calls memcpy for every
- * block, and the linker's --wrap=memcpy leads that here. Arguments: files with a plan, with one that is refused, and with one that no duration fits. */
+/* How far down the stack each call of the header goes: the stack below the caller is painted, the call made, and the lowest word that no
+ * longer has the paint looked up. The call is the header's function, compiled here, with all that it takes to hand the planner's columns
+ * to the library. What the caller holds for it lies above that and is told apart: the answer's place, and a batch given by value. With
+ * COPIES defined, how many bytes each call copies instead: the library calls memcpy for every block, and the linker's --wrap=memcpy leads
+ * that here. Arguments: files with a plan, with one that is refused, and with one that no duration fits. */
 #include "cycle_planner.h"
 #include <pthread.h>
 #include <stdio.h>
 #include <stdlib.h>
+#include <string.h>
 
 enum { PAINTED = 1 << 20, PORTS = 64, MAX_BYTES = 16384 };
 #define PAINT 0xa5c3965a0ff0695aULL
 
 typedef struct { uint8_t bytes[MAX_BYTES]; size_t length; } plan_bytes;
 
-static plan_bytes accepted, refused;
-static cp_planner held, empty;
-static cp_load_outcome loaded;
+static plan_bytes accepted, refused, upgraded;
+static cp_planner held, loaded;
 static cp_answer answer;
 static cp_slack_answer slacked;
 static cp_fixed_point_answer stepped;
@@ -32,20 +33,21 @@ static cp_collect_outcome collected;
 /* The stack pointer in the caller at the call, as a function of the same type sees it. */
 static char *at_call;
 #define SEEN at_call = __builtin_dwarf_cfa()
-static cp_planner see_empty(void) { SEEN; return held; }
-static cp_load_outcome see_load(cp_planner p, const uint8_t *b, size_t n) { SEEN; (void)p, (void)b, (void)n; return loaded; }
-static cp_answer see_check(cp_planner p, uint64_t d) { SEEN; (void)p, (void)d; return answer; }
-static cp_slack_answer see_slack(cp_planner p, uint64_t n, uint64_t d) { SEEN; (void)p, (void)n, (void)d; return slacked; }
-static cp_answer see_search(cp_planner p, uint64_t *s, size_t n) { SEEN; (void)p, (void)s, (void)n; return answer; }
-static cp_fixed_point_answer see_steps(cp_planner p, uint64_t d, uint64_t n) { SEEN; (void)p, (void)d, (void)n; return stepped; }
-static cp_answer see_reprice(cp_planner p, uint64_t d, uint64_t f, uint64_t l, int64_t *s, size_t n) {
+static void see_clear(cp_planner *p) { SEEN; (void)p; }
+static cp_answer see_load(cp_planner *p, const uint8_t *b, size_t n) { SEEN; (void)p, (void)b, (void)n; return answer; }
+static cp_answer see_check(const cp_planner *p, uint64_t d) { SEEN; (void)p, (void)d; return answer; }
+static cp_slack_answer see_slack(const cp_planner *p, uint64_t n, uint64_t d) { SEEN; (void)p, (void)n, (void)d; return slacked; }
+static cp_answer see_search(const cp_planner *p, uint64_t *s, size_t n) { SEEN; (void)p, (void)s, (void)n; return answer; }
+static cp_fixed_point_answer see_steps(const cp_planner *p, uint64_t d, uint64_t n) { SEEN; (void)p, (void)d, (void)n; return stepped; }
+static cp_answer see_reprice(const cp_planner *p, uint64_t d, uint64_t f, uint64_t l, int64_t *s, size_t n) {
   SEEN; (void)p, (void)d, (void)f, (void)l, (void)s, (void)n; return answer;
 }
-static cp_answer see_spans(cp_planner p, cp_span_record *s, size_t n) { SEEN; (void)p, (void)s, (void)n; return answer; }
-static cp_answer see_save(cp_planner p, uint8_t *b, size_t n) { SEEN; (void)p, (void)b, (void)n; return answer; }
-static cp_answer see_gates(cp_planner p, uint64_t d, uint64_t e, uint64_t o, uint8_t *b, size_t n) {
+static cp_answer see_spans(const cp_planner *p, cp_span_record *s, size_t n) { SEEN; (void)p, (void)s, (void)n; return answer; }
+static cp_answer see_save(const cp_planner *p, uint8_t *b, size_t n) { SEEN; (void)p, (void)b, (void)n; return answer; }
+static cp_answer see_gates(const cp_planner *p, uint64_t d, uint64_t e, uint64_t o, uint8_t *b, size_t n) {
   SEEN; (void)p, (void)d, (void)e, (void)o, (void)b, (void)n; return answer;
 }
+static cp_answer see_convert(const uint8_t *b, size_t n, uint8_t *c, size_t m) { SEEN; (void)b, (void)n, (void)c, (void)m; return answer; }
 static cp_field_read see_field(const uint8_t *b, size_t n, size_t o) { SEEN; (void)b, (void)n, (void)o; return field; }
 static cp_batch see_batch(void) { SEEN; return batch; }
 static cp_place_outcome see_place(cp_batch b, uint64_t s, const uint8_t *p, size_t n) { SEEN; (void)b, (void)s, (void)p, (void)n; return placed; }
@@ -67,8 +69,8 @@ void *__wrap_memcpy(void *to, const void *from, size_t size) {
 
 /* One call site for both functions, so that the stack pointer is the same in all rounds: the first sees it, the second binds
  * what the library takes from C's, the third is measured. Paint and search stay in this frame; a call would write below it. */
-#define MEASURE(TYPE, SEE, CALL, ...)                                                                         \
-  do {                                                                                                        \
+#define MEASURED(NAME, TYPE, SEE, CALL, ...)                                                                  \
+  static __attribute__((noinline)) void *NAME(void *unused) {                                                 \
     TYPE = SEE;                                                                                               \
     for (int round = 0; round < 3; round++) {                                                                 \
       if (round == 2)                                                                                         \
@@ -81,151 +83,51 @@ void *__wrap_memcpy(void *to, const void *from, size_t size) {
     volatile uint64_t *lowest = (uint64_t *)(at_call - PAINTED);                                              \
     while (lowest < (uint64_t *)at_call && *lowest == PAINT) lowest++;                                        \
     used = (size_t)(at_call - (char *)lowest);                                                                \
-  } while (0)
+    return unused;                                                                                            \
+  }
 
-#define MEASURED(NAME) static __attribute__((noinline)) void *NAME(void *unused)
-
-MEASURED(on_empty) {
-  MEASURE(cp_planner (*volatile call)(void), see_empty, cp_empty, empty = call());
-  return unused;
-}
-
-MEASURED(on_load) {
-  MEASURE(cp_load_outcome (*volatile call)(cp_planner, const uint8_t *, size_t), see_load, cp_load,
-          loaded = call(held, accepted.bytes, accepted.length));
-  return unused;
-}
-
-MEASURED(on_refused_load) {
-  MEASURE(cp_load_outcome (*volatile call)(cp_planner, const uint8_t *, size_t), see_load, cp_load,
-          loaded = call(held, refused.bytes, refused.length));
-  return unused;
-}
-
-MEASURED(on_load_strict) {
-  MEASURE(cp_load_outcome (*volatile call)(cp_planner, const uint8_t *, size_t), see_load, cp_load_strict,
-          loaded = call(held, accepted.bytes, accepted.length));
-  return unused;
-}
-
-MEASURED(on_refused_load_strict) {
-  MEASURE(cp_load_outcome (*volatile call)(cp_planner, const uint8_t *, size_t), see_load, cp_load_strict,
-          loaded = call(held, refused.bytes, refused.length));
-  return unused;
-}
-
-MEASURED(on_check) {
-  MEASURE(cp_answer (*volatile call)(cp_planner, uint64_t), see_check, cp_check, answer = call(held, held.top));
-  return unused;
-}
-
-MEASURED(on_slack) {
-  MEASURE(cp_slack_answer (*volatile call)(cp_planner, uint64_t, uint64_t), see_slack, cp_slack,
-          slacked = call(held, 1, held.top));
-  return unused;
-}
-
-MEASURED(on_least) {
-  MEASURE(cp_answer (*volatile call)(cp_planner, uint64_t *, size_t), see_search, cp_least,
-          answer = call(held, scratch, PORTS));
-  return unused;
-}
-
-MEASURED(on_margin_safe) {
-  MEASURE(cp_answer (*volatile call)(cp_planner, uint64_t *, size_t), see_search, cp_margin_safe,
-          answer = call(held, scratch, PORTS));
-  return unused;
-}
-
-MEASURED(on_lean_least) {
-  MEASURE(cp_answer (*volatile call)(cp_planner, uint64_t *, size_t), see_search, cp_lean_least,
-          answer = call(held, scratch, 1));
-  return unused;
-}
-
-MEASURED(on_lean_margin_safe) {
-  MEASURE(cp_answer (*volatile call)(cp_planner, uint64_t *, size_t), see_search, cp_lean_margin_safe,
-          answer = call(held, scratch, 1));
-  return unused;
-}
-
-MEASURED(on_fixed_point) {
-  MEASURE(cp_fixed_point_answer (*volatile call)(cp_planner, uint64_t, uint64_t), see_steps, cp_fixed_point,
-          stepped = call(held, 1, 1 << 20));
-  return unused;
-}
-
-MEASURED(on_reprice) {
-  MEASURE(cp_answer (*volatile call)(cp_planner, uint64_t, uint64_t, uint64_t, int64_t *, size_t), see_reprice, cp_reprice,
-          answer = call(held, held.top, 1, 64, list, PORTS));
-  return unused;
-}
-
-MEASURED(on_span) {
-  MEASURE(cp_answer (*volatile call)(cp_planner, uint64_t), see_check, cp_span, answer = call(held, 1));
-  return unused;
-}
-
-MEASURED(on_spans) {
-  MEASURE(cp_answer (*volatile call)(cp_planner, cp_span_record *, size_t), see_spans, cp_spans,
-          answer = call(held, spans, PORTS));
-  return unused;
-}
-
-MEASURED(on_refused_spans) {
-  MEASURE(cp_answer (*volatile call)(cp_planner, cp_span_record *, size_t), see_spans, cp_spans, answer = call(held, spans, 1));
-  return unused;
-}
-
-MEASURED(on_save) {
-  MEASURE(cp_answer (*volatile call)(cp_planner, uint8_t *, size_t), see_save, cp_save,
-          answer = call(held, buffer, MAX_BYTES));
-  return unused;
-}
-
-MEASURED(on_refused_save) {
-  MEASURE(cp_answer (*volatile call)(cp_planner, uint8_t *, size_t), see_save, cp_save, answer = call(held, buffer, 1));
-  return unused;
-}
-
-MEASURED(on_gates) {
-  MEASURE(cp_answer (*volatile call)(cp_planner, uint64_t, uint64_t, uint64_t, uint8_t *, size_t), see_gates, cp_gates,
-          answer = call(held, held.top, 2, 3, buffer, MAX_BYTES));
-  return unused;
-}
-
-MEASURED(on_field) {
-  MEASURE(cp_field_read (*volatile call)(const uint8_t *, size_t, size_t), see_field, cp_field,
-          field = call(accepted.bytes, accepted.length, 0));
-  return unused;
-}
-
-MEASURED(on_repeats) {
-  MEASURE(uint8_t (*volatile call)(uint32_t, const uint8_t *, size_t), see_repeats, cp_repeats,
-          repeats = call(3, accepted.bytes + accepted.length - 42, 42));
-  return unused;
-}
-
-MEASURED(on_batch) {
-  MEASURE(cp_batch (*volatile call)(void), see_batch, cp_batch_empty, batch = call());
-  return unused;
-}
-
-MEASURED(on_place) {
-  MEASURE(cp_place_outcome (*volatile call)(cp_batch, uint64_t, const uint8_t *, size_t), see_place, cp_batch_place,
-          placed = call(batch, 7, accepted.bytes, accepted.length));
-  return unused;
-}
-
-MEASURED(on_serve) {
-  MEASURE(cp_serve_outcome (*volatile call)(cp_batch), see_serve, cp_batch_serve, served = call(batch));
-  return unused;
-}
-
-MEASURED(on_collect) {
-  MEASURE(cp_collect_outcome (*volatile call)(cp_batch, uint64_t), see_collect, cp_batch_collect, collected = call(batch, 7));
-  return unused;
-}
+#define LOADS cp_answer (*volatile call)(cp_planner *, const uint8_t *, size_t)
+#define SEARCHES cp_answer (*volatile call)(const cp_planner *, uint64_t *, size_t)
+#define CONVERTS cp_answer (*volatile call)(const uint8_t *, size_t, uint8_t *, size_t)
+MEASURED(on_clear, void (*volatile call)(cp_planner *), see_clear, cp_clear, call(&loaded))
+MEASURED(on_load, LOADS, see_load, cp_load, answer = call(&loaded, accepted.bytes, accepted.length))
+MEASURED(on_refused_load, LOADS, see_load, cp_load, answer = call(&loaded, refused.bytes, refused.length))
+MEASURED(on_load_strict, LOADS, see_load, cp_load_strict, answer = call(&loaded, accepted.bytes, accepted.length))
+MEASURED(on_refused_load_strict, LOADS, see_load, cp_load_strict, answer = call(&loaded, refused.bytes, refused.length))
+MEASURED(on_check, cp_answer (*volatile call)(const cp_planner *, uint64_t), see_check, cp_check, answer = call(&held, held.top))
+MEASURED(on_slack, cp_slack_answer (*volatile call)(const cp_planner *, uint64_t, uint64_t), see_slack, cp_slack,
+         slacked = call(&held, 1, held.top))
+MEASURED(on_least, SEARCHES, see_search, cp_least, answer = call(&held, scratch, PORTS))
+MEASURED(on_margin_safe, SEARCHES, see_search, cp_margin_safe, answer = call(&held, scratch, PORTS))
+MEASURED(on_lean_least, SEARCHES, see_search, cp_lean_least, answer = call(&held, scratch, 1))
+MEASURED(on_lean_margin_safe, SEARCHES, see_search, cp_lean_margin_safe, answer = call(&held, scratch, 1))
+MEASURED(on_fixed_point, cp_fixed_point_answer (*volatile call)(const cp_planner *, uint64_t, uint64_t), see_steps, cp_fixed_point,
+         stepped = call(&held, 1, 1 << 20))
+MEASURED(on_reprice, cp_answer (*volatile call)(const cp_planner *, uint64_t, uint64_t, uint64_t, int64_t *, size_t), see_reprice,
+         cp_reprice, answer = call(&held, held.top, 1, 64, list, PORTS))
+MEASURED(on_span, cp_answer (*volatile call)(const cp_planner *, uint64_t), see_check, cp_span, answer = call(&held, 1))
+MEASURED(on_spans, cp_answer (*volatile call)(const cp_planner *, cp_span_record *, size_t), see_spans, cp_spans,
+         answer = call(&held, spans, PORTS))
+MEASURED(on_refused_spans, cp_answer (*volatile call)(const cp_planner *, cp_span_record *, size_t), see_spans, cp_spans,
+         answer = call(&held, spans, 1))
+MEASURED(on_save, cp_answer (*volatile call)(const cp_planner *, uint8_t *, size_t), see_save, cp_save,
+         answer = call(&held, buffer, MAX_BYTES))
+MEASURED(on_refused_save, cp_answer (*volatile call)(const cp_planner *, uint8_t *, size_t), see_save, cp_save,
+         answer = call(&held, buffer, 1))
+MEASURED(on_gates, cp_answer (*volatile call)(const cp_planner *, uint64_t, uint64_t, uint64_t, uint8_t *, size_t), see_gates, cp_gates,
+         answer = call(&held, held.top, 2, 3, buffer, MAX_BYTES))
+MEASURED(on_upgrade, CONVERTS, see_convert, cp_upgrade, answer = call(accepted.bytes, accepted.length, buffer, MAX_BYTES))
+MEASURED(on_downgrade, CONVERTS, see_convert, cp_downgrade, answer = call(upgraded.bytes, upgraded.length, buffer, MAX_BYTES))
+MEASURED(on_field, cp_field_read (*volatile call)(const uint8_t *, size_t, size_t), see_field, cp_field,
+         field = call(accepted.bytes, accepted.length, 0))
+MEASURED(on_repeats, uint8_t (*volatile call)(uint32_t, const uint8_t *, size_t), see_repeats, cp_repeats,
+         repeats = call(3, accepted.bytes + accepted.length - 42, 42))
+MEASURED(on_batch, cp_batch (*volatile call)(void), see_batch, cp_batch_empty, batch = call())
+MEASURED(on_place, cp_place_outcome (*volatile call)(cp_batch, uint64_t, const uint8_t *, size_t), see_place, cp_batch_place,
+         placed = call(batch, 7, accepted.bytes, accepted.length))
+MEASURED(on_serve, cp_serve_outcome (*volatile call)(cp_batch), see_serve, cp_batch_serve, served = call(batch))
+MEASURED(on_collect, cp_collect_outcome (*volatile call)(cp_batch, uint64_t), see_collect, cp_batch_collect,
+         collected = call(batch, 7))
 
 static void row(const char *name, void *(*measured)(void *), size_t given, size_t given_back) {
   pthread_t thread;
@@ -249,14 +151,19 @@ static void read_plan(const char *path, plan_bytes *plan) {
 
 /* The rows' names, in the order of the calls below. */
 static void questions(const char *const names[7]) {
-  const size_t given = sizeof held;
-  row(names[0], on_check, given, sizeof answer);
-  row(names[1], on_slack, given, sizeof slacked);
-  row(names[2], on_least, given, sizeof answer);
-  row(names[3], on_margin_safe, given, sizeof answer);
-  row(names[4], on_lean_least, given, sizeof answer);
-  row(names[5], on_lean_margin_safe, given, sizeof answer);
-  row(names[6], on_fixed_point, given, sizeof stepped);
+  row(names[0], on_check, 0, sizeof answer);
+  row(names[1], on_slack, 0, sizeof slacked);
+  row(names[2], on_least, 0, sizeof answer);
+  row(names[3], on_margin_safe, 0, sizeof answer);
+  row(names[4], on_lean_least, 0, sizeof answer);
+  row(names[5], on_lean_margin_safe, 0, sizeof answer);
+  row(names[6], on_fixed_point, 0, sizeof stepped);
+}
+
+/* A row of a call with a cp_answer, which must have this refusal. */
+static void answering(const char *name, void *(*measured)(void *), uint32_t refusal) {
+  row(name, measured, 0, sizeof answer);
+  if (answer.refusal != refusal) exit(1);
 }
 
 static const char *const answered[7] = {"cp_check", "cp_slack", "cp_least", "cp_margin_safe", "cp_lean_least",
@@ -271,45 +178,33 @@ int main(int count, char **paths) {
 #else
   printf("%-23s %6s %9s %12s %9s\n", "call", "bytes", "planners", "with caller", "planners");
 #endif
-  row("cp_empty", on_empty, 0, sizeof empty);
-  held = empty;
+  row("cp_clear", on_clear, 0, 0);
   read_plan(paths[3], &accepted);
-  row("cp_load, short plan", on_load, sizeof held, sizeof loaded);
-  cp_planner overloaded = loaded.planner;
+  answering("cp_load, short plan", on_load, 0);
+  cp_planner overloaded = loaded;
   read_plan(paths[1], &accepted);
-  row("cp_load, longest plan", on_load, sizeof held, sizeof loaded);
-  if (loaded.answer.refusal != 0) return 1;
-  row("cp_load_strict", on_load_strict, sizeof held, sizeof loaded);
-  if (loaded.answer.refusal != 0) return 1;
-  held = loaded.planner;
+  answering("cp_load, longest plan", on_load, 0);
+  answering("cp_load_strict", on_load_strict, 0);
+  held = loaded;
   read_plan(paths[2], &refused);
-  row("cp_load, refused", on_refused_load, sizeof held, sizeof loaded);
-  if (loaded.answer.refusal == 0) return 1;
-  row("cp_load_strict, refused", on_refused_load_strict, sizeof held, sizeof loaded);
-  if (loaded.answer.refusal == 0) return 1;
+  answering("cp_load, refused", on_refused_load, 9);
+  answering("cp_load_strict, refused", on_refused_load_strict, 9);
   questions(answered);
-  if (answer.refusal != 0) return 1;
-  row("cp_reprice", on_reprice, sizeof held, sizeof answer);
-  if (answer.refusal != 0) return 1;
-  row("cp_span", on_span, sizeof held, sizeof answer);
-  if (answer.refusal != 0) return 1;
-  row("cp_spans", on_spans, sizeof held, sizeof answer);
-  if (answer.refusal != 0) return 1;
-  row("cp_spans, refused", on_refused_spans, sizeof held, sizeof answer);
-  if (answer.refusal != 13) return 1;
-  row("cp_save", on_save, sizeof held, sizeof answer);
-  if (answer.refusal != 0) return 1;
-  row("cp_save, refused", on_refused_save, sizeof held, sizeof answer);
-  if (answer.refusal != 13) return 1;
-  row("cp_gates", on_gates, sizeof held, sizeof answer);
-  if (answer.refusal != 0) return 1;
+  answering("cp_reprice", on_reprice, 0);
+  answering("cp_span", on_span, 0);
+  answering("cp_spans", on_spans, 0);
+  answering("cp_spans, refused", on_refused_spans, 13);
+  answering("cp_save", on_save, 0);
+  answering("cp_save, refused", on_refused_save, 13);
+  answering("cp_gates", on_gates, 0);
   held = overloaded;
   questions(refusing);
-  if (answer.refusal == 0 || stepped.refusal != 22) return 1;
-  row("cp_span, refused", on_span, sizeof held, sizeof answer);
-  if (answer.refusal != 25) return 1;
-  row("cp_gates, refused", on_gates, sizeof held, sizeof answer);
-  if (answer.refusal != 21) return 1;
+  if (answer.refusal != 23 || stepped.refusal != 22) return 1;
+  answering("cp_span, refused", on_span, 25);
+  answering("cp_gates, refused", on_gates, 21);
+  answering("cp_upgrade", on_upgrade, 0);
+  memcpy(upgraded.bytes, buffer, upgraded.length = (size_t)answer.first);
+  answering("cp_downgrade", on_downgrade, 0);
   row("cp_batch_empty", on_batch, 0, sizeof batch);
   row("cp_batch_place", on_place, sizeof batch, sizeof placed);
   if (placed.answer.refusal != 0) return 1;

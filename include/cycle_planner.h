@@ -9,9 +9,9 @@
  * Durations, intervals, guard band, jitter and synchronization error are in ns, rates in Mbit/s, lengths of frames and plans in bytes,
  * demands in bits on the wire, spares in thousandths of a bit.
  *
- * Stack of a call, with what the functions of this header take: a question at most 1.5 KB, a load at most 1.5 planners. No heap. The library keeps
- * nothing between calls and has no data of its own: calls are re-entrant, and may be made from several tasks at once, also about one
- * planner as long as none of them loads it. */
+ * Stack of a call, with what the functions of this header take: a question at most 1.5 KB, a load at most 1.5 planners. No heap. The
+ * library keeps nothing between calls and has no data of its own: calls are re-entrant, and may be made from several tasks at once, also
+ * about one planner as long as none of them loads it. */
 #ifndef CYCLE_PLANNER_H
 #define CYCLE_PLANNER_H
 #include <stddef.h>

@@ -29,29 +29,29 @@ use std::os::raw::c_long;
 type Outcome = (Option<Answer>, u64);
 
 #[inline(never)]
-extern "C" fn jump_least<const CHECKED: bool>(planner: Planner, scratch: &mut [u64; 64], steps: &mut u64) -> Answer {
-    let (answer, taken) = jump::least::<CHECKED>(&planner, scratch);
+extern "C" fn jump_least<const CHECKED: bool>(planner: &Planner, scratch: &mut [u64; 64], steps: &mut u64) -> Answer {
+    let (answer, taken) = jump::least::<CHECKED>(planner, scratch);
     *steps = taken;
     answer
 }
 
 #[inline(never)]
-extern "C" fn jump_safe<const CHECKED: bool>(planner: Planner, scratch: &mut [u64; 64], steps: &mut u64) -> Answer {
-    let (answer, taken) = jump::margin_safe::<CHECKED>(&planner, scratch);
+extern "C" fn jump_safe<const CHECKED: bool>(planner: &Planner, scratch: &mut [u64; 64], steps: &mut u64) -> Answer {
+    let (answer, taken) = jump::margin_safe::<CHECKED>(planner, scratch);
     *steps = taken;
     answer
 }
 
 #[inline(never)]
-extern "C" fn one_least(planner: Planner, scratch: &mut [u64; 64], steps: &mut u64) -> Answer {
-    let (answer, taken) = lean::least(&planner, &mut scratch[..1]);
+extern "C" fn one_least(planner: &Planner, scratch: &mut [u64; 64], steps: &mut u64) -> Answer {
+    let (answer, taken) = lean::least(planner, &mut scratch[..1]);
     *steps = taken;
     answer
 }
 
 #[inline(never)]
-extern "C" fn one_safe(planner: Planner, scratch: &mut [u64; 64], steps: &mut u64) -> Answer {
-    let (answer, taken) = lean::margin_safe(&planner, &mut scratch[..1]);
+extern "C" fn one_safe(planner: &Planner, scratch: &mut [u64; 64], steps: &mut u64) -> Answer {
+    let (answer, taken) = lean::margin_safe(planner, &mut scratch[..1]);
     *steps = taken;
     answer
 }
@@ -80,14 +80,14 @@ fn measured_search(part: &str, planner: &Planner, scratch: &mut [u64; 64], most:
     match part {
         "least" => (Some(ffi::least(planner, scratch)), 0),
         "safe" => (Some(ffi::margin_safe(planner, scratch)), 0),
-        "jump-least" => (Some(jump_least::<true>(planner.clone(), scratch, &mut steps)), steps),
-        "jump-safe" => (Some(jump_safe::<true>(planner.clone(), scratch, &mut steps)), steps),
-        "bare-least" => (Some(jump_least::<false>(planner.clone(), scratch, &mut steps)), steps),
-        "bare-safe" => (Some(jump_safe::<false>(planner.clone(), scratch, &mut steps)), steps),
+        "jump-least" => (Some(jump_least::<true>(planner, scratch, &mut steps)), steps),
+        "jump-safe" => (Some(jump_safe::<true>(planner, scratch, &mut steps)), steps),
+        "bare-least" => (Some(jump_least::<false>(planner, scratch, &mut steps)), steps),
+        "bare-safe" => (Some(jump_safe::<false>(planner, scratch, &mut steps)), steps),
         "lean-least" => (Some(ffi::lean_least(planner, &mut scratch[..1])), 0),
         "lean-safe" => (Some(ffi::lean_margin_safe(planner, &mut scratch[..1])), 0),
-        "one-least" => (Some(one_least(planner.clone(), scratch, &mut steps)), steps),
-        "one-safe" => (Some(one_safe(planner.clone(), scratch, &mut steps)), steps),
+        "one-least" => (Some(one_least(planner, scratch, &mut steps)), steps),
+        "one-safe" => (Some(one_safe(planner, scratch, &mut steps)), steps),
         "at-once" => {
             let whole = ffi::fixed_point(planner, 1, u64::MAX);
             (Some(whole.answer()), whole.steps)
@@ -102,19 +102,14 @@ fn measured_search(part: &str, planner: &Planner, scratch: &mut [u64; 64], most:
     }
 }
 
-fn read<const SETS: bool>(planner: &Planner, plan: &[u8]) -> (Planner, Answer) {
-    let loaded = reader::load::<SETS>(planner.clone(), plan);
-    (loaded.planner, loaded.answer)
-}
-
 /// A load, counted likewise.
 #[no_mangle]
 #[inline(never)]
-fn measured_load(part: &str, planner: &Planner, plan: &[u8]) -> (Planner, Answer) {
+fn measured_load(part: &str, planner: &mut Planner, plan: &[u8]) -> Answer {
     match part {
-        "load" => ffi::load(planner, plan),
-        "read" => read::<true>(planner, plan),
-        "read-by-port" => read::<false>(planner, plan),
+        "load" => ffi::load_into(planner, plan),
+        "read" => reader::load::<true>(planner, plan),
+        "read-by-port" => reader::load::<false>(planner, plan),
         other => panic!("no such part: {other}"),
     }
 }
@@ -123,8 +118,8 @@ fn measured_load(part: &str, planner: &Planner, plan: &[u8]) -> (Planner, Answer
 const BUFFER: usize = 16_384;
 
 #[inline(never)]
-extern "C" fn write(planner: Planner, buffer: &mut [u8; BUFFER]) -> Answer {
-    writer::save(&planner, buffer)
+extern "C" fn write(planner: &Planner, buffer: &mut [u8; BUFFER]) -> Answer {
+    writer::save(planner, buffer)
 }
 
 /// Saving, counted likewise.
@@ -133,7 +128,7 @@ extern "C" fn write(planner: Planner, buffer: &mut [u8; BUFFER]) -> Answer {
 fn measured_save(part: &str, planner: &Planner, buffer: &mut [u8; BUFFER]) -> Answer {
     match part {
         "save" => ffi::save(planner, buffer),
-        "write" => write(planner.clone(), buffer),
+        "write" => write(planner, buffer),
         other => panic!("no such part: {other}"),
     }
 }
@@ -222,8 +217,8 @@ fn search(case: &plans::Case, part: &str) {
 
 /// A load of a plan over plan K: the answer.
 fn load(plan: &[u8], part: &str) {
-    let held = ffi::load(&ffi::empty(), &plans::k()).0;
-    let (planner, answer) = measured_load(part, &held, plan);
+    let mut planner = ffi::load(&ffi::empty(), &plans::k()).0;
+    let answer = measured_load(part, &mut planner, plan);
     println!("{}", told(answer, planner.to_bytes().into_iter().map(u64::from)));
 }
 

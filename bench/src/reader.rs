@@ -8,13 +8,6 @@ use crate::draft::{Draft, FLOW_NUMBERS};
 
 const MAX_BYTES: usize = 16_384;
 
-/// Laid out as the C header says.
-#[repr(C)]
-pub struct Loaded {
-    pub planner: Planner,
-    pub answer: Answer,
-}
-
 /// The first field of a tag whose value is as sought.
 fn first_field(plan: &[u8], wanted: u8, sought: impl Fn(&[u8]) -> bool) -> Option<usize> {
     let mut offset = 0;
@@ -69,13 +62,16 @@ fn read<const SETS: bool>(plan: &[u8], tables: &mut Planner) -> Result<(u64, u64
     Ok((draft.ports, draft.flows))
 }
 
-/// The planner that holds this plan, or the one that came; both go by value as in C, so that the caller's copies are the same.
+/// The planner then holds this plan, or what it held.
 #[allow(improper_ctypes_definitions)]
 #[inline(never)]
-pub extern "C" fn load<const SETS: bool>(planner: Planner, plan: &[u8]) -> Loaded {
+pub extern "C" fn load<const SETS: bool>(planner: &mut Planner, plan: &[u8]) -> Answer {
     let mut fresh = Planner::zero();
     match read::<SETS>(plan, &mut fresh) {
-        Ok((ports, flows)) => Loaded { planner: fresh, answer: Answer::new(0, ports, flows) },
-        Err((refusal, offset)) => Loaded { planner, answer: Answer::new(refusal, offset as u64, 0) },
+        Ok((ports, flows)) => {
+            *planner = fresh;
+            Answer::new(0, ports, flows)
+        }
+        Err((refusal, offset)) => Answer::new(refusal, offset as u64, 0),
     }
 }

@@ -4,15 +4,15 @@ use crate::answers::{Answer, Planner, SpanRecord};
 use crate::{ffi, spans};
 
 #[inline(never)]
-extern "C" fn same_span(planner: Planner, duration: u64, evaluations: &mut u64) -> Answer {
-    let (answer, made) = spans::span(&planner, duration);
+extern "C" fn same_span(planner: &Planner, duration: u64, evaluations: &mut u64) -> Answer {
+    let (answer, made) = spans::span(planner, duration);
     *evaluations = made;
     answer
 }
 
 #[inline(never)]
-extern "C" fn same_spans(planner: Planner, list: *mut SpanRecord, size: usize, evaluations: &mut u64) -> Answer {
-    let (answer, made) = spans::spans(&planner, unsafe { std::slice::from_raw_parts_mut(list, size) });
+extern "C" fn same_spans(planner: &Planner, list: *mut SpanRecord, size: usize, evaluations: &mut u64) -> Answer {
+    let (answer, made) = spans::spans(planner, unsafe { std::slice::from_raw_parts_mut(list, size) });
     *evaluations = made;
     answer
 }
@@ -27,9 +27,9 @@ pub fn measured_spans(part: &str, planner: &Planner, list: &mut [SpanRecord]) ->
         "span-first" => ffi::span(planner, 1),
         "span-top" => ffi::span(planner, top),
         "spans" => ffi::spans(planner, list),
-        "same-span-first" => same_span(planner.clone(), 1, &mut evaluations),
-        "same-span-top" => same_span(planner.clone(), top, &mut evaluations),
-        "same-spans" => same_spans(planner.clone(), list.as_mut_ptr(), list.len(), &mut evaluations),
+        "same-span-first" => same_span(planner, 1, &mut evaluations),
+        "same-span-top" => same_span(planner, top, &mut evaluations),
+        "same-spans" => same_spans(planner, list.as_mut_ptr(), list.len(), &mut evaluations),
         other => panic!("no such part: {other}"),
     };
     (answer, evaluations)
