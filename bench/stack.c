@@ -47,7 +47,9 @@ static cp_answer see_save(const cp_planner *p, uint8_t *b, size_t n) { SEEN; (vo
 static cp_answer see_gates(const cp_planner *p, uint64_t d, uint64_t e, uint64_t o, uint8_t *b, size_t n) {
   SEEN; (void)p, (void)d, (void)e, (void)o, (void)b, (void)n; return answer;
 }
-static cp_answer see_convert(const uint8_t *b, size_t n, uint8_t *c, size_t m) { SEEN; (void)b, (void)n, (void)c, (void)m; return answer; }
+static cp_answer see_convert(const uint8_t *b, size_t n, uint8_t *c, size_t m) {
+  SEEN; (void)b, (void)n, (void)c, (void)m; return answer;
+}
 static cp_field_read see_field(const uint8_t *b, size_t n, size_t o) { SEEN; (void)b, (void)n, (void)o; return field; }
 static cp_batch see_batch(void) { SEEN; return batch; }
 static cp_place_outcome see_place(cp_batch b, uint64_t s, const uint8_t *p, size_t n) { SEEN; (void)b, (void)s, (void)p, (void)n; return placed; }

@@ -1,5 +1,8 @@
 /* The cycle planner as a static library (libcapi.a), for C and C++ on x86-64, which is what the toolchain makes it for.
  *
+ *     static cp_planner planner;
+ *     if (cp_load(&planner, plan, length).refusal == CP_OK && cp_check(&planner, 72000).refusal == CP_OK) ..
+ *
  * The caller holds the planner and gives its address: a load writes it, a question reads it. Every call answers any planner value, any
  * number and any slice. A slice is a pointer and a length in elements; with length 0 the pointer may be null. What is written overlaps
  * nothing else that a call is given. A planner or a slice that is not there, or shorter than its length says, is outside what is proved.
@@ -11,7 +14,7 @@
  *
  * Stack of a call, with what the functions of this header take: a question at most 1.5 KB, a load at most 1.5 planners. No heap. The
  * library keeps nothing between calls and has no data of its own: calls are re-entrant, and may be made from several tasks at once, also
- * about one planner as long as none of them loads it. */
+ * about one planner as long as none of them loads or clears it. */
 #ifndef CYCLE_PLANNER_H
 #define CYCLE_PLANNER_H
 #include <stddef.h>
@@ -246,12 +249,13 @@ static inline cp_fixed_point_answer cp_fixed_point(const cp_planner *planner, ui
   return cp_fixed_point_columns(CP_COLUMNS(planner), start, steps);
 }
 
-/* What if a flow's frames had another length? The spares along its route at a duration go into a list, port n at n - 1, signed and in
+/* What if a flow's frames had another length? The spares along its route at a duration go into a list, out, port n at n - 1, signed and in
  * thousandths of a bit as from cp_slack. Result: 0, 0; the other numbers of the list remain, past the 64th too. Refusal 20, 10 (a
  * duration outside 1 to top), 11 (a list under 64 numbers), 17 (a length outside 64 to 2,000), 29 (a flow that is not in the plan), in
  * this order: 0, 0, list untouched. The held plan remains. Where the list held the spare of each crossed port at that duration, it now
  * holds those of the plan with that length. */
-static inline cp_answer cp_reprice(const cp_planner *planner, uint64_t duration, uint64_t flow, uint64_t length, int64_t *out, size_t size) {
+static inline cp_answer cp_reprice(const cp_planner *planner, uint64_t duration, uint64_t flow, uint64_t length, int64_t *out,
+                                   size_t size) {
   int64_t none = 0;
   return cp_reprice_columns(CP_COLUMNS(planner), duration, flow, length, size == 0 ? &none : out, size);
 }
@@ -303,7 +307,8 @@ static inline cp_answer cp_downgrade(const uint8_t *plan, size_t length, uint8_t
  * written, 48, or 16 without a guard band, second = 0; the bytes behind it remain. Refusal 20, 10, 21 as from cp_check; then 18, a
  * queue is above 7 or both are equal: 0, 0; then 13, the buffer is shorter than the list: first = the length needed, second = 0. A
  * refusal writes nothing. */
-static inline cp_answer cp_gates(const cp_planner *planner, uint64_t duration, uint64_t even, uint64_t odd, uint8_t *buffer, size_t length) {
+static inline cp_answer cp_gates(const cp_planner *planner, uint64_t duration, uint64_t even, uint64_t odd, uint8_t *buffer,
+                                 size_t length) {
   uint8_t none = 0;
   return cp_gates_columns(CP_COLUMNS(planner), duration, even, odd, length == 0 ? &none : buffer, length);
 }
@@ -328,9 +333,11 @@ typedef struct { cp_batch batch; cp_fixed_point_answer answer; } cp_collect_outc
 /* The batch with no plan. */
 cp_batch cp_batch_empty(void);
 
+/* The export behind cp_batch_place. */
+cp_place_outcome cp_batch_place_bytes(cp_batch batch, uint64_t slot, const uint8_t *plan, size_t length);
+
 /* Reads a plan loosely into a slot, 0 to 7. Result: first = port fields, second = flow fields; the slot has the plan. Refusal 15, no
  * such slot: 0, 0. 27, the slot has a plan, finished or not: 0, 0. Then as from cp_load. A refusal leaves the batch as it was. */
-cp_place_outcome cp_batch_place_bytes(cp_batch batch, uint64_t slot, const uint8_t *plan, size_t length);
 CP_MUST_USE static inline cp_place_outcome cp_batch_place(cp_batch batch, uint64_t slot, const uint8_t *plan, size_t length) {
   const uint8_t none = 0;
   return cp_batch_place_bytes(batch, slot, length == 0 ? &none : plan, length);

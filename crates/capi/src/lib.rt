@@ -74,21 +74,21 @@ pub struct CollectOutcomeNumbers {
 }
 
 #[no_mangle]
-pub extern "C" fn cp_field(plan: &[u8], offset: usize) -> FieldReadNumbers
+pub extern "C" fn cp_field_bytes(plan: &[u8], offset: usize) -> FieldReadNumbers
     ensures { λ r. ⌜ r ≡ fieldNumbers (fieldAt (formBy (now (plan .entry))) (now (plan .entry)) offset) ⌝ }
 {
     field_in_c(plan::read_field(plan, offset))
 }
 
 #[no_mangle]
-pub extern "C" fn cp_repeats(tag: u32, value: &[u8]) -> bool
+pub extern "C" fn cp_repeats_bytes(tag: u32, value: &[u8]) -> bool
     ensures { λ r. ⌜ r ≡ repeats (formByTag tag) (now (value .entry)) ⌝ }
 {
     plan::repeats_port(form_by_tag(tag), value)
 }
 
 #[no_mangle]
-pub extern "C" fn cp_upgrade(plan: &[u8], buffer: &mut [u8]) -> AnswerNumbers
+pub extern "C" fn cp_upgrade_bytes(plan: &[u8], buffer: &mut [u8]) -> AnswerNumbers
     ensures { λ r. ⌜
         (r ≡ writtenNumbers (upgradeAnswer (now (plan .entry)) (now (buffer .entry))))
         × (now (buffer .exit) ≡ upgradeLeaves (now (plan .entry)) (now (buffer .entry)))
@@ -98,7 +98,7 @@ pub extern "C" fn cp_upgrade(plan: &[u8], buffer: &mut [u8]) -> AnswerNumbers
 }
 
 #[no_mangle]
-pub extern "C" fn cp_downgrade(plan: &[u8], buffer: &mut [u8]) -> AnswerNumbers
+pub extern "C" fn cp_downgrade_bytes(plan: &[u8], buffer: &mut [u8]) -> AnswerNumbers
     ensures { λ r. ⌜
         (r ≡ writtenNumbers (downgradeAnswer (now (plan .entry)) (now (buffer .entry))))
         × (now (buffer .exit) ≡ downgradeLeaves (now (plan .entry)) (now (buffer .entry)))
@@ -115,7 +115,7 @@ pub extern "C" fn cp_batch_empty() -> Batch
 }
 
 #[no_mangle]
-pub extern "C" fn cp_batch_place(batch: Batch, slot: u64, plan: &[u8]) -> PlaceOutcomeNumbers
+pub extern "C" fn cp_batch_place_bytes(batch: Batch, slot: u64, plan: &[u8]) -> PlaceOutcomeNumbers
     ensures { λ r. ⌜ (batchOf (r .batch) ≡ placeLeaves (batchOf batch) slot (now (plan .entry))) × (r .answer ≡ loadNumbers (placeAnswer (batchOf batch) slot (now (plan .entry)))) ⌝ }
 {
     place_outcome_in_c(planner::place(batch, slot, plan))

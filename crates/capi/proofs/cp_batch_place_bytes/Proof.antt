@@ -1,9 +1,9 @@
--- `capi::cp_batch_place` meets its contract: the call's answer as numbers.
+-- `capi::cp_batch_place_bytes` meets its contract: the call's answer as numbers.
 use borrow.Author.Needs.{needs}
 use mathlib.Core.Path.{_∙_, ap}
 use Rattle.capi.specs.Numbers.{loadNumbers}
-use Rattle.capi.proofs.cp_batch_place.Statement.{statement}
-use Rattle.capi.proofs.cp_batch_place.Tie as tie
+use Rattle.capi.proofs.cp_batch_place_bytes.Statement.{statement}
+use Rattle.capi.proofs.cp_batch_place_bytes.Tie as tie
 
 place-requires : tie.Need-place-requires
 place-requires c κs = tt
@@ -17,5 +17,5 @@ returns c =
     let outcome = c .before .place .ensures in
     (told .0 ∙ outcome .leaves, told .1 ∙ ap loadNumbers (outcome .answers))
 
-pub cp-batch-place-spec : {M : Type 1} → statement M
-cp-batch-place-spec = tie.close (tie.spec place-requires place-outcome-in-c-requires returns)
+pub cp-batch-place-bytes-spec : {M : Type 1} → statement M
+cp-batch-place-bytes-spec = tie.close (tie.spec place-requires place-outcome-in-c-requires returns)
