@@ -14,3 +14,4 @@ pub mod Run
 pub mod Spans
 pub mod SpanList
 pub mod SpanAnswer
+pub mod Nearest

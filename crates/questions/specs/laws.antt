@@ -23,3 +23,4 @@ pub mod RepriceRoute
 pub mod Spans
 pub mod SpanList
 pub mod Counted
+pub mod Nearest

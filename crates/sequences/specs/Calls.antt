@@ -24,6 +24,7 @@ pub data Question : Type 0 where
   reprice : (duration flow bytes : ℕ) (out : List ℤ) → Question
   span : (duration : ℕ) → Question
   spans : (list : List SpanRecord) → Question
+  nearest : (duration : ℕ) → Question
 
 -- a load says in which reading
 pub data Call : Type 0 where

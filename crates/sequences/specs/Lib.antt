@@ -11,5 +11,6 @@ pub mod GatesMeaning
 pub mod Repriced
 pub mod Lean
 pub mod SpansMeaning
+pub mod NearestMeaning
 pub mod laws
 pub mod results

@@ -14,10 +14,11 @@ use Rattle.questions.specs.Lean.{leanLeastAnswer, leanLeastLeaves, leanMarginSa
 use Rattle.questions.specs.FixedPoint.{FixedPoint, fixedPointAnswer}
 use Rattle.questions.specs.Reprice.{repriceAnswer, repriceLeaves}
 use Rattle.questions.specs.Spans.{spanAnswer, spansAnswer, spansLeaves}
+use Rattle.questions.specs.Nearest.{Nearest, nearestAnswer}
 use Rattle.questions.specs.declared.one_span.SpanRecord.{SpanRecord}
 use Rattle.saving.specs.Save.{saveAnswer, saveLeaves}
 use Rattle.gate_writing.specs.Gates.{gatesAnswer, gatesLeaves}
-use Rattle.sequences.specs.Calls.{Question, check, slack, least, marginSafe, leanLeast, leanMarginSafe, fixedPoint, save, gates, reprice, span, spans}
+use Rattle.sequences.specs.Calls.{Question, check, slack, least, marginSafe, leanLeast, leanMarginSafe, fixedPoint, save, gates, reprice, span, spans, nearest}
 
 pub data Reply : Type 0 where
   ofCheck : Answer (Unit {0}) → Reply
@@ -28,6 +29,7 @@ pub data Reply : Type 0 where
   ofReprice : Answer (Unit {0}) → (out : List ℤ) → Reply
   ofSpan : Answer Span → Reply
   ofSpans : Answer ℕ → (list : List SpanRecord) → Reply
+  ofNearest : Answer Nearest → Reply
 
 -- by a planner that holds this plan, read in the form of this number, which only saving asks for
 abbrev pub reply : (form : ℕ) → Plan → Question → Reply
@@ -43,6 +45,7 @@ reply form p (gates T even odd buffer) = ofWriting (gatesAnswer p T even odd buf
 reply form p (reprice T n bytes out) = ofReprice (repriceAnswer p T n bytes out) (repriceLeaves p T n bytes out)
 reply form p (span T) = ofSpan (spanAnswer p T)
 reply form p (spans list) = ofSpans (spansAnswer p (length list)) (spansLeaves p list)
+reply form p (nearest T) = ofNearest (nearestAnswer p T)
 
 -- 20 with 0, and lent memory as it was
 abbrev pub noPlanReply : Question → Reply
@@ -58,6 +61,7 @@ noPlanReply (gates T even odd buffer) = ofWriting (refusal noPlanHeld (0 ∷ [])
 noPlanReply (reprice T n bytes out) = ofReprice (refusal noPlanHeld (0 ∷ [])) out
 noPlanReply (span T) = ofSpan (refusal noPlanHeld (0 ∷ []))
 noPlanReply (spans list) = ofSpans (refusal noPlanHeld (0 ∷ [])) list
+noPlanReply (nearest T) = ofNearest (refusal noPlanHeld (0 ∷ []))
 
 -- two planners that answer every question alike
 abbrev pub SameAnswers : (form : ℕ) → Plan → (other : ℕ) → Plan → Type 0

@@ -9,3 +9,4 @@ pub mod LighterTheorem
 pub mod RepricedTheorem
 pub mod LeanTheorem
 pub mod SpansTheorem
+pub mod NearestTheorem

@@ -8,7 +8,7 @@ use Rattle.cqf.specs.Plan.{Plan}
 use Rattle.plan_reading.specs.Reading.{loose, readPlan}
 use Rattle.plan_reading.specs.SameParts.{SameParts}
 use Rattle.plan_reading.specs.results.FormTheorem.{same-parts}
-use Rattle.sequences.specs.Calls.{Call, Question, check, slack, least, marginSafe, leanLeast, leanMarginSafe, fixedPoint, save, gates, reprice, span, spans, after, formAfter, heldBytes}
+use Rattle.sequences.specs.Calls.{Call, Question, check, slack, least, marginSafe, leanLeast, leanMarginSafe, fixedPoint, save, gates, reprice, span, spans, nearest, after, formAfter, heldBytes}
 use Rattle.sequences.specs.Reply.{reply, Saves, SameButSaving}
 use Rattle.sequences.specs.laws.Calls.{after-loaded}
 
@@ -26,6 +26,7 @@ form-free form other p (gates T even odd buffer) apart = refl
 form-free form other p (reprice T n bytes out) apart = refl
 form-free form other p (span T) apart = refl
 form-free form other p (spans list) apart = refl
+form-free form other p (nearest T) apart = refl
 
 pub same-but-saving
     : (calls others : List Call) (s t : List ℕ)

@@ -19,7 +19,7 @@ use Rattle.answers.specs.Refusals.{noPlanHeld, notAdmissible, noLeast, noMargin
 use Rattle.questions.specs.Outcome.{failingAt}
 use Rattle.sequences.specs.Calls as Calls
 use Rattle.sequences.specs.Calls.{Call, Question, after, formAfter, heldBytes}
-use Rattle.sequences.specs.Reply.{Reply, ofCheck, ofSlack, ofSearch, ofFixedPoint, ofWriting, ofReprice, ofSpan, ofSpans, reply, noPlanReply}
+use Rattle.sequences.specs.Reply.{Reply, ofCheck, ofSlack, ofSearch, ofFixedPoint, ofWriting, ofReprice, ofSpan, ofSpans, ofNearest, reply, noPlanReply}
 use Rattle.questions.specs.laws.Answers
 use Rattle.questions.specs.laws.Answers.{check-none, slack-none, fixed-point-none, check-within}
 use Rattle.sequences.specs.laws.Calls.{after-none, after-loaded}
@@ -28,6 +28,7 @@ use Rattle.gate_writing.specs.laws.Gates.{gates-none, gates-keeps}
 use Rattle.questions.specs.laws.Reprice.{reprice-none}
 use Rattle.questions.specs.laws.Spans.{span-none}
 use Rattle.questions.specs.laws.Counted.{spans-none, spans-keeps}
+use Rattle.questions.specs.laws.Nearest.{nearest-none}
 use Rattle.questions.specs.laws.Searched.{ends-no-plan, least-ends, margin-safe-ends}
 use Rattle.questions.specs.laws.Leanly.{lean-no-plan, lean-least-ends, lean-margin-safe-ends}
 
@@ -56,6 +57,7 @@ answers-none form p e (Calls.reprice T n bytes out) =
     ap₂ ofReprice (sym (h .0)) (sym (h .1))
 answers-none form p e (Calls.span T) = ap ofSpan (span-none p T e)
 answers-none form p e (Calls.spans list) = ap₂ ofSpans (spans-none p _ e) (spans-keeps p list e)
+answers-none form p e (Calls.nearest T) = ap ofNearest (nearest-none p T e)
 
 -- a valid plan is not refused 20 at 1 ns
 verdictNumber : Reply → ℕ
@@ -67,6 +69,7 @@ verdictNumber (ofWriting answer buffer) = 0
 verdictNumber (ofReprice answer out) = 0
 verdictNumber (ofSpan answer) = 0
 verdictNumber (ofSpans answer list) = 0
+verdictNumber (ofNearest answer) = 0
 
 answers-some : (form : ℕ) (p : Plan) → validPlan p ≡ true → reply form p (Calls.check 1) ≡ noPlanReply (Calls.check 1) → ⊥
 unfolding verdictNumber
