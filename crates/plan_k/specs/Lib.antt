@@ -11,4 +11,5 @@ pub mod Gates
 pub mod FixedPoint
 pub mod Reprice
 pub mod Spans
+pub mod Nearest
 pub mod Newer

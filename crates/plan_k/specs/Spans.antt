@@ -32,6 +32,9 @@ tables : (after (load loose bytesK ∷ []) ≡ planK) × (after (load loose byte
 unfolding bytesK bytesK50 planK planKT noPlan after afterFrom loadLeaves readPlan readAs readForm formBy readFrom blank stepAt fieldAt fieldIn valueIn kindBy number2 number4 sizeAt wholeAt valueAt numbers2 routePorts routeIn repeats every distinct elem storeAll store added closing firstFrom firstAbsent namesAbsent absentIn jitterAbsent extraAbsent
 tables = (refl, refl)
 
+pub tablesK : after (load loose bytesK ∷ []) ≡ planK
+tablesK = tables .0
+
 -- one span for each of these durations, by the list of all
 abbrev durations : List ℕ
 durations = 0 ∷ 1 ∷ 72000 ∷ 110000 ∷ 110001 ∷ 1000000 ∷ 1000001 ∷ []
