@@ -1,0 +1,2 @@
+-- What is proved of the bad emission.
+pub mod Theorem
