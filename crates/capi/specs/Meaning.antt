@@ -8,10 +8,11 @@ use Rattle.cqf.specs.Plan.{Plan}
 use Rattle.sequences.specs.FixedPointMeaning.{StepsMeanHeld}
 use Rattle.sequences.specs.Scheduled.{Schedules}
 use Rattle.sequences.specs.SpansMeaning.{SpanMeansHeld, SpansMeanHeld}
+use Rattle.sequences.specs.NearestMeaning.{NearestMeansHeld}
 use Rattle.questions.specs.declared.one_span.SpanRecord.{SpanRecord}
 use Rattle.capi.specs.declared.AnswerNumbers.{AnswerNumbers}
 use Rattle.capi.specs.declared.FixedPointAnswerNumbers.{FixedPointAnswerNumbers}
-use Rattle.capi.specs.Numbers.{searchNumbers, spanNumbers, stepsNumbers}
+use Rattle.capi.specs.Numbers.{searchNumbers, spanNumbers, nearestNumbers, stepsNumbers}
 
 -- 21 refuses the duration, 0 accepts it (document 01, demand 3)
 abbrev pub CheckNumbersMean : Plan → ℕ → AnswerNumbers → Type 0
@@ -32,3 +33,7 @@ SpanNumbersMean tables T numbers = SpanMeansHeld tables T (λ a. numbers ≡ spa
 
 abbrev pub SpansNumbersMean : Plan → (list exit : List SpanRecord) → AnswerNumbers → Type 0
 SpansNumbersMean tables list exit numbers = SpansMeanHeld tables list exit (λ a. numbers ≡ searchNumbers a)
+
+-- the numbers of an answer that names the nearest durations mean what the answer means: no duration is 0, so 0 says that there is none
+abbrev pub NearestNumbersMean : Plan → (T : ℕ) → AnswerNumbers → Type 0
+NearestNumbersMean tables T numbers = NearestMeansHeld tables T (λ a. numbers ≡ nearestNumbers a)

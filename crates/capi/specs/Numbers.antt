@@ -12,6 +12,7 @@ use Rattle.cqf.specs.Form.{Form, older, newer}
 use Rattle.plan.specs.Layout.{Kind, layout}
 use Rattle.plan.specs.Field.{FieldRead, field, refused}
 use Rattle.questions.specs.FixedPoint.{FixedPoint}
+use Rattle.questions.specs.Nearest.{Nearest}
 use Rattle.batches.specs.Batch.{slotCount}
 use Rattle.span_lists.specs.Span.{Span}
 use Rattle.capi.specs.declared.AnswerNumbers.{AnswerNumbers}
@@ -44,6 +45,16 @@ searchNumbers (refusal number values) = refusedWith number values
 abbrev pub spanNumbers : Answer Span → AnswerNumbers
 spanNumbers (result span) = answerNumbers 0 (span .first) (span .last)
 spanNumbers (refusal number values) = refusedWith number values
+
+-- a duration, or 0 for none
+abbrev pub durationNumber : Option ℕ → ℕ
+durationNumber none = 0
+durationNumber (some t) = t
+
+-- the nearest durations below and above
+abbrev pub nearestNumbers : Answer Nearest → AnswerNumbers
+nearestNumbers (result n) = answerNumbers 0 (durationNumber (n .below)) (durationNumber (n .above))
+nearestNumbers (refusal number values) = refusedWith number values
 
 -- the length written; 13 has the length needed, 21 the lowest failing port and how many, a plan that is refused its offset
 abbrev pub writtenNumbers : Answer ℕ → AnswerNumbers

@@ -4,5 +4,6 @@ pub mod Meaning
 pub mod StepsMeaning
 pub mod GatesMeaning
 pub mod SpansMeaning
+pub mod NearestMeaning
 pub mod Reprice
 pub mod Clear

@@ -20,6 +20,8 @@ mod batch_numbers; // batch_numbers.rt: those of the calls of a batch
 mod lean; // lean.rt: the searches over a scratch of one number
 mod listed; // listed.rt: spans, and a list of slacks
 mod loads; // loads.rt: the loads
+mod near; // near.rt: the nearest durations
+mod nearest_numbers; // nearest_numbers.rt: those of the call that names the nearest durations
 mod searches; // searches.rt: the searches
 mod usable; // usable.rt: those of the calls that name spans
 mod writes; // writes.rt: calls that write fields

@@ -7,6 +7,7 @@ use loading::LoadAnswer;
 use plan::fault_number;
 use questions::CheckAnswer;
 use questions::FixedPointAnswer;
+use questions::NearestAnswer;
 use questions::RepriceAnswer;
 use questions::SearchAnswer;
 use questions::SlackAnswer;
@@ -18,6 +19,7 @@ ghost use Rattle.answers.specs.Answer.{refusalNumber};
 ghost use Rattle.loading.specs.Answer.{loadOf};
 ghost use Rattle.questions.specs.Answer.{checkOf, slackOf, searchOf, leastOf, marginSafeOf, fixedPointOf, repriceOf};
 ghost use Rattle.questions.specs.SpanAnswer.{spanAnswerOf, spansAnswerOf};
+ghost use Rattle.questions.specs.Nearest.{nearestOf};
 ghost use Rattle.saving.specs.Answer.{saveOf};
 ghost use Rattle.converting.specs.Answer.{convertOf};
 ghost use Rattle.gate_writing.specs.Answer.{gatesOf};
@@ -230,5 +232,15 @@ pub fn spans_number(answer: SpansAnswer) -> u32
         SpansAnswer::Count(_) => 0,
         SpansAnswer::NoPlan => NO_PLAN,
         SpansAnswer::ShortList { count: _ } => SHORT_BUFFER,
+    }
+}
+
+pub fn nearest_number(answer: NearestAnswer) -> u32
+    ensures { λ r. ⌜ r ≡ refusalNumber (nearestOf answer) ⌝ }
+{
+    match answer {
+        NearestAnswer::Nearest { below: _, above: _ } => 0,
+        NearestAnswer::NoPlan => NO_PLAN,
+        NearestAnswer::BadDuration => BAD_DURATION,
     }
 }
