@@ -1,0 +1,53 @@
+-- `write_flow2` meets its contract: the field's bytes in the front of an array, written as they are read; 4 where the route is too long for any
+-- form.
+use Prim.Native.Nat.{_+_, _*_}
+use mathlib.Core.Path.{refl, ap, _∙_}
+use mathlib.Core.List.{List, [], _∷_}
+use native.Mathlib.Omega.{arith}
+use borrow.Author.Needs.{needs}
+use denote.Ref.{now}
+use lib.ListN.{length, take, length-take}
+use Rattle.cqf.specs.Form.{newer}
+use Rattle.plan.specs.Layout.{Kind}
+use Rattle.writing.specs.Fields.{allowedBytes}
+use Rattle.writing.specs.laws.Fields.{route-named, flow2-length}
+use Rattle.field_writing.specs.laws.Whole.{refused-writes, laid-front, alone-writes}
+use Rattle.field_writing.specs.laws.Long.{long-refused}
+use Rattle.field_writing.proofs.flow.write_flow2.Statement.{statement}
+use Rattle.field_writing.proofs.flow.write_flow2.Tie as tie
+
+returns : tie.Need-returns
+returns c = refused-writes newer _ _ 4 0 (long-refused Kind.flow2 _ (now (c .before .before .before .args .route)) refl 23 refl (omega arith) (omega arith))
+
+slice-aggregate-write-field : tie.Need-slice-aggregate-write-field
+slice-aggregate-write-field c =
+    let a = c .before .before .before .before .before .before .before .args in
+    omega (arith, length-take (17 + 2 * length (now (a .route))) (c .before .before .put-flow2 .last .0), c .before .field2 .given)
+
+returns-2 : tie.Need-returns-2
+returns-2 c =
+    let put = c .before .before .before .before .before .before in
+    let a = put .before .before .before .before .before .args in
+    let r = now (a .route) in
+    let ns = a .number ∷ a .period ∷ a .count ∷ a .length ∷ a .jitter ∷ [] in
+    let size = 17 + 2 * length r in
+    alone-writes Kind.flow2 ns r (now (a .buffer))
+    (ap (take size) (put .put-flow2 .ensures)
+    ∙ laid-front (allowedBytes Kind.flow2 ns r) _ size (omega (arith, flow2-length (a .number) (a .period) (a .count) (a .length) r (omega arith) (a .jitter))) (omega arith)
+    ∙ route-named Kind.flow2 ns r (omega arith))
+    (c .before .before .write-field .ensures)
+
+pub write-flow2-spec : {M : Type 1} → statement M
+write-flow2-spec =
+    tie.close
+    (tie.spec
+    returns
+    (λ c. search needs)
+    (λ c κs. search needs)
+    (λ c. search needs)
+    (λ c. search needs)
+    (λ c. search needs)
+    slice-aggregate-write-field
+    (λ c κs. search needs)
+    (λ c. search needs)
+    returns-2)

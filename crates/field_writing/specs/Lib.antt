@@ -1,0 +1,4 @@
+-- Single fields written from their numbers: what a call answers, and what it leaves in the buffer.
+pub mod Writes
+pub mod Answer
+pub mod laws

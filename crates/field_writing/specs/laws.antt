@@ -1,0 +1,3 @@
+-- Laws of a field that is written alone.
+pub mod Whole
+pub mod Long
