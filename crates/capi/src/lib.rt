@@ -17,6 +17,7 @@ ghost use Rattle.capi.specs.Numbers.{loadNumbers, stepsNumbers, writtenN
 mod answer_numbers; // answer_numbers.rt: each answer as numbers
 mod asked; // asked.rt: questions about one duration
 mod batch_numbers; // batch_numbers.rt: those of the calls of a batch
+mod fields; // fields.rt: the writers of single fields
 mod lean; // lean.rt: the searches over a scratch of one number
 mod listed; // listed.rt: spans, and a list of slacks
 mod loads; // loads.rt: the loads

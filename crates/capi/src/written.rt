@@ -1,6 +1,7 @@
 // Each answer of a call that writes bytes as numbers: the refusal, 0 for a result, and the length written or needed.
 use crate::AnswerNumbers;
 use crate::answer_numbers::numbered;
+use field_writing::WriteAnswer;
 use planner::ConvertAnswer;
 use planner::GatesAnswer;
 use planner::SaveAnswer;
@@ -10,6 +11,7 @@ use planner::save_number;
 ghost use mathlib.Core.Path.{_≡_};
 ghost use Rattle.saving.specs.Answer.{saveOf};
 ghost use Rattle.converting.specs.Answer.{convertOf};
+ghost use Rattle.field_writing.specs.Answer.{writeOf};
 ghost use Rattle.gate_writing.specs.Answer.{gatesOf};
 ghost use Rattle.capi.specs.Numbers.{writtenNumbers};
 
@@ -49,5 +51,16 @@ pub(crate) fn gates_in_c(answer: GatesAnswer) -> AnswerNumbers
         GatesAnswer::Failing { port, count } => numbered(refusal, port as u64, count as u64),
         GatesAnswer::BadQueue => numbered(refusal, 0, 0),
         GatesAnswer::ShortBuffer(needed) => numbered(refusal, needed as u64, 0),
+    }
+}
+
+// Of one field: the numbers of a conversion that ends so.
+pub(crate) fn write_in_c(answer: WriteAnswer) -> AnswerNumbers
+    ensures { λ r. ⌜ r ≡ writtenNumbers (writeOf answer) ⌝ }
+{
+    match answer {
+        WriteAnswer::Written(length) => convert_in_c(ConvertAnswer::Written(length)),
+        WriteAnswer::Refused(fault) => convert_in_c(ConvertAnswer::Refused { fault, offset: 0 }),
+        WriteAnswer::ShortBuffer(needed) => convert_in_c(ConvertAnswer::ShortBuffer(needed)),
     }
 }
