@@ -19,9 +19,9 @@ pub extern "C" fn cp_write_header_bytes(guard: u32, top: u32, buffer: &mut [u8])
 
 #[no_mangle]
 pub extern "C" fn cp_write_port_bytes(
-    number: u16,
+    number: u32,
     rate: u32,
-    blocking: u16,
+    blocking: u32,
     buffer: &mut [u8],
 ) -> AnswerNumbers
     ensures { λ r. ⌜
@@ -33,7 +33,7 @@ pub extern "C" fn cp_write_port_bytes(
 }
 
 #[no_mangle]
-pub extern "C" fn cp_write_extra_bytes(number: u16, extra: u16, buffer: &mut [u8]) -> AnswerNumbers
+pub extern "C" fn cp_write_extra_bytes(number: u32, extra: u32, buffer: &mut [u8]) -> AnswerNumbers
     ensures { λ r. ⌜
         (r ≡ writtenNumbers (writeAnswer Kind.extra (number ∷ extra ∷ []) [] (now (buffer .entry))))
         × (now (buffer .exit) ≡ writeLeaves Kind.extra (number ∷ extra ∷ []) [] (now (buffer .entry)))
@@ -44,7 +44,7 @@ pub extern "C" fn cp_write_extra_bytes(number: u16, extra: u16, buffer: &mut [u8
 
 #[no_mangle]
 pub extern "C" fn cp_write_jitter_bytes(
-    number: u16,
+    number: u32,
     jitter: u32,
     buffer: &mut [u8],
 ) -> AnswerNumbers
@@ -73,10 +73,10 @@ pub extern "C" fn cp_write_clocks_bytes(
 
 #[no_mangle]
 pub extern "C" fn cp_write_flow_bytes(
-    number: u16,
+    number: u32,
     period: u32,
-    count: u16,
-    length: u16,
+    count: u32,
+    length: u32,
     route: &[u8],
     buffer: &mut [u8],
 ) -> AnswerNumbers
@@ -107,10 +107,10 @@ pub extern "C" fn cp_write_header2_bytes(
 
 #[no_mangle]
 pub extern "C" fn cp_write_port2_bytes(
-    number: u16,
+    number: u32,
     rate: u32,
-    blocking: u16,
-    extra: u16,
+    blocking: u32,
+    extra: u32,
     buffer: &mut [u8],
 ) -> AnswerNumbers
     ensures { λ r. ⌜
@@ -123,10 +123,10 @@ pub extern "C" fn cp_write_port2_bytes(
 
 #[no_mangle]
 pub extern "C" fn cp_write_flow2_bytes(
-    number: u16,
+    number: u32,
     period: u32,
-    count: u16,
-    length: u16,
+    count: u32,
+    length: u32,
     jitter: u32,
     route: &[u8],
     buffer: &mut [u8],

@@ -1,6 +1,7 @@
 // A flow of either form with its route, a port number a byte. A route of more ports than any form has is refused without being laid.
 use crate::WriteAnswer;
 use crate::field::write_field;
+use crate::narrow::narrow;
 use plan::Fault;
 use plan::Form;
 use plan::layout::FLOW_SIZE;
@@ -24,10 +25,10 @@ const ROUTE: usize = HEAD_SIZE + FLOW_SIZE;
 const ROUTE2: usize = HEAD_SIZE + FLOW2_SIZE;
 
 pub fn write_flow(
-    number: u16,
+    number: u32,
     period: u32,
-    count: u16,
-    length: u16,
+    count: u32,
+    length: u32,
     route: &[u8],
     buffer: &mut [u8],
 ) -> WriteAnswer
@@ -41,17 +42,24 @@ pub fn write_flow(
         return WriteAnswer::Refused(Fault::WrongLength);
     }
     let mut field = [0u8; ROUTE + HOP_SIZE * MOST_HOPS];
-    put_flow(&mut field, number, period, count, length, route);
+    put_flow(
+        &mut field,
+        narrow(number),
+        period,
+        narrow(count),
+        narrow(length),
+        route,
+    );
     let size = ROUTE + HOP_SIZE * hops;
     write_field(Form::Older, &field[..size], buffer)
 }
 
 // The newer form's flow, with its jitter.
 pub fn write_flow2(
-    number: u16,
+    number: u32,
     period: u32,
-    count: u16,
-    length: u16,
+    count: u32,
+    length: u32,
     jitter: u32,
     route: &[u8],
     buffer: &mut [u8],
@@ -66,7 +74,15 @@ pub fn write_flow2(
         return WriteAnswer::Refused(Fault::WrongLength);
     }
     let mut field = [0u8; ROUTE2 + HOP_SIZE * MOST_HOPS];
-    put_flow2(&mut field, number, period, count, length, jitter, route);
+    put_flow2(
+        &mut field,
+        narrow(number),
+        period,
+        narrow(count),
+        narrow(length),
+        jitter,
+        route,
+    );
     let size = ROUTE2 + HOP_SIZE * hops;
     write_field(Form::Newer, &field[..size], buffer)
 }

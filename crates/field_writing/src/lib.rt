@@ -3,6 +3,7 @@
 use plan::Fault;
 
 mod field; // field.rt: a field's bytes, tested as they are read, into a buffer
+mod narrow; // narrow.rt: numbers that are given wider than they are written
 pub mod older; // older.rt: the older form's fields without a route
 pub mod newer; // newer.rt: the newer form's
 pub mod flow; // flow.rt: a flow of either form with its route

@@ -1,6 +1,7 @@
 // The newer form's fields without a route.
 use crate::WriteAnswer;
 use crate::field::write_field;
+use crate::narrow::narrow;
 use numbers::clock::Clock;
 use plan::Form;
 use plan::layout::HEAD_SIZE;
@@ -39,15 +40,21 @@ pub fn write_header2(
 
 // A port with its extra bytes.
 pub fn write_port2(
-    number: u16,
+    number: u32,
     rate: u32,
-    blocking: u16,
-    extra: u16,
+    blocking: u32,
+    extra: u32,
     buffer: &mut [u8],
 ) -> WriteAnswer
     ensures { λ r. ⌜ Writes Kind.port2 (number ∷ rate ∷ blocking ∷ extra ∷ []) [] (now (buffer .entry)) (writeOf r) (now (buffer .exit)) ⌝ }
 {
     let mut field = [0u8; HEAD_SIZE + PORT2_SIZE];
-    put_port2(&mut field, number, rate, blocking, extra);
+    put_port2(
+        &mut field,
+        narrow(number),
+        rate,
+        narrow(blocking),
+        narrow(extra),
+    );
     write_field(Form::Newer, &field, buffer)
 }

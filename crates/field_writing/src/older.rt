@@ -1,6 +1,7 @@
 // The older form's fields without a route.
 use crate::WriteAnswer;
 use crate::field::write_field;
+use crate::narrow::narrow;
 use numbers::clock::Clock;
 use plan::Form;
 use plan::layout::CLOCK_SIZE;
@@ -27,29 +28,29 @@ pub fn write_header(guard: u32, top: u32, buffer: &mut [u8]) -> WriteAnswer
     write_field(Form::Older, &field, buffer)
 }
 
-pub fn write_port(number: u16, rate: u32, blocking: u16, buffer: &mut [u8]) -> WriteAnswer
+pub fn write_port(number: u32, rate: u32, blocking: u32, buffer: &mut [u8]) -> WriteAnswer
     ensures { λ r. ⌜ Writes Kind.port (number ∷ rate ∷ blocking ∷ []) [] (now (buffer .entry)) (writeOf r) (now (buffer .exit)) ⌝ }
 {
     let mut field = [0u8; HEAD_SIZE + PORT_SIZE];
-    put_port(&mut field, number, rate, blocking);
+    put_port(&mut field, narrow(number), rate, narrow(blocking));
     write_field(Form::Older, &field, buffer)
 }
 
 // A port's number and the bytes that it adds to each frame.
-pub fn write_extra(number: u16, extra: u16, buffer: &mut [u8]) -> WriteAnswer
+pub fn write_extra(number: u32, extra: u32, buffer: &mut [u8]) -> WriteAnswer
     ensures { λ r. ⌜ Writes Kind.extra (number ∷ extra ∷ []) [] (now (buffer .entry)) (writeOf r) (now (buffer .exit)) ⌝ }
 {
     let mut field = [0u8; HEAD_SIZE + EXTRA_SIZE];
-    put_extra(&mut field, number, extra);
+    put_extra(&mut field, narrow(number), narrow(extra));
     write_field(Form::Older, &field, buffer)
 }
 
 // A flow's number and its release jitter.
-pub fn write_jitter(number: u16, jitter: u32, buffer: &mut [u8]) -> WriteAnswer
+pub fn write_jitter(number: u32, jitter: u32, buffer: &mut [u8]) -> WriteAnswer
     ensures { λ r. ⌜ Writes Kind.jitter (number ∷ jitter ∷ []) [] (now (buffer .entry)) (writeOf r) (now (buffer .exit)) ⌝ }
 {
     let mut field = [0u8; HEAD_SIZE + JITTER_SIZE];
-    put_jitter(&mut field, number, jitter);
+    put_jitter(&mut field, narrow(number), jitter);
     write_field(Form::Older, &field, buffer)
 }
 

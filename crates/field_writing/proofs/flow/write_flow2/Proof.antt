@@ -2,7 +2,8 @@
 -- form.
 use Prim.Native.Nat.{_+_, _*_}
 use mathlib.Core.Path.{refl, ap, _∙_}
-use mathlib.Core.List.{List, [], _∷_}
+use mathlib.Core.List.{[], _∷_}
+use mathlib.Core.Logic.{inl}
 use native.Mathlib.Omega.{arith}
 use borrow.Author.Needs.{needs}
 use denote.Ref.{now}
@@ -13,29 +14,41 @@ use Rattle.writing.specs.Fields.{allowedBytes}
 use Rattle.writing.specs.laws.Fields.{route-named, flow2-length}
 use Rattle.field_writing.specs.laws.Whole.{refused-writes, laid-front, alone-writes}
 use Rattle.field_writing.specs.laws.Long.{long-refused}
+use Rattle.field_writing.specs.laws.Narrow.{narrowed-stands, none, more, narrow-writes, flow-short, count-short, length-short}
 use Rattle.field_writing.proofs.flow.write_flow2.Statement.{statement}
 use Rattle.field_writing.proofs.flow.write_flow2.Tie as tie
 
 returns : tie.Need-returns
-returns c = refused-writes newer _ _ 4 0 (long-refused Kind.flow2 _ (now (c .before .before .before .args .route)) refl 23 refl (omega arith) (omega arith))
+returns c = refused-writes newer _ _ 4 0 (long-refused Kind.flow2 _ (now (c .before .before .before .args .route)) 23 refl refl (omega arith) (omega arith))
 
 slice-aggregate-write-field : tie.Need-slice-aggregate-write-field
 slice-aggregate-write-field c =
-    let a = c .before .before .before .before .before .before .before .args in
-    omega (arith, length-take (17 + 2 * length (now (a .route))) (c .before .before .put-flow2 .last .0), c .before .field2 .given)
+    let put = c .before .before in
+    let a = put .before .before .before .before .before .before .before .before .args in
+    omega (arith, length-take (17 + 2 * length (now (a .route))) (put .put-flow2 .last .0), c .before .field2 .given)
 
 returns-2 : tie.Need-returns-2
 returns-2 c =
     let put = c .before .before .before .before .before .before in
-    let a = put .before .before .before .before .before .args in
+    let a = put .before .before .before .before .before .before .before .before .args in
+    let number = put .before .before .before .narrow in
+    let count = put .before .before .narrow2 in
+    let bytes = put .before .narrow3 in
     let r = now (a .route) in
-    let ns = a .number ∷ a .period ∷ a .count ∷ a .length ∷ a .jitter ∷ [] in
+    let ms = number .result ∷ a .period ∷ count .result ∷ bytes .result ∷ a .jitter ∷ [] in
     let size = 17 + 2 * length r in
-    alone-writes Kind.flow2 ns r (now (a .buffer))
+    narrow-writes Kind.flow2 (a .number ∷ a .period ∷ a .count ∷ a .length ∷ a .jitter ∷ []) ms r (now (a .buffer))
+    (more (narrowed-stands _ flow-short (a .number) (number .ensures))
+    (more (inl refl)
+    (more (narrowed-stands _ count-short (a .count) (count .ensures))
+    (more (narrowed-stands _ length-short (a .length) (bytes .ensures))
+    (more (inl refl) none)))))
+    (alone-writes Kind.flow2 ms r (now (a .buffer))
     (ap (take size) (put .put-flow2 .ensures)
-    ∙ laid-front (allowedBytes Kind.flow2 ns r) _ size (omega (arith, flow2-length (a .number) (a .period) (a .count) (a .length) r (omega arith) (a .jitter))) (omega arith)
-    ∙ route-named Kind.flow2 ns r (omega arith))
-    (c .before .before .write-field .ensures)
+    ∙ laid-front (allowedBytes Kind.flow2 ms r) _ size
+    (omega (arith, flow2-length (number .result) (a .period) (count .result) (bytes .result) r (omega arith) (a .jitter))) (omega arith)
+    ∙ route-named Kind.flow2 ms r (omega arith))
+    (c .before .before .write-field .ensures))
 
 pub write-flow2-spec : {M : Type 1} → statement M
 write-flow2-spec =
@@ -43,6 +56,9 @@ write-flow2-spec =
     (tie.spec
     returns
     (λ c. search needs)
+    (λ c κs. search needs)
+    (λ c κs. search needs)
+    (λ c κs. search needs)
     (λ c κs. search needs)
     (λ c. search needs)
     (λ c. search needs)
