@@ -33,12 +33,13 @@
 #define CP_SPARES 64
 
 /* In bytes: the longest plan that a load takes; what any plan that a load left is saved as, at most; what cp_upgrade and cp_downgrade
- * write, at most; the longest gate list. */
+ * write, at most; the longest gate list; the longest field. */
 #define CP_MAX_PLAN 16384
 #define CP_MAX_SAVED 16384
 #define CP_MAX_UPGRADED 13399
 #define CP_MAX_DOWNGRADED 15002
 #define CP_MAX_GATES 48
+#define CP_MAX_FIELD 65
 
 /* Ports, flows and slots of a batch are numbered from 1, 1 and 0. */
 #define CP_PORTS 64
@@ -177,6 +178,15 @@ cp_answer cp_upgrade_bytes(const uint8_t *plan, size_t length, uint8_t *buffer, 
 cp_answer cp_downgrade_bytes(const uint8_t *plan, size_t length, uint8_t *buffer, size_t room);
 cp_field_read cp_field_bytes(const uint8_t *plan, size_t length, size_t offset);
 uint8_t cp_repeats_bytes(uint32_t tag, const uint8_t *value, size_t length);
+cp_answer cp_write_header_bytes(uint32_t guard, uint32_t top, uint8_t *buffer, size_t room);
+cp_answer cp_write_port_bytes(uint32_t number, uint32_t rate, uint32_t blocking, uint8_t *buffer, size_t room);
+cp_answer cp_write_flow_bytes(uint32_t number, uint32_t period, uint32_t count, uint32_t length, const uint8_t *route, size_t hops, uint8_t *buffer, size_t room);
+cp_answer cp_write_extra_bytes(uint32_t number, uint32_t extra, uint8_t *buffer, size_t room);
+cp_answer cp_write_jitter_bytes(uint32_t number, uint32_t jitter, uint8_t *buffer, size_t room);
+cp_answer cp_write_clocks_bytes(uint32_t drift, uint32_t timing_jitter, uint32_t sync_error, uint8_t *buffer, size_t room);
+cp_answer cp_write_header2_bytes(uint32_t guard, uint32_t top, uint32_t drift, uint32_t timing_jitter, uint32_t sync_error, uint8_t *buffer, size_t room);
+cp_answer cp_write_port2_bytes(uint32_t number, uint32_t rate, uint32_t blocking, uint32_t extra, uint8_t *buffer, size_t room);
+cp_answer cp_write_flow2_bytes(uint32_t number, uint32_t period, uint32_t count, uint32_t length, uint32_t jitter, const uint8_t *route, size_t hops, uint8_t *buffer, size_t room);
 
 /* The columns in the order of CP_LENT. Nothing proves that this and the library name the same ones: tests/header/layout holds them
  * against each other. */
@@ -370,6 +380,56 @@ static inline cp_field_read cp_field(const uint8_t *plan, size_t length, size_t 
 static inline uint8_t cp_repeats(uint32_t tag, const uint8_t *value, size_t length) {
   const uint8_t none = 0;
   return cp_repeats_bytes(tag, length == 0 ? &none : value, length);
+}
+
+/* The writers of single fields, for a plan that is put together field by field. Each writes its field over the first bytes of the buffer
+ * given: give it what remains of yours, and go on behind the length that it answers. Every number has 32 bits here, also where the field
+ * has 2 bytes for it: one that does not fit is out of range, and never cut. A route is a row of port numbers, a byte each; the field has 2
+ * for each. Result: first = the length written, second = 0; the bytes behind it remain. Refusal, as reading the field would be refused: 4,
+ * a route of no port, or of more than the form allows, 16 in cp_write_flow and 24 in cp_write_flow2; 5, a number out of its range; 7, a
+ * port twice in the route; in this order: 0, 0. Then 13, the buffer is shorter than the field: first = the length needed, at most
+ * CP_MAX_FIELD, second = 0. A refusal writes nothing. What the fields of a plan say together, refusals 6, 8, 9 and 12, its load tells. */
+/* The older form's fields, tags 1 to 6. */
+static inline cp_answer cp_write_header(uint32_t guard, uint32_t top, uint8_t *buffer, size_t room) {
+  uint8_t none = 0;
+  return cp_write_header_bytes(guard, top, room == 0 ? &none : buffer, room);
+}
+static inline cp_answer cp_write_port(uint32_t number, uint32_t rate, uint32_t blocking, uint8_t *buffer, size_t room) {
+  uint8_t none = 0;
+  return cp_write_port_bytes(number, rate, blocking, room == 0 ? &none : buffer, room);
+}
+static inline cp_answer cp_write_flow(uint32_t number, uint32_t period, uint32_t count, uint32_t length,
+                                      const uint8_t *route, size_t hops, uint8_t *buffer, size_t room) {
+  uint8_t none = 0;
+  return cp_write_flow_bytes(number, period, count, length, hops == 0 ? &none : route, hops, room == 0 ? &none : buffer, room);
+}
+static inline cp_answer cp_write_extra(uint32_t number, uint32_t extra, uint8_t *buffer, size_t room) {
+  uint8_t none = 0;
+  return cp_write_extra_bytes(number, extra, room == 0 ? &none : buffer, room);
+}
+static inline cp_answer cp_write_jitter(uint32_t number, uint32_t jitter, uint8_t *buffer, size_t room) {
+  uint8_t none = 0;
+  return cp_write_jitter_bytes(number, jitter, room == 0 ? &none : buffer, room);
+}
+static inline cp_answer cp_write_clocks(uint32_t drift, uint32_t timing_jitter, uint32_t sync_error, uint8_t *buffer, size_t room) {
+  uint8_t none = 0;
+  return cp_write_clocks_bytes(drift, timing_jitter, sync_error, room == 0 ? &none : buffer, room);
+}
+/* The newer form's, tags 0x11 to 0x13. */
+static inline cp_answer cp_write_header2(uint32_t guard, uint32_t top, uint32_t drift, uint32_t timing_jitter, uint32_t sync_error,
+                                         uint8_t *buffer, size_t room) {
+  uint8_t none = 0;
+  return cp_write_header2_bytes(guard, top, drift, timing_jitter, sync_error, room == 0 ? &none : buffer, room);
+}
+static inline cp_answer cp_write_port2(uint32_t number, uint32_t rate, uint32_t blocking, uint32_t extra,
+                                       uint8_t *buffer, size_t room) {
+  uint8_t none = 0;
+  return cp_write_port2_bytes(number, rate, blocking, extra, room == 0 ? &none : buffer, room);
+}
+static inline cp_answer cp_write_flow2(uint32_t number, uint32_t period, uint32_t count, uint32_t length, uint32_t jitter,
+                                       const uint8_t *route, size_t hops, uint8_t *buffer, size_t room) {
+  uint8_t none = 0;
+  return cp_write_flow2_bytes(number, period, count, length, jitter, hops == 0 ? &none : route, hops, room == 0 ? &none : buffer, room);
 }
 
 #ifdef __cplusplus

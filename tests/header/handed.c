@@ -7,7 +7,7 @@ static cp_planner planner;
 static cp_span_record list[3];
 
 /* What the stand-in that was called last was handed: the numbers, and the slices with their lengths and how they are aligned. */
-static uint64_t numbers[4];
+static uint64_t numbers[5];
 static size_t given, slices, lengths_seen[2], off[2];
 static const void *starts[2];
 static const char *call;
@@ -54,6 +54,24 @@ static void column(const char *name, const void *got, size_t offset) {
     begin(#NAME), SLICE(plan, length), SLICE(buffer, room);                                                                       \
     return answer(1, 2, 3);                                                                                                       \
   }
+#define GIVEN2 uint32_t a, uint32_t b
+#define GIVEN3 GIVEN2, uint32_t c
+#define GIVEN4 GIVEN3, uint32_t d
+#define GIVEN5 GIVEN4, uint32_t e
+#define NUMBERS2 number(a), number(b)
+#define NUMBERS3 NUMBERS2, number(c)
+#define NUMBERS4 NUMBERS3, number(d)
+#define NUMBERS5 NUMBERS4, number(e)
+#define WRITER(NAME, COUNT)                                                                                                       \
+  cp_answer cp_write_##NAME##_bytes(GIVEN##COUNT, uint8_t *buffer, size_t room) {                                                 \
+    begin(#NAME), NUMBERS##COUNT, SLICE(buffer, room);                                                                            \
+    return answer(1, 2, 3);                                                                                                       \
+  }
+#define ROUTED(NAME, COUNT)                                                                                                       \
+  cp_answer cp_write_##NAME##_bytes(GIVEN##COUNT, const uint8_t *route, size_t hops, uint8_t *buffer, size_t room) {              \
+    begin(#NAME), NUMBERS##COUNT, SLICE(route, hops), SLICE(buffer, room);                                                        \
+    return answer(1, 2, 3);                                                                                                       \
+  }
 
 void cp_clear_columns(CP_LENT()) { COLUMNS("clear"); }
 LOAD(load)
@@ -68,6 +86,15 @@ LENDING(spans, cp_span_record)
 LENDING(save, uint8_t)
 CONVERTER(upgrade)
 CONVERTER(downgrade)
+WRITER(header, 2)
+WRITER(port, 3)
+ROUTED(flow, 4)
+WRITER(extra, 2)
+WRITER(jitter, 2)
+WRITER(clocks, 3)
+WRITER(header2, 5)
+WRITER(port2, 4)
+ROUTED(flow2, 5)
 cp_slack_answer cp_slack_columns(CP_LENT(const), uint64_t port, uint64_t duration) {
   COLUMNS("slack"), number(port), number(duration);
   return (cp_slack_answer){1, -2};
@@ -130,6 +157,20 @@ static void lending(void *start, size_t length) {
   same_answer("batch_place", cp_batch_place(batch, 12, start, length).answer, answer(1, 2, 3)), handed(2, 1, want);
 }
 
+/* The same of the writers of single fields. */
+static void writing(void *start, size_t length) {
+  const void *want = length == 0 ? NULL : start;
+  same_answer("write_header", cp_write_header(11, 12, start, length), answer(1, 2, 3)), handed(2, 1, want);
+  same_answer("write_port", cp_write_port(11, 12, 13, start, length), answer(1, 2, 3)), handed(3, 1, want);
+  same_answer("write_flow", cp_write_flow(11, 12, 13, 14, start, length, start, length), answer(1, 2, 3)), handed(4, 2, want);
+  same_answer("write_extra", cp_write_extra(11, 12, start, length), answer(1, 2, 3)), handed(2, 1, want);
+  same_answer("write_jitter", cp_write_jitter(11, 12, start, length), answer(1, 2, 3)), handed(2, 1, want);
+  same_answer("write_clocks", cp_write_clocks(11, 12, 13, start, length), answer(1, 2, 3)), handed(3, 1, want);
+  same_answer("write_header2", cp_write_header2(11, 12, 13, 14, 15, start, length), answer(1, 2, 3)), handed(5, 1, want);
+  same_answer("write_port2", cp_write_port2(11, 12, 13, 14, start, length), answer(1, 2, 3)), handed(4, 1, want);
+  same_answer("write_flow2", cp_write_flow2(11, 12, 13, 14, 15, start, length, start, length), answer(1, 2, 3)), handed(5, 2, want);
+}
+
 int main(void) {
   cp_clear(&planner), handed(0, 0, NULL);
   same_answer("check", cp_check(&planner, 11), answer(1, 2, 3)), handed(1, 0, NULL);
@@ -137,8 +178,11 @@ int main(void) {
   same_slack("slack", cp_slack(&planner, 11, 12), 1, -2), handed(2, 0, NULL);
   same_steps("fixed_point", cp_fixed_point(&planner, 11, 12), answer(1, 2, 3), 4), handed(2, 0, NULL);
   lending(list, 3);
+  writing(list, 3);
   lending(list + 1, 0);
+  writing(list + 1, 0);
   lending(NULL, 0);
+  writing(NULL, 0);
   printf("handed: %u passed, %u failed\n", passed, failed);
   return failed != 0;
 }

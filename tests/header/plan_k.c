@@ -12,6 +12,7 @@
 #include "spans.h"
 #include "newer.h"
 #include "null.h"
+#include "fields.h"
 
 _Static_assert(sizeof(cp_planner) == 9944, "a planner has 9,944 bytes");
 _Static_assert(offsetof(cp_planner, clock) == 12, "clocks come after top");
@@ -129,6 +130,7 @@ int main(void) {
   fields();
   newer(k);
   nulls(none, k);
+  written_fields();
   printf("header: %u passed, %u failed\n", passed, failed);
   return failed != 0;
 }

@@ -80,6 +80,21 @@ extern "C" {
     fn cp_repeats_bytes(tag: u32, value: *const u8, length: usize) -> u8;
     fn cp_upgrade_bytes(plan: *const u8, length: usize, buffer: *mut u8, room: usize) -> Answer;
     fn cp_downgrade_bytes(plan: *const u8, length: usize, buffer: *mut u8, room: usize) -> Answer;
+    fn cp_write_header_bytes(guard: u32, top: u32, buffer: *mut u8, room: usize) -> Answer;
+    fn cp_write_port_bytes(number: u32, rate: u32, blocking: u32, buffer: *mut u8, room: usize) -> Answer;
+    fn cp_write_flow_bytes(
+        number: u32, period: u32, count: u32, length: u32, route: *const u8, hops: usize, buffer: *mut u8, room: usize,
+    ) -> Answer;
+    fn cp_write_extra_bytes(number: u32, extra: u32, buffer: *mut u8, room: usize) -> Answer;
+    fn cp_write_jitter_bytes(number: u32, jitter: u32, buffer: *mut u8, room: usize) -> Answer;
+    fn cp_write_clocks_bytes(drift: u32, timing_jitter: u32, sync_error: u32, buffer: *mut u8, room: usize) -> Answer;
+    fn cp_write_header2_bytes(
+        guard: u32, top: u32, drift: u32, timing_jitter: u32, sync_error: u32, buffer: *mut u8, room: usize,
+    ) -> Answer;
+    fn cp_write_port2_bytes(number: u32, rate: u32, blocking: u32, extra: u32, buffer: *mut u8, room: usize) -> Answer;
+    fn cp_write_flow2_bytes(
+        number: u32, period: u32, count: u32, length: u32, jitter: u32, route: *const u8, hops: usize, buffer: *mut u8, room: usize,
+    ) -> Answer;
 }
 
 /// The planner that holds no plan, set over bytes that were none of 0.
@@ -188,4 +203,23 @@ pub fn upgrade(plan: &[u8], buffer: &mut [u8]) -> Answer {
 
 pub fn downgrade(plan: &[u8], buffer: &mut [u8]) -> Answer {
     unsafe { cp_downgrade_bytes(plan.as_ptr(), plan.len(), buffer.as_mut_ptr(), buffer.len()) }
+}
+
+/// The writer of a tag, with its numbers in their order.
+pub fn write(tag: u8, n: &[u32], route: &[u8], buffer: &mut [u8]) -> Answer {
+    let (start, room) = (buffer.as_mut_ptr(), buffer.len());
+    let (ports, hops) = (route.as_ptr(), route.len());
+    unsafe {
+        match tag {
+            0x01 => cp_write_header_bytes(n[0], n[1], start, room),
+            0x02 => cp_write_port_bytes(n[0], n[1], n[2], start, room),
+            0x03 => cp_write_flow_bytes(n[0], n[1], n[2], n[3], ports, hops, start, room),
+            0x04 => cp_write_extra_bytes(n[0], n[1], start, room),
+            0x05 => cp_write_jitter_bytes(n[0], n[1], start, room),
+            0x06 => cp_write_clocks_bytes(n[0], n[1], n[2], start, room),
+            0x11 => cp_write_header2_bytes(n[0], n[1], n[2], n[3], n[4], start, room),
+            0x12 => cp_write_port2_bytes(n[0], n[1], n[2], n[3], start, room),
+            _ => cp_write_flow2_bytes(n[0], n[1], n[2], n[3], n[4], ports, hops, start, room),
+        }
+    }
 }

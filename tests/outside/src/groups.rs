@@ -37,6 +37,7 @@ mod steps_k;
 pub mod strict;
 mod strict_k;
 mod worked;
+pub mod written;
 
 use crate::answers::{Answer, Planner};
 use crate::ffi;

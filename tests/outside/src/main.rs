@@ -20,12 +20,13 @@ const SEED: u64 = 20_261_115;
 const CASES: u64 = 1_500;
 
 /// A group's name, its share of the cases in hundredths, and its body.
-const GROUPS: [(&str, u64, fn(&mut Tally)); 22] = [
+const GROUPS: [(&str, u64, fn(&mut Tally)); 23] = [
     ("reading", 60, alone::reading::run),
     ("converting", 60, alone::converting::run),
     ("known", 100, groups::known::run),
     ("model", 20, groups::model::run),
     ("fields", 100, groups::fields::run),
+    ("written", 60, groups::written::run),
     ("loads", 400, groups::loads::run),
     ("strict", 200, groups::strict::run),
     ("save", 60, groups::save::run),

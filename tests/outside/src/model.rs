@@ -13,6 +13,7 @@ pub mod spans;
 pub mod tables;
 pub mod usable;
 pub mod values;
+pub mod write;
 
 use crate::answers::{Answer, SlackAnswer};
 use std::collections::BTreeMap;
