@@ -172,6 +172,7 @@ cp_fixed_point_answer cp_fixed_point_columns(CP_LENT(const), uint64_t start, uin
 cp_answer cp_reprice_columns(CP_LENT(const), uint64_t duration, uint64_t flow, uint64_t length, int64_t *out, size_t size);
 cp_answer cp_span_columns(CP_LENT(const), uint64_t duration);
 cp_answer cp_spans_columns(CP_LENT(const), cp_span_record *list, size_t size);
+cp_answer cp_nearest_columns(CP_LENT(const), uint64_t duration);
 cp_answer cp_save_columns(CP_LENT(const), uint8_t *buffer, size_t length);
 cp_answer cp_gates_columns(CP_LENT(const), uint64_t duration, uint64_t even, uint64_t odd, uint8_t *buffer, size_t length);
 cp_answer cp_upgrade_bytes(const uint8_t *plan, size_t length, uint8_t *buffer, size_t room);
@@ -282,6 +283,13 @@ static inline cp_answer cp_span(const cp_planner *planner, uint64_t duration) {
 static inline cp_answer cp_spans(const cp_planner *planner, cp_span_record *list, size_t size) {
   cp_span_record none = {0, 0};
   return cp_spans_columns(CP_COLUMNS(planner), size == 0 ? &none : list, size);
+}
+
+/* The nearest admissible durations. Result: first = the largest one at or below a duration, second = the least one at or above it,
+ * each 0 where there is none; both are the duration itself where it is admissible. Refusal 20, 10 (a duration outside 1 to top):
+ * 0, 0. */
+static inline cp_answer cp_nearest(const cp_planner *planner, uint64_t duration) {
+  return cp_nearest_columns(CP_COLUMNS(planner), duration);
 }
 
 /* The held plan written into the buffer in the form in which it was read: its fields in strict order, in the older form without those

@@ -78,6 +78,7 @@ LOAD(load)
 LOAD(load_strict)
 DURATION(check)
 DURATION(span)
+DURATION(nearest)
 LENDING(least, uint64_t)
 LENDING(margin_safe, uint64_t)
 LENDING(lean_least, uint64_t)
@@ -175,6 +176,7 @@ int main(void) {
   cp_clear(&planner), handed(0, 0, NULL);
   same_answer("check", cp_check(&planner, 11), answer(1, 2, 3)), handed(1, 0, NULL);
   same_answer("span", cp_span(&planner, 11), answer(1, 2, 3)), handed(1, 0, NULL);
+  same_answer("nearest", cp_nearest(&planner, 11), answer(1, 2, 3)), handed(1, 0, NULL);
   same_slack("slack", cp_slack(&planner, 11, 12), 1, -2), handed(2, 0, NULL);
   same_steps("fixed_point", cp_fixed_point(&planner, 11, 12), answer(1, 2, 3), 4), handed(2, 0, NULL);
   lending(list, 3);

@@ -10,6 +10,7 @@
 #include "reprice.h"
 #include "batch.h"
 #include "spans.h"
+#include "nearest.h"
 #include "newer.h"
 #include "null.h"
 #include "fields.h"
@@ -127,6 +128,7 @@ int main(void) {
   repricing(cleared(), k);
   batches();
   spans(cleared(), k);
+  nearest(cleared(), k);
   fields();
   newer(k);
   nulls(none, k);

@@ -48,6 +48,7 @@ mod raw {
         cp_reprice_columns as reprice(duration: u64, flow: u64, length: u64, out: *mut i64, size: usize) -> Answer;
         cp_span_columns as span(duration: u64) -> Answer;
         cp_spans_columns as spans(list: *mut SpanRecord, size: usize) -> Answer;
+        cp_nearest_columns as nearest(duration: u64) -> Answer;
         cp_save_columns as save(buffer: *mut u8, length: usize) -> Answer;
         cp_gates_columns as gates(duration: u64, even: u64, odd: u64, buffer: *mut u8, length: usize) -> Answer;
     }
@@ -155,6 +156,10 @@ pub fn reprice(planner: &Planner, duration: u64, flow: u64, length: u64, list: &
 
 pub fn span(planner: &Planner, duration: u64) -> Answer {
     unsafe { raw::span(planner, duration) }
+}
+
+pub fn nearest(planner: &Planner, duration: u64) -> Answer {
+    unsafe { raw::nearest(planner, duration) }
 }
 
 pub fn spans(planner: &Planner, list: &mut [SpanRecord]) -> Answer {

@@ -20,6 +20,7 @@ pub mod lighter;
 mod lighter_k;
 pub mod loads;
 pub mod model;
+pub mod nearest;
 mod newer_fields;
 pub mod order;
 pub mod questions;

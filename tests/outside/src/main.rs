@@ -35,6 +35,7 @@ const GROUPS: [(&str, u64, fn(&mut Tally)); 23] = [
     ("searches", 100, groups::searches::run),
     ("steps", 100, groups::steps::run),
     ("spans", 40, groups::spans::run),
+    ("nearest", 40, groups::nearest::run),
     ("gates", 60, groups::gates::run),
     ("reprice", 60, groups::reprice::run),
     ("batch", 20, groups::batch::run),

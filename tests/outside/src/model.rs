@@ -6,6 +6,7 @@ pub mod field;
 pub mod fixed_point;
 pub mod gates;
 pub mod lighter;
+pub mod nearest;
 pub mod read;
 pub mod reprice;
 pub mod save;
