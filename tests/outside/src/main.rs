@@ -20,7 +20,7 @@ const SEED: u64 = 20_261_115;
 const CASES: u64 = 1_500;
 
 /// A group's name, its share of the cases in hundredths, and its body.
-const GROUPS: [(&str, u64, fn(&mut Tally)); 23] = [
+const GROUPS: [(&str, u64, fn(&mut Tally)); 24] = [
     ("reading", 60, alone::reading::run),
     ("converting", 60, alone::converting::run),
     ("known", 100, groups::known::run),
