@@ -12,10 +12,12 @@ mod figures;
 mod found;
 mod jump;
 mod lean;
+mod most_spans;
 mod paper;
 mod plans;
 mod reader;
 mod scan;
+mod search;
 mod spans;
 mod usable;
 mod valid;
@@ -275,6 +277,7 @@ fn main() {
             }
         }
         ["paper"] => figures::print(),
+        ["search", limit, seed] => search::print(limit, seed),
         ["loads"] => loads.iter().for_each(|plan| println!("{} {}", plan.0, plan.1.len())),
         ["bytes", name] => {
             let bytes = loaded(name).unwrap_or_else(|| &searched(name).bytes);
@@ -289,6 +292,6 @@ fn main() {
         }
         [part @ ("reprice" | "slacks"), name] => reprice(&searched(name).bytes, part),
         [part, name] => search(searched(name), part),
-        _ => panic!("searches, usable, loads, paper, bytes PLAN, or PART PLAN"),
+        _ => panic!("searches, usable, loads, paper, search SECONDS SEED, bytes PLAN, or PART PLAN"),
     }
 }

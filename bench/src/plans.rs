@@ -1,6 +1,6 @@
 //! The plans that are measured, as bytes.
 
-use crate::found;
+use crate::{found, most_spans};
 
 /// How a plan is measured: its name, its bytes, and how many durations the scan tries at most.
 pub struct Case {
@@ -169,21 +169,6 @@ fn spread() -> Vec<u8> {
     alike_ports(1, &flows)
 }
 
-/// The most spans found: a port whose slack stays around 0 for the last 30 ms.
-fn most_spans() -> Vec<u8> {
-    let mut plan = Vec::new();
-    header(&mut plan, 0, 100_000_000);
-    port(&mut plan, 1, found::SPREAD_RATE, 0);
-    let spread = (0..found::SPREAD).map(|_| found::SPREAD_PERIOD);
-    for (slot, period) in spread.chain(found::SPREAD_LATE).enumerate() {
-        flow(&mut plan, slot as u16 + 1, period, 64, &[1]);
-    }
-    for slot in 0..found::SPREAD {
-        jitter(&mut plan, slot as u16 + 1, slot * found::SPREAD_PERIOD / found::SPREAD);
-    }
-    plan
-}
-
 /// The same flows over each group of 16 ports, with blockers that rise from port to port.
 fn many_ports() -> Vec<u8> {
     let mut plan = Vec::new();
@@ -231,7 +216,7 @@ pub fn usable() -> Vec<Case> {
         case.timed |= matches!(case.name, "up-one-port" | "down-one-port");
     }
     cases.extend([more("K-with-all", k_with_all(), false), more("one-ns-gap", one_ns_gap(), false)]);
-    cases.extend([more("full-port", full_port(), false), more("most-spans", most_spans(), true)]);
+    cases.extend([more("full-port", full_port(), false), more("most-spans", most_spans::plan(), true)]);
     cases
 }
 
