@@ -3,3 +3,4 @@ pub mod Writes
 pub mod Answer
 pub mod Narrow
 pub mod laws
+pub mod results

@@ -3,3 +3,4 @@ pub mod Whole
 pub mod Back
 pub mod Long
 pub mod Narrow
+pub mod Accepted

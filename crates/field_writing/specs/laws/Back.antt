@@ -20,7 +20,7 @@ module _ (front v : List ℕ) where
   byte-behind : (i j : ℕ) → j ≡ length front + i → byteAt (front ++ v) j ≡ byteAt v i
   byte-behind i j e = rw e (getD-append-add front v i 0)
 
-  behind2 : (i j : ℕ) → j ≡ length front + i → number2 (front ++ v) j ≡ number2 v i
+  pub behind2 : (i j : ℕ) → j ≡ length front + i → number2 (front ++ v) j ≡ number2 v i
   unfolding number2
   behind2 i j e = rw (byte-behind i j e, byte-behind (i + 1) (j + 1) (omega arith))
 
@@ -55,7 +55,7 @@ numbers-back (c ∷ cs) (n ∷ ns) v e =
     ap (λ (l : List ℕ). numbersAt (c ∷ cs) l 0) (append-assoc bs (numbersBytes cs ns) v)
     ∙ ap₂ _∷_ (first-back (c .width) n rest) (all-behind bs rest cs 0 (0 + bytesIn (c .width)) at ∙ numbers-back cs ns v (omega arith))
 
-numbers-long : (cs : List Number) (ns : List ℕ) → length ns ≡ length cs → length (numbersBytes cs ns) ≡ widths cs
+pub numbers-long : (cs : List Number) (ns : List ℕ) → length ns ≡ length cs → length (numbersBytes cs ns) ≡ widths cs
 numbers-long [] ns e = refl
 numbers-long (c ∷ cs) [] e = absurd (omega arith)
 numbers-long (c ∷ cs) (n ∷ ns) e =
@@ -79,7 +79,7 @@ module _ (k : Kind) (ns r : List ℕ) (many : length ns ≡ length (layout k .nu
   unfolding bytesOf
   whole-back = whole (routedBytes k ns r) 0 (omega (arith, size-back, value-long))
 
-  value-back : valueAt (routedBytes k ns r) 0 ≡ valueOf alone r
+  pub value-back : valueAt (routedBytes k ns r) 0 ≡ valueOf alone r
   unfolding bytesOf valueAt
   value-back = take-all (sizeAt (routedBytes k ns r) 0) (valueOf alone r) (omega (arith, size-back, value-long))
 

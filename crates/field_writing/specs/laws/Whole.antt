@@ -56,7 +56,7 @@ module _ (form : Form) (bs buffer : List ℕ) where
         → answer ≡ writtenAnswer bs buffer
         → exit ≡ laid bs buffer
         → WritesBytes form bs buffer answer exit
-    good-writes f a l = (a ∙ by-route false f, l ∙ laid-written bs buffer ∙ ap (writtenLeaves bs buffer) (by-route false f))
+    good-writes f {answer} {exit} a l = (a ∙ by-route false f, l ∙ laid-written bs buffer ∙ ap (writtenLeaves bs buffer) (by-route false f))
 
 -- bytes laid into an array of as many are those bytes, and into a longer one its first ones
 pub laid-alone : (bs array : List ℕ) → length bs ≡ length array → laid bs array ≡ bs

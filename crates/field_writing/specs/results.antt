@@ -1,0 +1,2 @@
+-- What holds of a field that is written.
+pub mod ReadBack
