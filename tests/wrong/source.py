@@ -28,18 +28,18 @@ class Function:
 
 
 def functions_of(file, text):
-    """Each function of a file in the layout of rt fmt."""
-    found, name, first, start, at = [], None, 0, None, 0
+    """Each function of a file in the layout of rt fmt, with the attribute above it."""
+    found, name, first, start, at, above = [], None, 0, None, 0, ""
     for number, line in enumerate(text.split("\n"), 1):
         head = HEAD.match(line)
         if head:
-            name, first, start = head[1], number, None
+            name, first, start = head[1], number - above.startswith("#["), None
         if name and start is None and (line == "{" or (line.endswith(" {") and not line[:1].isspace())):
             start = at + len(line)
         elif name and start is not None and line == "}":
             found.append(Function(file, name, first, number, start, at, text))
             name = None
-        at += len(line) + 1
+        at, above = at + len(line) + 1, line
     return found
 
 
