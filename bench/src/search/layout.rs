@@ -75,7 +75,7 @@ impl Layout {
         let mut lengths = Vec::new();
         for left in (1..=round.sets).rev() {
             let even = rest / left;
-            let length = if left == 1 { rest } else { even - (even + sharing - 1) % sharing };
+            let length = if left == 1 { rest } else { even.saturating_sub((even + sharing - 1) % sharing) };
             lengths.push(length);
             rest -= length;
         }
