@@ -45,6 +45,21 @@ class Edit:
         return texts
 
 
+def together(each):
+    """The files that several edits change, with what all of them change: each a line or more, and no two of them the same one."""
+    texts = {}
+    for path in {path for changed in each for path in changed}:
+        lines = path.read_text().split("\n")
+        others = [changed[path].split("\n") for changed in each if path in changed]
+        for number, line in enumerate(lines[:]):
+            new = {other[number] for other in others} - {line}
+            if len(new) > 1:
+                raise Bad(f"two of them change one line of {path.name}")
+            lines[number] = new.pop() if new else line
+        texts[path] = "\n".join(lines)
+    return texts
+
+
 def standing(root):
     """Every edit of the tree: those of must-fail, which rt ci tries from nothing too, and those beside this file."""
     edits = [Edit(path, path.parts[-3]) for path in sorted(root.glob("crates/*/must-fail/*.edit"))]

@@ -4,6 +4,8 @@ import os
 import shutil
 import subprocess
 
+import edits
+
 LIMIT = "1200"  # seconds for one check
 
 
@@ -48,10 +50,10 @@ class Tree:
         """What the prover says of the crate with these edits, and with these files empty; all files are as before then."""
         folder, before = self.top / "crates" / group[0].crate, {}
         try:
-            for edit in group:
-                for path, text in edit.applied(folder).items():
-                    before.setdefault(path, path.read_text())
-                    path.write_text(text)
+            changed = edits.together([edit.applied(folder) for edit in group])
+            for path, text in changed.items():
+                before[path] = path.read_text()
+                path.write_text(text)
             for path in [folder / file for file in empty]:
                 before.setdefault(path, path.read_text())
                 path.write_text("")
