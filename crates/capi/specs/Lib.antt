@@ -1,5 +1,6 @@
 -- The outcomes of the calls as numbers, as include/cycle_planner.h tells them.
 pub mod Numbers
+pub mod Emission
 pub mod Meaning
 pub mod Loads
 pub mod laws

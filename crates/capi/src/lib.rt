@@ -17,6 +17,8 @@ ghost use Rattle.capi.specs.Numbers.{loadNumbers, stepsNumbers, writtenN
 mod answer_numbers; // answer_numbers.rt: each answer as numbers
 mod asked; // asked.rt: questions about one duration
 mod batch_numbers; // batch_numbers.rt: those of the calls of a batch
+mod emission; // emission.rt: the bad emission
+mod emission_numbers; // emission_numbers.rt: those of the calls for it
 mod fields; // fields.rt: the writers of single fields
 mod lean; // lean.rt: the searches over a scratch of one number
 mod listed; // listed.rt: spans, and a list of slacks
@@ -47,6 +49,24 @@ pub struct FixedPointAnswerNumbers {
     pub first: u64,
     pub second: u64,
     pub steps: u64,
+}
+
+#[repr(C)]
+pub struct BurstNumbers {
+    pub refusal: u32,
+    pub cycle: u64,
+    pub frames: u64,
+    pub instant: u64,
+}
+
+#[repr(C)]
+pub struct UnsentNumbers {
+    pub refusal: u32,
+    pub failing: u32,
+    pub port: u32,
+    pub cycle: u64,
+    pub bits: u64,
+    pub most: u64,
 }
 
 #[repr(C)]
