@@ -22,9 +22,9 @@
 
 /* Of the library and this header. Where MAJOR differs, or MINOR while MAJOR is 0, a program has to be compiled again. */
 #define CP_VERSION_MAJOR 0
-#define CP_VERSION_MINOR 10
+#define CP_VERSION_MINOR 11
 #define CP_VERSION_PATCH 0
-#define CP_VERSION "0.10.0"
+#define CP_VERSION "0.11.0"
 
 /* What a caller lends, in elements: the scratch of a search, that of a lean one, the list of cp_reprice. For the length of a list of
  * spans call cp_spans with size 0 first: it answers how many there are. */
@@ -147,6 +147,8 @@ typedef struct {
 typedef struct { uint32_t refusal; uint64_t first, second; } cp_answer;
 typedef struct { uint32_t refusal; int64_t slack; } cp_slack_answer;
 typedef struct { uint32_t refusal; uint64_t first, second, steps; } cp_fixed_point_answer;
+typedef struct { uint32_t refusal; uint64_t cycle, frames, instant; } cp_burst_answer;
+typedef struct { uint32_t refusal, failing, port; uint64_t cycle, bits, most; } cp_unsent_answer;
 typedef struct { uint32_t refusal, tag; uint64_t offset; uint64_t numbers[6]; } cp_field_read;
 
 /* A span: a run of admissible durations from 1 to top that can grow at neither end, given by its first and its last, in ns. */
@@ -173,6 +175,8 @@ cp_answer cp_reprice_columns(CP_LENT(const), uint64_t duration, uint64_t flow, u
 cp_answer cp_span_columns(CP_LENT(const), uint64_t duration);
 cp_answer cp_spans_columns(CP_LENT(const), cp_span_record *list, size_t size);
 cp_answer cp_nearest_columns(CP_LENT(const), uint64_t duration);
+cp_burst_answer cp_burst_columns(CP_LENT(const), uint64_t duration, uint64_t port, uint64_t flow, uint64_t frame);
+cp_unsent_answer cp_unsent_columns(CP_LENT(const), uint64_t duration);
 cp_answer cp_save_columns(CP_LENT(const), uint8_t *buffer, size_t length);
 cp_answer cp_gates_columns(CP_LENT(const), uint64_t duration, uint64_t even, uint64_t odd, uint8_t *buffer, size_t length);
 cp_answer cp_upgrade_bytes(const uint8_t *plan, size_t length, uint8_t *buffer, size_t room);
@@ -290,6 +294,23 @@ static inline cp_answer cp_spans(const cp_planner *planner, cp_span_record *list
  * 0, 0. */
 static inline cp_answer cp_nearest(const cp_planner *planner, uint64_t duration) {
   return cp_nearest_columns(CP_COLUMNS(planner), duration);
+}
+
+/* Why a duration is refused: an emission that keeps every flow's contract and leaves a frame unsent. It is that of the lowest failing
+ * port: each flow that crosses this port sends all that may come in one cycle, in such a cycle that all of it meets there. Result:
+ * failing = that port; cycle = the first in which a frame is left unsent, cycles counted from 0; port = the lowest port that leaves one
+ * there, which may be another; bits = what this one must send in that cycle, most = what it can send. All 0 where the duration is
+ * admissible. Refusal 20, 10: all 0. */
+static inline cp_unsent_answer cp_unsent(const cp_planner *planner, uint64_t duration) {
+  return cp_unsent_columns(CP_COLUMNS(planner), duration);
+}
+
+/* A flow's part in such an emission of a port, failing or not. Result: cycle = the one in which it sends, frames = how many, 0 where the
+ * flow does not cross the port; instant = that of one of them, in ns, counted from 0, or CP_NO_INSTANT where there are not so many.
+ * Refusal 20, 10, 24 (a port outside 1 to 64), 29 (a flow that is not in the plan): all 0. */
+#define CP_NO_INSTANT UINT64_MAX
+static inline cp_burst_answer cp_burst(const cp_planner *planner, uint64_t duration, uint64_t port, uint64_t flow, uint64_t frame) {
+  return cp_burst_columns(CP_COLUMNS(planner), duration, port, flow, frame);
 }
 
 /* The held plan written into the buffer in the form in which it was read: its fields in strict order, in the older form without those

@@ -100,6 +100,14 @@ cp_slack_answer cp_slack_columns(CP_LENT(const), uint64_t port, uint64_t duratio
   COLUMNS("slack"), number(port), number(duration);
   return (cp_slack_answer){1, -2};
 }
+cp_burst_answer cp_burst_columns(CP_LENT(const), uint64_t duration, uint64_t port, uint64_t flow, uint64_t frame) {
+  COLUMNS("burst"), number(duration), number(port), number(flow), number(frame);
+  return (cp_burst_answer){1, 2, 3, 4};
+}
+cp_unsent_answer cp_unsent_columns(CP_LENT(const), uint64_t duration) {
+  COLUMNS("unsent"), number(duration);
+  return (cp_unsent_answer){1, 2, 3, 4, 5, 6};
+}
 cp_fixed_point_answer cp_fixed_point_columns(CP_LENT(const), uint64_t start, uint64_t steps) {
   COLUMNS("fixed_point"), number(start), number(steps);
   return (cp_fixed_point_answer){1, 2, 3, 4};
@@ -177,6 +185,8 @@ int main(void) {
   same_answer("check", cp_check(&planner, 11), answer(1, 2, 3)), handed(1, 0, NULL);
   same_answer("span", cp_span(&planner, 11), answer(1, 2, 3)), handed(1, 0, NULL);
   same_answer("nearest", cp_nearest(&planner, 11), answer(1, 2, 3)), handed(1, 0, NULL);
+  same("burst", "the instant", cp_burst(&planner, 11, 12, 13, 14).instant, 4), handed(4, 0, NULL);
+  same("unsent", "what it can send", cp_unsent(&planner, 11).most, 6), handed(1, 0, NULL);
   same_slack("slack", cp_slack(&planner, 11, 12), 1, -2), handed(2, 0, NULL);
   same_steps("fixed_point", cp_fixed_point(&planner, 11, 12), answer(1, 2, 3), 4), handed(2, 0, NULL);
   lending(list, 3);

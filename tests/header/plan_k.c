@@ -11,6 +11,7 @@
 #include "batch.h"
 #include "spans.h"
 #include "nearest.h"
+#include "emission.h"
 #include "newer.h"
 #include "null.h"
 #include "fields.h"
@@ -129,6 +130,7 @@ int main(void) {
   batches();
   spans(cleared(), k);
   nearest(cleared(), k);
+  emission(cleared(), k);
   fields();
   newer(k);
   nulls(none, k);

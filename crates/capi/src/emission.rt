@@ -1,6 +1,6 @@
 // The bad emission of a refused duration for C: the planner by its columns, each at a pointer.
-use crate::BurstNumbers;
-use crate::UnsentNumbers;
+use crate::BurstAnswerNumbers;
+use crate::UnsentAnswerNumbers;
 use crate::emission_numbers::burst_in_c;
 use crate::emission_numbers::unsent_in_c;
 use emissions::burst_tables;
@@ -36,7 +36,7 @@ pub extern "C" fn cp_burst_columns<'a>(
     port: u64,
     flow: u64,
     frame: u64,
-) -> BurstNumbers
+) -> BurstAnswerNumbers
     ensures { λ r. ⌜
         r ≡ burstNumbers (burstAnswer
         (lentPlan
@@ -92,7 +92,7 @@ pub extern "C" fn cp_unsent_columns<'a>(
     hops: &'a columns::Hops,
     routes: &'a columns::Routes,
     duration: u64,
-) -> UnsentNumbers
+) -> UnsentAnswerNumbers
     ensures { λ r. ⌜
         r ≡ unsentNumbers (unsentAnswer
         (lentPlan

@@ -1,6 +1,6 @@
 // The answers of the questions for a bad emission as numbers: the refusal, 0 for a result, and what is told with it.
-use crate::BurstNumbers;
-use crate::UnsentNumbers;
+use crate::BurstAnswerNumbers;
+use crate::UnsentAnswerNumbers;
 use emissions::BurstAnswer;
 use emissions::Instant;
 use emissions::UnsentAnswer;
@@ -8,8 +8,6 @@ ghost use mathlib.Core.Path.{_≡_};
 ghost use Rattle.emissions.specs.Burst.{instantIs, burstOf};
 ghost use Rattle.emissions.specs.Unsent.{unsentOf};
 ghost use Rattle.capi.specs.Emission.{instantNumber, burstNumbers, unsentNumbers, burstRefused, unsentRefused};
-
-const NO_INSTANT: u64 = 18_446_744_073_709_551_615;
 
 const BAD_DURATION: u32 = 10;
 
@@ -24,14 +22,14 @@ fn instant_in_c(instant: Instant) -> u64
 {
     match instant {
         Instant::At(at) => at,
-        Instant::NoFrame => NO_INSTANT,
+        Instant::NoFrame => 18_446_744_073_709_551_615,
     }
 }
 
-fn burst_refused(refusal: u32) -> BurstNumbers
+fn burst_refused(refusal: u32) -> BurstAnswerNumbers
     ensures { λ r. ⌜ r ≡ burstRefused refusal ⌝ }
 {
-    BurstNumbers {
+    BurstAnswerNumbers {
         refusal: refusal,
         cycle: 0,
         frames: 0,
@@ -39,7 +37,7 @@ fn burst_refused(refusal: u32) -> BurstNumbers
     }
 }
 
-pub(crate) fn burst_in_c(answer: BurstAnswer) -> BurstNumbers
+pub(crate) fn burst_in_c(answer: BurstAnswer) -> BurstAnswerNumbers
     ensures { λ r. ⌜ r ≡ burstNumbers (burstOf answer) ⌝ }
 {
     match answer {
@@ -47,7 +45,7 @@ pub(crate) fn burst_in_c(answer: BurstAnswer) -> BurstNumbers
             cycle,
             frames,
             instant,
-        } => BurstNumbers {
+        } => BurstAnswerNumbers {
             refusal: 0,
             cycle: cycle,
             frames: frames,
@@ -60,10 +58,10 @@ pub(crate) fn burst_in_c(answer: BurstAnswer) -> BurstNumbers
     }
 }
 
-fn unsent_refused(refusal: u32) -> UnsentNumbers
+fn unsent_refused(refusal: u32) -> UnsentAnswerNumbers
     ensures { λ r. ⌜ r ≡ unsentRefused refusal ⌝ }
 {
-    UnsentNumbers {
+    UnsentAnswerNumbers {
         refusal: refusal,
         failing: 0,
         port: 0,
@@ -74,7 +72,7 @@ fn unsent_refused(refusal: u32) -> UnsentNumbers
 }
 
 // A port of 0 where the duration is admissible.
-pub(crate) fn unsent_in_c(answer: UnsentAnswer) -> UnsentNumbers
+pub(crate) fn unsent_in_c(answer: UnsentAnswer) -> UnsentAnswerNumbers
     ensures { λ r. ⌜ r ≡ unsentNumbers (unsentOf answer) ⌝ }
 {
     match answer {
@@ -84,7 +82,7 @@ pub(crate) fn unsent_in_c(answer: UnsentAnswer) -> UnsentNumbers
             port,
             bits,
             most,
-        } => UnsentNumbers {
+        } => UnsentAnswerNumbers {
             refusal: 0,
             failing: failing,
             port: port,

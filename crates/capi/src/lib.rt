@@ -52,7 +52,7 @@ pub struct FixedPointAnswerNumbers {
 }
 
 #[repr(C)]
-pub struct BurstNumbers {
+pub struct BurstAnswerNumbers {
     pub refusal: u32,
     pub cycle: u64,
     pub frames: u64,
@@ -60,7 +60,7 @@ pub struct BurstNumbers {
 }
 
 #[repr(C)]
-pub struct UnsentNumbers {
+pub struct UnsentAnswerNumbers {
     pub refusal: u32,
     pub failing: u32,
     pub port: u32,

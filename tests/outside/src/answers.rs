@@ -24,6 +24,28 @@ pub struct StepsAnswer {
     pub steps: u64,
 }
 
+/// A flow's part in a bad emission.
+#[repr(C)]
+#[derive(Clone, Copy, PartialEq, Eq, Debug)]
+pub struct BurstAnswer {
+    pub refusal: u32,
+    pub cycle: u64,
+    pub frames: u64,
+    pub instant: u64,
+}
+
+/// The first frame that a bad emission leaves unsent.
+#[repr(C)]
+#[derive(Clone, Copy, PartialEq, Eq, Debug)]
+pub struct UnsentAnswer {
+    pub refusal: u32,
+    pub failing: u32,
+    pub port: u32,
+    pub cycle: u64,
+    pub bits: u64,
+    pub most: u64,
+}
+
 /// A run of admissible durations, by its ends.
 #[repr(C)]
 #[derive(Clone, Copy, PartialEq, Eq, Debug)]

@@ -1,10 +1,10 @@
 //! The C interface of the planner. Most exports are lent its columns one by one: `raw` takes them off a planner, as the C header does.
 //! A Rust slice is never null, an empty one neither.
 
-use crate::answers::{Answer, Batch, FieldRead, Planner, SlackAnswer, SpanRecord, StepsAnswer, PLANNER_BYTES};
+use crate::answers::{Answer, Batch, BurstAnswer, FieldRead, Planner, SlackAnswer, SpanRecord, StepsAnswer, UnsentAnswer, PLANNER_BYTES};
 
 mod raw {
-    use crate::answers::{Answer, Planner, SlackAnswer, SpanRecord, StepsAnswer, STRIDE};
+    use crate::answers::{Answer, BurstAnswer, Planner, SlackAnswer, SpanRecord, StepsAnswer, UnsentAnswer, STRIDE};
     use std::ptr::{addr_of, addr_of_mut};
 
     /// For each export a function on the planner: the export is declared, and called with the planner's columns.
@@ -49,6 +49,8 @@ mod raw {
         cp_span_columns as span(duration: u64) -> Answer;
         cp_spans_columns as spans(list: *mut SpanRecord, size: usize) -> Answer;
         cp_nearest_columns as nearest(duration: u64) -> Answer;
+        cp_burst_columns as burst(duration: u64, port: u64, flow: u64, frame: u64) -> BurstAnswer;
+        cp_unsent_columns as unsent(duration: u64) -> UnsentAnswer;
         cp_save_columns as save(buffer: *mut u8, length: usize) -> Answer;
         cp_gates_columns as gates(duration: u64, even: u64, odd: u64, buffer: *mut u8, length: usize) -> Answer;
     }
@@ -160,6 +162,14 @@ pub fn span(planner: &Planner, duration: u64) -> Answer {
 
 pub fn nearest(planner: &Planner, duration: u64) -> Answer {
     unsafe { raw::nearest(planner, duration) }
+}
+
+pub fn burst(planner: &Planner, duration: u64, port: u64, flow: u64, frame: u64) -> BurstAnswer {
+    unsafe { raw::burst(planner, duration, port, flow, frame) }
+}
+
+pub fn unsent(planner: &Planner, duration: u64) -> UnsentAnswer {
+    unsafe { raw::unsent(planner, duration) }
 }
 
 pub fn spans(planner: &Planner, list: &mut [SpanRecord]) -> Answer {

@@ -5,6 +5,7 @@ pub mod batch;
 mod batch_foreign;
 pub mod clocks;
 pub mod convert;
+pub mod emission;
 pub mod extra;
 pub mod fields;
 pub mod foreign;

@@ -20,7 +20,7 @@ const SEED: u64 = 20_261_115;
 const CASES: u64 = 1_500;
 
 /// A group's name, its share of the cases in hundredths, and its body.
-const GROUPS: [(&str, u64, fn(&mut Tally)); 24] = [
+const GROUPS: [(&str, u64, fn(&mut Tally)); 25] = [
     ("reading", 60, alone::reading::run),
     ("converting", 60, alone::converting::run),
     ("known", 100, groups::known::run),
@@ -42,6 +42,7 @@ const GROUPS: [(&str, u64, fn(&mut Tally)); 24] = [
     ("foreign", 200, groups::foreign::run),
     ("order", 40, groups::order::run),
     ("runs", 60, groups::runs::run),
+    ("emission", 40, groups::emission::run),
     ("lighter", 60, groups::lighter::run),
     ("forms", 40, groups::forms::run),
     ("convert", 40, groups::convert::run),

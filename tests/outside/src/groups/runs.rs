@@ -13,10 +13,10 @@ use crate::simulate::cuts::{self, aligned, permitted, Cut};
 use crate::simulate::emissions::{gathered_at, keeps_contract, random, Emission};
 use crate::simulate::{Left, Outcome, Run};
 
-const FRAMES: u64 = 60_000;
+pub const FRAMES: u64 = 60_000;
 
 /// Frames that a gathered emission has at most.
-fn weight(plan: &Plan, duration: u64) -> u64 {
+pub fn weight(plan: &Plan, duration: u64) -> u64 {
     let length = plan.clocks.widened(duration);
     plan.flows.values().map(|flow| flow.count * ((length + flow.jitter) / flow.period + 1)).sum()
 }
@@ -92,7 +92,7 @@ fn accepted(tally: &mut Tally, plan: &Plan, duration: u64, rng: &mut Rng) {
 }
 
 /// A plan to follow frames through, and its bytes; some have longer routes than the older form has.
-fn some_plan(rng: &mut Rng) -> (Vec<Piece>, Vec<u8>) {
+pub fn some_plan(rng: &mut Rng) -> (Vec<Piece>, Vec<u8>) {
     let mut pieces = match rng.below(4) {
         0 => kinds::gaps(rng),
         1 => kinds::tight(rng),

@@ -21,13 +21,16 @@ pub fn nearest(held: Option<(&Plan, &[Span])>, duration: u64) -> Answer {
     Answer::new(0, below, above)
 }
 
-/// The same by trying one duration after the other, for small tops.
-pub fn tried(plan: &Plan, duration: u64) -> Answer {
-    if !plan.in_reach(duration) {
-        return Answer::refused(10);
+/// The same of each duration from 0 on, by trying one after the other, for small tops.
+pub fn tried(plan: &Plan) -> Vec<Answer> {
+    let good: Vec<bool> = (0..=plan.top).map(|one| one > 0 && plan.failing(one).is_empty()).collect();
+    let (mut answers, mut above) = (vec![Answer::refused(10); good.len() + 2], 0);
+    for duration in (1..good.len()).rev() {
+        above = if good[duration] { duration as u64 } else { above };
+        answers[duration] = Answer::new(0, 0, above);
     }
-    let good = |one: &u64| plan.failing(*one).is_empty();
-    let below = (1..=duration).rev().find(good).unwrap_or(0);
-    let above = (duration..=plan.top).find(good).unwrap_or(0);
-    Answer::new(0, below, above)
+    for duration in 1..good.len() {
+        answers[duration].first = if good[duration] { duration as u64 } else { answers[duration - 1].first };
+    }
+    answers
 }
