@@ -1,0 +1,10 @@
+// A plan's text: what its lines say.
+pub mod grammar; // grammar.rt: the kinds of lines, and their numbers
+mod line; // line.rt: the numbers of a line
+mod tests; // tests.rt: that they are numbers, and in range
+mod ports; // ports.rt: the ports of a route
+mod says; // says.rt: a line
+mod store; // store.rt: its numbers into the columns
+mod draft; // draft.rt: a line taken into the plan that is being read
+mod absent; // absent.rt: the first flow that names a port which is not in the plan
+mod text; // text.rt: a whole text
