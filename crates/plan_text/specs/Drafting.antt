@@ -1,12 +1,12 @@
 -- The working values of the reading of a text, as its definition has them.
 use Prim.Native.Nat.{ℕ, _≤_, _<_}
 use mathlib.Core.Path.{_≡_}
-use mathlib.Core.Bool.{true}
+use mathlib.Core.Bool.{true, false}
 use mathlib.Core.List.{List}
 use lib.ListN.{length, getD, take}
 use Rattle.cqf.specs.Bounded.{distinct}
 use Rattle.cqf.specs.Limits.{flowSlots, maxHops, portOk, flowOk}
-use Rattle.cqf.specs.Plan.{Plan}
+use Rattle.cqf.specs.Plan.{Plan, equalClocks}
 use Rattle.numbers.specs.Clock.{clockOf}
 use Rattle.tables.specs.Columns.{planBy}
 use Rattle.plan_text.specs.Line.{formBy}
@@ -31,6 +31,26 @@ draftOf h rates blockings extras periods counts lengths jitters hops routes line
       tables = planBy (h .guard) (h .top) (clockOf (h .clock)) rates blockings extras periods counts lengths jitters hops routes;
       lines = lines;
     }
+
+-- the draft of these tables where no line has been read
+abbrev pub unread : Plan → (lines : List ℕ) → Draft
+unread p lines =
+    record {
+      newer = false;
+      begun = false;
+      guarded = false;
+      topped = false;
+      clocked = false;
+      flowing = false;
+      tables = p;
+      lines = lines;
+    }
+
+abbrev pub BeginsAs : Heading → Type 0
+BeginsAs h =
+    (rates blockings extras periods counts lengths jitters hops routes lines : List ℕ)
+    → draftOf h rates blockings extras periods counts lengths jitters hops routes lines
+    ≡ unread (planBy 0 0 equalClocks rates blockings extras periods counts lengths jitters hops routes) lines
 
 -- one line read
 abbrev pub progressOf : Progress → (rates blockings extras periods counts lengths jitters hops routes lines : List ℕ) → Step

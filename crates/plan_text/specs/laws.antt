@@ -13,3 +13,6 @@ pub mod Taken
 pub mod Steps
 pub mod Absent
 pub mod Hops
+pub mod TextLines
+pub mod Fitting
+pub mod Valid

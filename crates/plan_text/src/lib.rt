@@ -7,4 +7,5 @@ mod says; // says.rt: a line
 mod store; // store.rt: its numbers into the columns
 mod draft; // draft.rt: a line taken into the plan that is being read
 mod absent; // absent.rt: the first flow that names a port which is not in the plan
-mod text; // text.rt: a whole text
+mod text; // text.rt: the end of a text
+mod reading; // reading.rt: a whole text, into fresh columns

@@ -1,20 +1,10 @@
-// A whole text: its lines from the front, then what is missing, then ports that are not in the plan.
+// The end of a text: what is missing, then ports that are not in the plan.
 use crate::absent::first_absent;
 use crate::draft::Heading;
 use crate::draft::Lines;
-use crate::draft::Progress;
-use crate::draft::step;
 use crate::grammar::Fault;
 use crate::grammar::Item;
-use crate::line::PLACES;
-use numbers::clock::Clock;
-use tables::FLOWS;
-use tables::PORTS;
-use tables::Planner;
-use tables::STRIDE;
 use tables::columns;
-use tables::empty;
-use words::lines::line_at;
 ghost use Rattle.plan_text.specs.Drafting.{HopsWithin, ClosesAs};
 
 // A text has at most so many bytes.
@@ -33,14 +23,8 @@ pub enum TextAnswer {
     },
 }
 
-// The plan is in a planner, which is empty where the text is refused.
-pub struct TextOutcome {
-    pub planner: Planner,
-    pub answer: TextAnswer,
-}
-
 // All lines are read; the line after the last has this number.
-fn close<'a>(
+pub(crate) fn close<'a>(
     heading: Heading,
     number: u32,
     rates: &'a columns::Rates,

@@ -44,7 +44,7 @@ module _ (n : ℕ) (d : Draft) (l : List ℕ) where
   step-refused {f} {x} {v} e = record { steps = sym (rw e); keeps = λ g p. absurd (stop-more f x v g p) }
 
   -- a line that is taken and goes on was new and had no port twice
-  taken-more : (kind : Kind) (ns r : List ℕ) (e : Draft) → taken kind n ns r d ≡ more e → (distinct r ≡ true) × (added kind n ns r d ≡ e)
+  pub taken-more : (kind : Kind) (ns r : List ℕ) (e : Draft) → taken kind n ns r d ≡ more e → (distinct r ≡ true) × (added kind n ns r d ≡ e)
   unfolding taken
   taken-more kind ns r e = go (isAgain kind (own ns) d) (not (distinct r)) refl
     where
