@@ -7,5 +7,6 @@ pub mod Text
 pub mod Print
 pub mod Reading
 pub mod Drafting
+pub mod Outcome
 pub mod laws
 pub mod worked

@@ -16,3 +16,5 @@ pub mod Hops
 pub mod TextLines
 pub mod Fitting
 pub mod Valid
+pub mod Whole
+pub mod Outcome

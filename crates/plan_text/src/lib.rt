@@ -1,4 +1,4 @@
-// A plan's text: what its lines say.
+// A plan's text: what its lines say, and the plan that they make.
 pub mod grammar; // grammar.rt: the kinds of lines, and their numbers
 mod line; // line.rt: the numbers of a line
 mod tests; // tests.rt: that they are numbers, and in range
@@ -9,3 +9,9 @@ mod draft; // draft.rt: a line taken into the plan that is being read
 mod absent; // absent.rt: the first flow that names a port which is not in the plan
 mod text; // text.rt: the end of a text
 mod reading; // reading.rt: a whole text, into fresh columns
+mod held; // held.rt: a text read into a planner
+
+pub use held::TextOutcome;
+pub use held::read_text;
+pub use text::MAX_TEXT;
+pub use text::TextAnswer;
