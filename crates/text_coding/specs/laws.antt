@@ -1,0 +1,3 @@
+-- Laws of what the encoding of a text answers and leaves.
+pub mod Encode
+pub mod Room
