@@ -1,0 +1,54 @@
+// Reads a plan's text from standard input and writes the plan's strict bytes to standard output.
+mod refusal; // refusal.rt: the words of a refusal
+mod name; // name.rt: the words for a number of a text
+
+use crate::refusal::say_long;
+use crate::refusal::say_refusal;
+use console::Input;
+use console::say;
+use libc::STDIN_FILENO;
+use text_coding::EncodeAnswer;
+use text_coding::encode_text;
+ghost use lib.ListN.{length};
+ghost use Rattle.text_coding.specs.Answer.{Inside};
+
+// One byte more than a text may have: a longer input is read no further.
+const ROOM: usize = plan_text::MAX_TEXT + 1;
+
+fn say_encoded(answer: EncodeAnswer, buffer: &[u8])
+    requires { ⌜ Inside (length (now buffer)) answer ⌝ }
+{
+    match answer {
+        EncodeAnswer::Written(size) => {
+            console::finish(say(console::standard_output(), &buffer[..size]))
+        }
+        EncodeAnswer::Short(size) => {
+            say_long(console::standard_error(), size);
+        }
+        EncodeAnswer::Refused {
+            line,
+            fault,
+            item,
+            value,
+        } => {
+            say_refusal(console::standard_error(), line, fault, item, value);
+        }
+    }
+}
+
+// A plan has no more bytes than the buffer.
+fn encode(text: &[u8]) {
+    let mut buffer = [0u8; loading::MAX_BYTES];
+    let answer = encode_text(text, &mut buffer);
+    say_encoded(answer, &buffer);
+}
+
+fn main() {
+    let mut input = [0u8; ROOM];
+    match console::read_input(STDIN_FILENO, &mut input) {
+        Input::Failed => {
+            say(console::standard_error(), b"cannot read the plan\n");
+        }
+        Input::Bytes(n) => encode(&input[..n]),
+    }
+}
