@@ -1,0 +1,6 @@
+// The text of a plan, written into a lent buffer line by line. What the buffer has no room for is left out, so that the same functions
+// write a text and only count its bytes.
+mod number; // number.rt: bytes, words and numbers
+mod word; // word.rt: the words of a line
+mod port; // port.rt: the lines of the ports
+mod flow; // flow.rt: the lines of the flows
