@@ -1,17 +1,17 @@
 -- The bytes of the lines of a plan, part by part as they are written.
-use Prim.Native.Nat.{ℕ, _+_, _≤_, _<_}
-use mathlib.Core.Bool.{cond}
+use Prim.Native.Nat.{ℕ, _+_, _*_, _≤_, _<_}
+use mathlib.Core.Bool.{not, cond}
 use mathlib.Core.List.{List, [], _∷_, _++_, map}
 use lib.Dec.{eqb, ltb}
 use lib.ListN.{getD}
 use Rattle.cqf.specs.Bounded.{sublist}
-use Rattle.cqf.specs.Limits.{flowSlots, maxHops}
-use Rattle.cqf.specs.Plan.{Plan, rateOf, periodOf}
+use Rattle.cqf.specs.Limits.{portSlots, flowSlots, maxHops}
+use Rattle.cqf.specs.Plan.{Clock, Plan, clocksEqual, rateOf, periodOf}
 use Rattle.words.specs.Lines.{lineFeed}
 use Rattle.words.specs.Words.{space}
 use Rattle.plan_text.specs.Names.{portWord, rateWord, blockerWord, extraWord, flowWord, periodWord, countWord, lengthWord, jitterWord, routeWord, clocksWord, driftWord, timingWord, syncWord}
 use Rattle.plan_text.specs.Line.{Word}
-use Rattle.plan_text.specs.Print.{digits, digitsBy, lineWhen, portLine, flowLine}
+use Rattle.plan_text.specs.Print.{digits, digitsBy, lineWhen, portLine, flowLine, clocksLine}
 
 -- a number, a word with its number, and the same where the number is not the one that stands for its absence
 abbrev pub numberBytes : ℕ → List ℕ
@@ -67,3 +67,21 @@ flowAt p f = lineWhen (ltb 0 (periodOf p f)) (flowLine p f)
 -- routes that are no longer than a plan may have
 abbrev pub HopsFit : List ℕ → Type 0
 HopsFit hops = (f : ℕ) → f < flowSlots → getD hops f 0 ≤ maxHops
+
+-- the line of the clocks, which is left out where they are equal
+abbrev pub clocksBytes : Clock → List ℕ
+clocksBytes k =
+    (((clocksWord ++ pairBytes driftWord (k .drift)) ++ pairBytes timingWord (k .timingJitter)) ++ pairBytes syncWord (k .syncError)) ++ endBytes
+
+abbrev pub mostClocks : ℕ
+mostClocks = 55
+
+abbrev pub clocksAt : Plan → List (List Word)
+clocksAt p = lineWhen (not (clocksEqual p)) (clocksLine p)
+
+-- the most bytes of the form's line, and of a text
+abbrev pub mostForm : ℕ
+mostForm = 17
+
+abbrev pub mostText : ℕ
+mostText = mostForm + 16 + 14 + portSlots * mostPort + flowSlots * mostFlow + mostClocks

@@ -4,3 +4,4 @@ pub mod Digits
 pub mod Bytes
 pub mod Lines
 pub mod Flow
+pub mod Whole

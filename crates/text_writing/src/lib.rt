@@ -4,3 +4,4 @@ mod number; // number.rt: bytes, words and numbers
 mod word; // word.rt: the words of a line
 mod port; // port.rt: the lines of the ports
 mod flow; // flow.rt: the lines of the flows
+mod whole; // whole.rt: all lines
