@@ -5,3 +5,14 @@ mod word; // word.rt: the words of a line
 mod port; // port.rt: the lines of the ports
 mod flow; // flow.rt: the lines of the flows
 mod whole; // whole.rt: all lines
+mod held; // held.rt: the plan in the tables
+
+pub use held::write_text;
+
+pub enum TextAnswer {
+    // The length written.
+    Written(usize),
+    NoPlan,
+    // The length needed.
+    ShortBuffer(usize),
+}

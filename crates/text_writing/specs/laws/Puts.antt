@@ -50,6 +50,10 @@ puts-as e p = rw e at p
 pub puts-few : {m : ℕ} (k : ℕ) {bs buffer exit : List ℕ} {at next : ℕ} → length bs ≤ k → Puts m bs buffer at next exit → Puts k bs buffer at next exit
 puts-few k l p = record { size = p .size; few = l; bytes = p .bytes }
 
+-- from the front: how many they are
+pub puts-size : {m : ℕ} {bs buffer exit : List ℕ} {next : ℕ} → Puts m bs buffer 0 next exit → next ≡ length bs
+puts-size p = omega (arith, p .size)
+
 -- from the front of a buffer that has room for all
 pub puts-over : {m : ℕ} {bs buffer exit : List ℕ} {next : ℕ} → Puts m bs buffer 0 next exit → length bs ≤ length buffer → exit ≡ over bs buffer
 unfolding overFrom
