@@ -4,14 +4,13 @@ use mathlib.Core.Bool.{not, cond}
 use mathlib.Core.List.{List, [], _∷_, _++_, map}
 use lib.Dec.{eqb, ltb}
 use lib.ListN.{getD}
-use Rattle.cqf.specs.Bounded.{sublist}
 use Rattle.cqf.specs.Limits.{portSlots, flowSlots, maxHops}
 use Rattle.cqf.specs.Plan.{Clock, Plan, clocksEqual, rateOf, periodOf}
 use Rattle.words.specs.Lines.{lineFeed}
 use Rattle.words.specs.Words.{space}
 use Rattle.plan_text.specs.Names.{portWord, rateWord, blockerWord, extraWord, flowWord, periodWord, countWord, lengthWord, jitterWord, routeWord, clocksWord, driftWord, timingWord, syncWord}
 use Rattle.plan_text.specs.Line.{Word}
-use Rattle.plan_text.specs.Print.{digits, digitsBy, lineWhen, portLine, flowLine, clocksLine}
+use Rattle.plan_text.specs.Print.{digits, lineWhen, portLine, flowLine, clocksLine}
 
 -- a number, a word with its number, and the same where the number is not the one that stands for its absence
 abbrev pub numberBytes : ℕ → List ℕ

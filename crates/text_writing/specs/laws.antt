@@ -6,3 +6,4 @@ pub mod Lines
 pub mod Flow
 pub mod Whole
 pub mod Text
+pub mod Length

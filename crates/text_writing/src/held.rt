@@ -6,7 +6,6 @@ use plan::Form;
 use tables::columns;
 use tables::valid_tables;
 use writing::room::has_room;
-ghost use mathlib.Core.Path.{_≡_};
 ghost use Rattle.numbers.specs.Clock.{clockOf};
 ghost use Rattle.plan.specs.Answer.{formOf};
 ghost use Rattle.tables.specs.Columns.{planBy};

@@ -1,6 +1,6 @@
 -- Laws of decimal digits.
 use Prim.Native.Nat.{ℕ, zero, suc, _+_, _-_, _/_, _%_, _≤_, _<_}
-use mathlib.Core.Path.{_≡_, refl, sym, ap, _∙_}
+use mathlib.Core.Path.{_≡_, refl, sym}
 use mathlib.Core.Bool.{Bool, true, false, cond}
 use mathlib.Core.List.{List, [], _∷_, _++_}
 use native.Mathlib.Omega.{arith}
@@ -9,7 +9,7 @@ use borrow.Author.Tests.{lt-ltb, le-ltb}
 use lib.Dec.{ltb}
 use lib.ListN.{length, length-append}
 use Rattle.words.specs.Decimal.{zeroDigit}
-use Rattle.plan_text.specs.Print.{digitsBy, digits}
+use Rattle.plan_text.specs.Print.{digitsBy}
 use Rattle.text_writing.specs.Puts.{Puts}
 use Rattle.text_writing.specs.laws.Puts.{puts-none, puts-then, puts-as, puts-few}
 

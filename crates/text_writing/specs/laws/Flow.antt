@@ -9,11 +9,9 @@ use lib.Dec.{eqb, ltb}
 use lib.ListN.{length, getD, take, drop}
 use lib.Seq.{take-suc, take-all, drop-cons}
 use Rattle.cqf.specs.Bounded.{sublist}
-use Rattle.cqf.specs.Limits.{routeStride}
-use Rattle.cqf.specs.Plan.{Plan, periodOf, countOf, lengthOf, jitterOf, hopsOf, routeOf}
+use Rattle.cqf.specs.Plan.{Plan, periodOf, countOf, lengthOf, jitterOf, routeOf}
 use Rattle.words.specs.Words.{space}
 use Rattle.plan_text.specs.Names.{flowWord, periodWord, countWord, lengthWord, jitterWord, routeWord}
-use Rattle.plan_text.specs.Line.{Word}
 use Rattle.plan_text.specs.Print.{digits, lineBytes, wordWhen, flowLine}
 use Rattle.text_writing.specs.Puts.{Puts}
 use Rattle.text_writing.specs.Bytes.{spaced, numberBytes, pairBytes, unlessBytes, endBytes, flowBytes, mostHop}

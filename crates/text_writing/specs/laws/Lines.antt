@@ -1,14 +1,14 @@
 -- Laws of the lines of a plan, part by part as they are written.
-use Prim.Native.Nat.{ℕ, suc, _+_, _*_, _≤_, _<_}
+use Prim.Native.Nat.{ℕ, suc, _+_, _*_}
 use mathlib.Core.Path.{_≡_, refl, sym, ap, ap₂, _∙_}
 use mathlib.Core.Bool.{Bool, true, false, not, cond}
 use mathlib.Core.List.{List, [], _∷_, _++_, append-assoc, append-nil}
 use native.Mathlib.Omega.{arith}
 use native.Mathlib.Numerals.{add-one}
-use borrow.Author.Tests.{lt-ltb, le-ltb, eq-eqb, ne-eqb}
+use borrow.Author.Tests.{lt-ltb, le-ltb, ne-eqb}
 use lib.Dec.{eqb, ltb}
-use lib.ListN.{length}
 use Rattle.cqf.specs.Plan.{Plan, rateOf, blockingOf, extraOf}
+use Rattle.words.specs.Words.{space}
 use Rattle.plan_text.specs.Names.{portWord, rateWord, blockerWord, extraWord}
 use Rattle.plan_text.specs.Line.{Word}
 use Rattle.plan_text.specs.Print.{digits, lineBytes, linesBytes, linesTo, wordWhen, lineWhen, portLine}
@@ -18,7 +18,7 @@ use Rattle.text_writing.specs.laws.Bytes.{spaced-append, spaced-pair, li
 use Rattle.text_writing.specs.laws.Puts.{puts-none, puts-then, puts-as, puts-few}
 
 -- a number, and a word with its number, before other words
-pub spaced-next : (w : Word) (ws : List Word) → spaced (w ∷ ws) ≡ (32 ∷ w) ++ spaced ws
+pub spaced-next : (w : Word) (ws : List Word) → spaced (w ∷ ws) ≡ (space ∷ w) ++ spaced ws
 unfolding spaced
 spaced-next w ws = refl
 

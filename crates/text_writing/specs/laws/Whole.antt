@@ -1,15 +1,13 @@
 -- Laws of the other lines of a plan, and of all of them.
 use Prim.Native.Nat.{ℕ}
-use mathlib.Core.Path.{_≡_, refl, sym, ap, ap₂, _∙_}
-use mathlib.Core.Bool.{not}
+use mathlib.Core.Path.{_≡_, refl, ap, _∙_}
 use mathlib.Core.List.{List, [], _∷_, _++_, append-assoc, append-nil}
 use Rattle.cqf.specs.Form.{Form, older, newer}
 use Rattle.cqf.specs.Limits.{portSlots, flowSlots}
-use Rattle.cqf.specs.Plan.{Plan, clocksEqual}
+use Rattle.cqf.specs.Plan.{Plan}
 use Rattle.plan_text.specs.Names.{clocksWord, driftWord, timingWord, syncWord, guardWord, topWord, formatWord}
-use Rattle.plan_text.specs.Line.{Word}
 use Rattle.plan_text.specs.Print.{digits, lineBytes, linesBytes, linesTo, formLine, clocksLine, planLines, textOf}
-use Rattle.text_writing.specs.Bytes.{spaced, pairBytes, endBytes, clocksBytes, clocksAt, portAt, flowAt}
+use Rattle.text_writing.specs.Bytes.{pairBytes, endBytes, clocksBytes, clocksAt, portAt, flowAt}
 use Rattle.text_writing.specs.laws.Bytes.{spaced-pair, line-words, lines-append}
 use Rattle.text_writing.specs.laws.Lines.{spaced-pair-next}
 
