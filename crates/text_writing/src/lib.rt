@@ -6,8 +6,14 @@ mod port; // port.rt: the lines of the ports
 mod flow; // flow.rt: the lines of the flows
 mod whole; // whole.rt: all lines
 mod held; // held.rt: the plan in the tables
+mod planned; // planned.rt: the plan that a planner holds
 
 pub use held::write_text;
+pub use planned::write_columns;
+pub use planned::write_plan;
+
+// The most bytes of a text.
+pub const MAX_TEXT: usize = 65_536;
 
 pub enum TextAnswer {
     // The length written.

@@ -6,7 +6,7 @@ use mathlib.Core.Bool.{true, false}
 use mathlib.Core.List.{List, [], _∷_}
 use native.Mathlib.Omega.{arith}
 use borrow.Author.Tests.{le-leb, lt-leb}
-use lib.ListN.{length}
+use lib.ListN.{length, take}
 use Rattle.answers.specs.Answer.{result, refusal}
 use Rattle.answers.specs.Refusals.{shortBuffer, noPlanHeld}
 use Rattle.cqf.specs.Form.{Form}
@@ -15,6 +15,7 @@ use Rattle.cqf.specs.laws.Valid.{Empty, Held, slot-cases}
 use Rattle.plan_text.specs.Print.{textOf}
 use Rattle.writing.specs.Laid.{over}
 use Rattle.writing.specs.laws.Laid.{laid-over, laid-short}
+use Rattle.writing.specs.laws.Answer.{written-size, written-front}
 use Rattle.text_writing.specs.Bytes.{HopsFit}
 use Rattle.text_writing.specs.Text.{textAnswer, textLeaves, WritesText}
 
@@ -40,3 +41,21 @@ module _ (form : Form) (p : Plan) (buffer : List ℕ) where
     text-written l e =
         let room : length (textOf form p) ≤ length buffer = rw is at l in
         (rw (valid, le-leb (length (textOf form p)) (length buffer) room, is), rw valid (e ∙ sym (laid-over (textOf form p) buffer room)))
+
+-- where the answer is a length, it is that of the text, which stands in front
+module _ (form : Form) (p : Plan) (buffer : List ℕ) (valid : validPlan p ≡ true) where
+  pub text-answer : length (textOf form p) ≤ length buffer → textAnswer form p buffer ≡ result (length (textOf form p))
+  unfolding textAnswer
+  text-answer l = rw (valid, le-leb (length (textOf form p)) (length buffer) l)
+
+  pub text-lays : length (textOf form p) ≤ length buffer → textLeaves form p buffer ≡ over (textOf form p) buffer
+  unfolding textLeaves
+  text-lays l = rw valid (laid-over (textOf form p) buffer l)
+
+  pub text-size : (n : ℕ) → textAnswer form p buffer ≡ result n → n ≡ length (textOf form p)
+  unfolding textAnswer
+  text-size n e = written-size (textOf form p) buffer n (rw valid at e)
+
+  pub text-front : (n : ℕ) → textAnswer form p buffer ≡ result n → take n (textLeaves form p buffer) ≡ textOf form p
+  unfolding textAnswer textLeaves
+  text-front n e = rw valid (written-front (textOf form p) buffer n (rw valid at e))

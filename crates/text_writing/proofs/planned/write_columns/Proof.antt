@@ -1,0 +1,10 @@
+-- `write_columns` meets its contract: the columns are lent on, with the form of its number.
+use borrow.Author.Needs.{needs}
+use Rattle.text_writing.proofs.planned.write_columns.Statement.{statement}
+use Rattle.text_writing.proofs.planned.write_columns.Tie as tie
+
+returns : tie.Need-returns
+returns c = rw (c .before .before .before .before .held-top .ensures, c .before .before .before .before .before .form-from .ensures) at (c .before .before .write-text .ensures)
+
+pub write-columns-spec : {M : Type 1} → statement M
+write-columns-spec = tie.close (tie.spec (λ c κs. tt) (λ c κs. tt) (λ c κs. tt) (λ c. search needs) returns)
