@@ -1,0 +1,2 @@
+-- Laws of what the program writes.
+pub mod Front
