@@ -1,0 +1,2 @@
+-- The text of a plan, read back.
+pub mod laws

@@ -1,0 +1,6 @@
+-- Laws of a text that is read back: its words, its numbers, its lines.
+pub mod Bytes
+pub mod Lines
+pub mod Digits
+pub mod TextLines
+pub mod Match
