@@ -4,3 +4,5 @@ pub mod Lines
 pub mod Digits
 pub mod TextLines
 pub mod Match
+pub mod Says
+pub mod LineSays
