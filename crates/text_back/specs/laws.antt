@@ -6,3 +6,6 @@ pub mod TextLines
 pub mod Match
 pub mod Says
 pub mod LineSays
+pub mod Collect
+pub mod Parts
+pub mod Row

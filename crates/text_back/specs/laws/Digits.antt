@@ -1,17 +1,17 @@
 -- A number in decimal digits, read back.
 use Prim.Native.Nat.{ℕ, zero, suc, _+_, _-_, _*_, _/_, _%_, _≤_, _<_}
-use mathlib.Core.Path.{_≡_, refl, sym, ap, _∙_}
+use mathlib.Core.Path.{_≡_, refl, ap, _∙_}
 use mathlib.Core.Bool.{Bool, true, false, cond}
-use mathlib.Core.List.{List, [], _∷_, _++_, map}
-use mathlib.Core.Option.{Option, some, none, Option·some-injective}
+use mathlib.Core.List.{List, [], _∷_, _++_}
+use mathlib.Core.Option.{some, none, Option·some-injective}
 use native.Mathlib.Omega.{arith}
-use borrow.Author.Tests.{ltb-true, ltb-false}
+use borrow.Author.Tests.{ltb-true}
 use lib.Dec.{ltb}
 use lib.ListN.{length}
-use Rattle.words.specs.Decimal.{zeroDigit, isDigit, valueFrom, capped, cappedOption, decimalValue}
+use Rattle.words.specs.Decimal.{zeroDigit, isDigit, valueFrom, cappedOption, decimalValue}
 use Rattle.words.specs.laws.Decimal.{capped-same, value-whole, digit-byte}
-use Rattle.plan_text.specs.Print.{digitsBy, maxDigits, digits}
-use Rattle.text_back.specs.laws.Bytes.{Solid, IsWord, AreWords, solid-append, word-snoc}
+use Rattle.plan_text.specs.Print.{digitsBy, digits}
+use Rattle.text_back.specs.laws.Bytes.{Solid, IsWord, solid-append, word-snoc}
 
 -- digits behind others
 value-append : (s t : List ℕ) (v n : ℕ) → valueFrom v s ≡ some n → valueFrom v (s ++ t) ≡ valueFrom n t

@@ -1,30 +1,28 @@
 -- What each line of a text as it is written says, by its kind.
-use Prim.Native.Nat.{ℕ, _≤_, _<_}
-use mathlib.Core.Path.{_≡_, refl, sym, ap, _∙_}
-use mathlib.Core.Bool.{true, false, not, _&&_}
+use Prim.Native.Nat.{ℕ, _≤_}
+use mathlib.Core.Path.{_≡_, refl, ap, _∙_}
+use mathlib.Core.Bool.{true, false, not}
 use mathlib.Core.List.{List, [], _∷_, _++_, map}
-use mathlib.Core.Option.{Option, some}
+use mathlib.Core.Option.{some}
 use native.Mathlib.Omega.{arith}
 use borrow.Author.Tests.{lt-leb}
-use lib.Dec.{leb, ltb, eqb}
+use lib.Dec.{ltb, eqb}
 use lib.ListN.{length, length-map}
 use Rattle.cqf.specs.Bounded.{every}
 use Rattle.cqf.specs.Form.{Form, older, mostHopsIn}
 use Rattle.cqf.specs.Limits.{maxHops, maxTop, maxPeriod, maxCount, maxLength, maxJitter, maxDrift, maxTimingJitter, maxSyncError, maxExtra, portSlots, flowSlots, guardOk, topOk, portOk, driftOk, timingJitterOk, syncErrorOk}
 use Rattle.cqf.specs.Plan.{Clock, clockOk}
 use Rattle.words.specs.Words.{sameBytes}
-use Rattle.words.specs.Decimal.{decimalValue}
 use Rattle.plan_reading.specs.Ranges.{PortOk, FlowOk, ExtraOk, JitterOk}
 use Rattle.plan_reading.specs.laws.fields.Within.{within-low, within-high}
 use Rattle.plan_reading.specs.laws.fields.Passes.{and-three}
 use Rattle.plan_text.specs.Names.{guardWord, topWord, portWord, rateWord, blockerWord, extraWord, flowWord, periodWord, countWord, lengthWord, jitterWord, routeWord, clocksWord, driftWord, timingWord, syncWord, formatWord}
 use Rattle.plan_text.specs.Kinds.{kindOf, kindIn}
-use Rattle.plan_text.specs.Line.{Word, says, numbersIn, wordsBy, portWords, lineOf}
+use Rattle.plan_text.specs.Line.{says, numbersIn, lineOf}
 use Rattle.plan_text.specs.Print.{digits, wordWhen}
 use Rattle.plan_text.specs.laws.Ranges.{blocking-most}
 use Rattle.plan_text.specs.declared.grammar.Item.{Item}
 use Rattle.plan_text.specs.declared.grammar.Kind.{Kind}
-use Rattle.text_back.specs.laws.Digits.{maxNumber}
 use Rattle.text_back.specs.laws.Match.{match-one, port-match, flow-match, clocks-match}
 use Rattle.text_back.specs.laws.Says.{route-values, numbers-say, kind-line, plain-line}
 

@@ -1,13 +1,13 @@
 -- Words with spaces between and a feed behind, read back: the words of a line, and the lines of a text.
 use Prim.Native.Nat.{ℕ}
-use mathlib.Core.Path.{_≡_, refl, sym, ap, ap₂, _∙_}
+use mathlib.Core.Path.{_≡_, refl, ap, _∙_}
 use mathlib.Core.Logic.{inl}
 use mathlib.Core.Bool.{false}
 use mathlib.Core.List.{List, [], _∷_, _++_}
 use Rattle.words.specs.Run.{begins, onFirst}
 use Rattle.words.specs.Lines.{lineFeed, lines, uncommented}
 use Rattle.words.specs.Words.{space, isBlank, words}
-use Rattle.text_back.specs.laws.Bytes.{Solid, IsWord, AreWords, Calm, calm-append, word-solid, solid-calm, solid-blank, no-feed, no-return, no-hash}
+use Rattle.text_back.specs.laws.Bytes.{Solid, AreWords, Calm, calm-append, word-solid, solid-calm, solid-blank, no-feed, no-return, no-hash}
 
 -- a line without its end
 abbrev pub joined : List (List ℕ) → List ℕ

@@ -1,18 +1,17 @@
 -- The numbers of a line as it is written, read back one by one.
-use Prim.Native.Nat.{ℕ, suc, _≤_, _<_}
+use Prim.Native.Nat.{ℕ, _≤_}
 use mathlib.Core.Path.{_≡_, refl, sym, ap, ap₂, _∙_}
-use mathlib.Core.Bool.{Bool, true, false, not, cond}
-use mathlib.Core.List.{List, [], _∷_, _++_, map, append-nil}
+use mathlib.Core.Bool.{Bool, true, false, not}
+use mathlib.Core.List.{List, [], _∷_, _++_, append-nil}
 use mathlib.Core.Option.{Option, some, none}
 use native.Mathlib.Omega.{arith}
 use borrow.Author.Tests.{ltb-false, eqb-true, not-false, eq-eqb}
 use lib.Dec.{eqb, ltb}
 use Rattle.words.specs.Words.{sameBytes}
-use Rattle.words.specs.Decimal.{decimalValue}
 use Rattle.plan_text.specs.Names.{rateWord, blockerWord, extraWord, periodWord, countWord, lengthWord, jitterWord, routeWord, driftWord, timingWord, syncWord}
 use Rattle.plan_text.specs.Grammar.{wordOf, isOwn, absentOf}
 use Rattle.plan_text.specs.Kinds.{items}
-use Rattle.plan_text.specs.Line.{Word, behind, Matched, matched, with, match}
+use Rattle.plan_text.specs.Line.{Word, behind, matched, with, match}
 use Rattle.plan_text.specs.Print.{digits, wordWhen}
 use Rattle.plan_text.specs.declared.grammar.Item.{Item}
 use Rattle.plan_text.specs.declared.grammar.Kind.{Kind}

@@ -1,31 +1,23 @@
 -- What each line of a text as it is written says.
-use Prim.Native.Nat.{ℕ, zero, suc, _≤_, _<_}
-use mathlib.Core.Path.{_≡_, refl, sym, ap, ap₂, _∙_}
-use mathlib.Core.Bool.{Bool, true, false, not, cond, _&&_, _||_, and-eq-true-iff}
-use mathlib.Core.List.{List, [], _∷_, _++_, map}
+use Prim.Native.Nat.{ℕ, suc, _≤_}
+use mathlib.Core.Path.{_≡_, refl, ap, ap₂, _∙_}
+use mathlib.Core.Bool.{Bool, true, false, _&&_, and-eq-true-iff}
+use mathlib.Core.List.{List, [], _∷_, map}
 use mathlib.Core.Option.{Option, some, none}
 use native.Mathlib.Omega.{arith}
-use borrow.Author.Tests.{le-ltb, lt-leb}
-use lib.Dec.{leb, ltb, eqb}
+use borrow.Author.Tests.{le-ltb}
+use lib.Dec.{leb, ltb}
 use lib.ListN.{length}
 use Rattle.cqf.specs.Bounded.{every}
 use Rattle.cqf.specs.Form.{Form, mostHopsIn}
-use Rattle.cqf.specs.Limits.{maxHops, maxTop, maxPeriod, maxCount, maxLength, maxJitter, maxDrift, maxTimingJitter, maxSyncError, maxExtra, portSlots, flowSlots, guardOk, topOk, portOk}
-use Rattle.cqf.specs.Plan.{Clock, clockOk}
-use Rattle.words.specs.Words.{sameBytes}
+use Rattle.cqf.specs.Limits.{portSlots, portOk}
 use Rattle.words.specs.Decimal.{decimalValue}
-use Rattle.plan_reading.specs.Ranges.{PortOk, FlowOk, ExtraOk, JitterOk}
-use Rattle.plan_reading.specs.laws.fields.Within.{within-low, within-high}
-use Rattle.plan_reading.specs.laws.fields.Passes.{and-three}
-use Rattle.plan_text.specs.Names.{guardWord, topWord, portWord, rateWord, blockerWord, extraWord, flowWord, periodWord, countWord, lengthWord, jitterWord, routeWord, clocksWord, driftWord, timingWord, syncWord, formatWord}
-use Rattle.plan_text.specs.Kinds.{items, isRouted, isOther, kindOf, kindIn}
-use Rattle.plan_text.specs.Line.{Word, Line, says, coded, isNumber, Matched, matched, match, firstFailing, anyNone, numberTest, rangeTest, portTest, portWords, numbersIn, rangesIn, wordsBy, kindly, lineOf}
-use Rattle.plan_text.specs.Print.{digits, wordWhen}
-use Rattle.plan_text.specs.laws.Ranges.{blocking-most}
-use Rattle.plan_text.specs.declared.grammar.Item.{Item}
+use Rattle.plan_reading.specs.laws.fields.Within.{within-high}
+use Rattle.plan_text.specs.Kinds.{items, isRouted, isOther, kindIn}
+use Rattle.plan_text.specs.Line.{Word, says, coded, matched, match, firstFailing, anyNone, numberTest, rangeTest, portTest, portWords, numbersIn, rangesIn, wordsBy, kindly, lineOf}
+use Rattle.plan_text.specs.Print.{digits}
 use Rattle.plan_text.specs.declared.grammar.Kind.{Kind}
-use Rattle.text_back.specs.laws.Digits.{maxNumber, digits-value}
-use Rattle.text_back.specs.laws.Match.{same-itself, match-one, port-match, flow-match, clocks-match}
+use Rattle.text_back.specs.laws.Digits.{digits-value}
 
 -- none fails
 passes-none : {A : Type 0} (t : ℕ → A → Bool) → firstFailing t [] ≡ 0
