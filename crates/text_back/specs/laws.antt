@@ -9,3 +9,7 @@ pub mod LineSays
 pub mod Collect
 pub mod Parts
 pub mod Row
+pub mod Run
+pub mod Reached
+pub mod PlanWords
+pub mod PlanRead
