@@ -13,3 +13,5 @@ pub mod Run
 pub mod Reached
 pub mod PlanWords
 pub mod PlanRead
+pub mod Closing
+pub mod Saved

@@ -51,7 +51,7 @@ untouched {column} {puts} c xs i never = go (decLt 0 (getD (column (tablesOf xs)
     go (yes there) = let s = source c xs i there in absurd (all-at (λ x. Touches i (puts x) → ⊥) xs never (s .1) (s .2))
 
 -- the draft with these tables
-abbrev drafted : Form → (clocked flowing : Bool) → Plan → List ℕ → Draft
+abbrev pub drafted : Form → (clocked flowing : Bool) → Plan → List ℕ → Draft
 drafted form clocked flowing q lines =
     record {
       newer = asked form;

@@ -1,0 +1,2 @@
+-- What is proved of a plan's text that is read back.
+pub mod Theorem
