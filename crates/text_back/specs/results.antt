@@ -1,2 +1,3 @@
 -- What is proved of a plan's text that is read back.
 pub mod Theorem
+pub mod BytesTheorem
