@@ -15,3 +15,7 @@ pub mod PlanWords
 pub mod PlanRead
 pub mod Closing
 pub mod Saved
+pub mod Short
+pub mod ShortText
+pub mod ReadTidy
+pub mod ReadWhole

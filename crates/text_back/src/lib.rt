@@ -1,1 +1,1 @@
-// The text of a plan read back, in specs/.
+// The text of a plan read back, as theorems, in specs/.

@@ -1,5 +1,4 @@
--- The text of every plan, read back, gives that plan, and so the bytes as which it is saved. The texts are those that a text may be: no
--- longer than 65,536 bytes.
+-- The text of every plan, read back, gives that plan, and so the bytes as which it is saved.
 use Prim.Native.Nat.{ℕ, _≤_}
 use mathlib.Core.Path.{_≡_, refl, sym, ap, _∙_}
 use mathlib.Core.Bool.{Bool, true, not, and-eq-true-iff}
@@ -33,6 +32,8 @@ use Rattle.text_back.specs.laws.PlanWords.{plan-words}
 use Rattle.text_back.specs.laws.PlanRead.{drafted, plan-read}
 use Rattle.text_back.specs.laws.Closing.{plan-absent}
 use Rattle.text_back.specs.laws.Saved.{tidied-bytes}
+use Rattle.text_back.specs.laws.ShortText.{text-short}
+use Rattle.text_back.specs.laws.ReadWhole.{formIn, planIn}
 
 -- a text that is not too long is read by its lines
 by-lines : (text : List ℕ) → length text ≤ maxText → readText text ≡ readLines blank 1 (saidLines text)
@@ -55,11 +56,11 @@ module _ (form : Form) (p : Plan) (valid : validPlan p ≡ true) (sized : Sized 
 
   -- The text of a plan that the rules accept, in a form that can hold it, is read as this plan, in this form. The places of the table of
   -- routes past a route, which no plan says, are 0.
-  pub text-read : length (textOf form p) ≤ maxText → readText (textOf form p) ≡ reads form (tidied p)
+  pub text-read : readText (textOf form p) ≡ reads form (tidied p)
   unfolding textOf
-  text-read short =
+  text-read =
       let r = plan-read p valid form (fits-hops form (p .hops) fits) in
-      by-lines (textOf form p) short
+      by-lines (textOf form p) (text-short p valid form)
       ∙ ap (readLines blank 1) (lines-said (planLines form p) (plan-words p form))
       ∙ ap (readLines blank 1) (sym (append-nil (map joined (planLines form p))))
       ∙ r .reads []
@@ -67,9 +68,24 @@ module _ (form : Form) (p : Plan) (valid : validPlan p ≡ true) (sized : Sized 
       ∙ closes (not (clocksEqual p)) (r .next) (r .lines)
 
   -- So a plan whose tables are tidy, as those of each plan that was read are, comes back itself.
-  pub text-back : Tidy p → length (textOf form p) ≤ maxText → readText (textOf form p) ≡ reads form p
-  text-back tidy short = text-read short ∙ ap (reads form) (tidied-same p sized tidy)
+  pub text-back : Tidy p → readText (textOf form p) ≡ reads form p
+  text-back tidy = text-read ∙ ap (reads form) (tidied-same p sized tidy)
 
   -- And the text of any is encoded as the bytes as which the plan is saved.
-  pub text-encodes : length (textOf form p) ≤ maxText → Encodes (textOf form p) (formBytes form p)
-  text-encodes short = record { form = form; plan = tidied p; says = text-read short; saved = tidied-bytes p valid form }
+  pub text-encodes : Encodes (textOf form p) (formBytes form p)
+  text-encodes = record { form = form; plan = tidied p; says = text-read; saved = tidied-bytes p valid form }
+
+-- Two plans with one text are of one form, and the same but for the places past their routes.
+pub same-text
+    : (form other : Form) (p q : Plan)
+    → validPlan p ≡ true
+    → validPlan q ≡ true
+    → Sized p
+    → Sized q
+    → formFits (formNumber form) (p .hops) ≡ true
+    → formFits (formNumber other) (q .hops) ≡ true
+    → textOf form p ≡ textOf other q
+    → (form ≡ other) × (tidied p ≡ tidied q)
+same-text form other p q a b s t f g same =
+    let e : reads form (tidied p) ≡ reads other (tidied q) = sym (text-read form p a s f) ∙ ap readText same ∙ text-read other q b t g in
+    (ap (formIn form) e, ap (planIn p) e)
