@@ -90,7 +90,8 @@ def numbers_damaged(text):
 
 
 def routes():
-    """Routes of few ports and of many, more than there are; with a port twice, and ports that are none."""
+    """Routes of few ports and of many, more than there are; with a port twice, and ports that are none; of a flow
+    that is said again."""
     header = b"guard 1000\ntop 1000000\n"
     ports = [b"port %d rate 100\n" % n for n in range(1, 65)]
     for length in (1, 2, 3, 15, 16, 17, 18, 23, 24, 25, 26, 64, 65, 300, 20_000):
@@ -99,6 +100,7 @@ def routes():
             flow = b"flow 9 period 100000 length 230 route " + b" ".join(b"%d" % hop for hop in hops) + b"\n"
             for first in (b"", b"format 2\n"):
                 yield from (first + header + flow + joined(ports[:there]) for there in (2, length - 1, 64))
+                yield first + header + joined(ports) + b"flow 9 period 1000 length 64 route 1\n" + flow
 
 
 def padded(text, length):
