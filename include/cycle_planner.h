@@ -33,12 +33,13 @@
 #define CP_SPARES 64
 
 /* In bytes: the longest plan that a load takes; what any plan that a load left is saved as, at most; what cp_upgrade and cp_downgrade
- * write, at most; the longest gate list; the longest field. */
+ * write, at most; the longest gate list; the longest text of a plan, read or written; the longest field. */
 #define CP_MAX_PLAN 16384
 #define CP_MAX_SAVED 16384
 #define CP_MAX_UPGRADED 13399
 #define CP_MAX_DOWNGRADED 15002
 #define CP_MAX_GATES 48
+#define CP_MAX_TEXT 65536
 #define CP_MAX_FIELD 65
 
 /* Ports, flows and slots of a batch are numbered from 1, 1 and 0. */
@@ -74,7 +75,8 @@ enum cp_refusal {
   CP_STEPS_ENDED = 26,
   CP_SLOT_TAKEN = 27,
   CP_NO_ANSWER_YET = 28,
-  CP_ABSENT_FLOW = 29
+  CP_ABSENT_FLOW = 29,
+  CP_BAD_TEXT = 30
 };
 
 /* A sentence for each refusal, without a full stop; one for any other number too. */
@@ -108,7 +110,78 @@ static inline const char *cp_refusal_text(uint32_t refusal) {
     case CP_SLOT_TAKEN: return "the slot of the batch has a plan";
     case CP_NO_ANSWER_YET: return "the slot of the batch has no final answer";
     case CP_ABSENT_FLOW: return "the flow is not in the plan";
+    case CP_BAD_TEXT: return "a line of the text is refused";
     default: return "no refusal of this library";
+  }
+}
+
+/* Why a line of a text is refused, with a sentence for each, and what of the line it is about, with its word. */
+enum cp_text_fault {
+  CP_FAULT_WORD = 1,
+  CP_FAULT_NUMBER = 2,
+  CP_FAULT_RANGE = 3,
+  CP_FAULT_AGAIN = 4,
+  CP_FAULT_TWICE = 5,
+  CP_FAULT_INCOMPLETE = 6,
+  CP_FAULT_ABSENT = 7,
+  CP_FAULT_SIZE = 8
+};
+static inline const char *cp_text_fault_text(uint32_t fault) {
+  switch (fault) {
+    case CP_FAULT_WORD: return "a word is missing or wrong";
+    case CP_FAULT_NUMBER: return "a number is missing or is none";
+    case CP_FAULT_RANGE: return "a number is out of its range";
+    case CP_FAULT_AGAIN: return "something is said again";
+    case CP_FAULT_TWICE: return "a route names a port twice";
+    case CP_FAULT_INCOMPLETE: return "guard, top or a flow is missing";
+    case CP_FAULT_ABSENT: return "a route names a port that is not in the plan";
+    case CP_FAULT_SIZE: return "the text has over 65,536 bytes";
+    default: return "no fault of a text";
+  }
+}
+enum cp_text_item {
+  CP_ITEM_GUARD = 1,
+  CP_ITEM_TOP = 2,
+  CP_ITEM_PORT = 3,
+  CP_ITEM_RATE = 4,
+  CP_ITEM_BLOCKER = 5,
+  CP_ITEM_EXTRA = 6,
+  CP_ITEM_FLOW = 7,
+  CP_ITEM_PERIOD = 8,
+  CP_ITEM_COUNT = 9,
+  CP_ITEM_LENGTH = 10,
+  CP_ITEM_JITTER = 11,
+  CP_ITEM_DRIFT = 12,
+  CP_ITEM_TIMING = 13,
+  CP_ITEM_SYNC = 14,
+  CP_ITEM_FORMAT = 15,
+  CP_ITEM_ROUTE = 16,
+  CP_ITEM_HOPS = 17,
+  CP_ITEM_FIRST = 18,
+  CP_ITEM_END = 19
+};
+static inline const char *cp_text_item_text(uint32_t item) {
+  switch (item) {
+    case CP_ITEM_GUARD: return "guard";
+    case CP_ITEM_TOP: return "top";
+    case CP_ITEM_PORT: return "port";
+    case CP_ITEM_RATE: return "rate";
+    case CP_ITEM_BLOCKER: return "blocker";
+    case CP_ITEM_EXTRA: return "extra";
+    case CP_ITEM_FLOW: return "flow";
+    case CP_ITEM_PERIOD: return "period";
+    case CP_ITEM_COUNT: return "count";
+    case CP_ITEM_LENGTH: return "length";
+    case CP_ITEM_JITTER: return "jitter";
+    case CP_ITEM_DRIFT: return "drift";
+    case CP_ITEM_TIMING: return "timing";
+    case CP_ITEM_SYNC: return "sync";
+    case CP_ITEM_FORMAT: return "format";
+    case CP_ITEM_ROUTE: return "route";
+    case CP_ITEM_HOPS: return "how many ports a route has";
+    case CP_ITEM_FIRST: return "the first word of a line";
+    case CP_ITEM_END: return "what stands behind a line's last number";
+    default: return "no item of a text";
   }
 }
 
@@ -149,6 +222,7 @@ typedef struct { uint32_t refusal; int64_t slack; } cp_slack_answer;
 typedef struct { uint32_t refusal; uint64_t first, second, steps; } cp_fixed_point_answer;
 typedef struct { uint32_t refusal; uint64_t cycle, frames, instant; } cp_burst_answer;
 typedef struct { uint32_t refusal, failing, port; uint64_t cycle, bits, most; } cp_unsent_answer;
+typedef struct { uint32_t refusal, line, fault, item; uint64_t value; } cp_encode_answer;
 typedef struct { uint32_t refusal, tag; uint64_t offset; uint64_t numbers[6]; } cp_field_read;
 
 /* A span: a run of admissible durations from 1 to top that can grow at neither end, given by its first and its last, in ns. */
@@ -178,7 +252,9 @@ cp_answer cp_nearest_columns(CP_LENT(const), uint64_t duration);
 cp_burst_answer cp_burst_columns(CP_LENT(const), uint64_t duration, uint64_t port, uint64_t flow, uint64_t frame);
 cp_unsent_answer cp_unsent_columns(CP_LENT(const), uint64_t duration);
 cp_answer cp_save_columns(CP_LENT(const), uint8_t *buffer, size_t length);
+cp_answer cp_text_columns(CP_LENT(const), uint8_t *buffer, size_t length);
 cp_answer cp_gates_columns(CP_LENT(const), uint64_t duration, uint64_t even, uint64_t odd, uint8_t *buffer, size_t length);
+cp_encode_answer cp_encode_bytes(const uint8_t *text, size_t length, uint8_t *buffer, size_t room);
 cp_answer cp_upgrade_bytes(const uint8_t *plan, size_t length, uint8_t *buffer, size_t room);
 cp_answer cp_downgrade_bytes(const uint8_t *plan, size_t length, uint8_t *buffer, size_t room);
 cp_field_read cp_field_bytes(const uint8_t *plan, size_t length, size_t offset);
@@ -322,6 +398,24 @@ static inline cp_burst_answer cp_burst(const cp_planner *planner, uint64_t durat
 static inline cp_answer cp_save(const cp_planner *planner, uint8_t *buffer, size_t length) {
   uint8_t none = 0;
   return cp_save_columns(CP_COLUMNS(planner), length == 0 ? &none : buffer, length);
+}
+
+/* A plan as text: a line for each port and flow, in words and decimal numbers (docs/REFERENCE.md, "The text of a plan"). cp_text writes
+ * the text of the held plan into the buffer. Result: first = the length written, at most CP_MAX_TEXT, second = 0; the bytes behind it
+ * remain. Refusal 20: 0, 0. 13, the buffer is shorter than the text: first = the length needed, second = 0. Neither writes a byte. */
+static inline cp_answer cp_text(const cp_planner *planner, uint8_t *buffer, size_t length) {
+  uint8_t none = 0;
+  return cp_text_columns(CP_COLUMNS(planner), length == 0 ? &none : buffer, length);
+}
+
+/* cp_encode writes the plan that a text says as its bytes in strict order, as cp_save does. Result: value = the length written. Refusal
+ * 13, the buffer is shorter: value = the length needed; CP_MAX_SAVED is enough for every plan that a load takes (a text behind format 2
+ * can say up to 17,495 bytes). CP_BAD_TEXT: line = the line at which the text is refused, counted from 1, fault = why, item = what it is
+ * about, value = the number that is named with it, or 0; a number of 2^64 - 2 or more is told as 2^64 - 2. The others are 0, and a
+ * refusal writes no byte. What cp_text wrote is encoded as what cp_save writes. */
+static inline cp_encode_answer cp_encode(const uint8_t *text, size_t length, uint8_t *buffer, size_t room) {
+  uint8_t none = 0;
+  return cp_encode_bytes(length == 0 ? &none : text, length, room == 0 ? &none : buffer, room);
 }
 
 /* The converters. cp_upgrade reads a plan of the older form loosely and writes it in the newer one, at most 13,399 bytes; cp_downgrade

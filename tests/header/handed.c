@@ -85,6 +85,7 @@ LENDING(lean_least, uint64_t)
 LENDING(lean_margin_safe, uint64_t)
 LENDING(spans, cp_span_record)
 LENDING(save, uint8_t)
+LENDING(text, uint8_t)
 CONVERTER(upgrade)
 CONVERTER(downgrade)
 WRITER(header, 2)
@@ -124,6 +125,10 @@ cp_field_read cp_field_bytes(const uint8_t *plan, size_t length, size_t offset) 
   begin("field"), SLICE(plan, length), number(offset);
   return (cp_field_read){1, 2, 3, {4, 5, 6, 7, 8, 9}};
 }
+cp_encode_answer cp_encode_bytes(const uint8_t *text, size_t length, uint8_t *buffer, size_t room) {
+  begin("encode"), SLICE(text, length), SLICE(buffer, room);
+  return (cp_encode_answer){1, 2, 3, 4, 5};
+}
 uint8_t cp_repeats_bytes(uint32_t tag, const uint8_t *value, size_t length) {
   begin("repeats"), number(tag), SLICE(value, length);
   return 1;
@@ -161,6 +166,8 @@ static void lending(void *start, size_t length) {
   same_answer("gates", cp_gates(&planner, 11, 12, 13, start, length), answer(1, 2, 3)), handed(3, 1, want);
   same_answer("upgrade", cp_upgrade(start, length, start, length), answer(1, 2, 3)), handed(0, 2, want);
   same_answer("downgrade", cp_downgrade(start, length, start, length), answer(1, 2, 3)), handed(0, 2, want);
+  same_answer("text", cp_text(&planner, start, length), answer(1, 2, 3)), handed(0, 1, want);
+  same("encode", "the value", cp_encode(start, length, start, length).value, 5), handed(0, 2, want);
   same("field", "a number", cp_field(start, length, 11).numbers[5], 9), handed(1, 1, want);
   same("repeats", "the answer", cp_repeats(11, start, length), 1), handed(1, 1, want);
   same_answer("batch_place", cp_batch_place(batch, 12, start, length).answer, answer(1, 2, 3)), handed(2, 1, want);

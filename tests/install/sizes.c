@@ -37,15 +37,15 @@ static void lengths(void) {
 
 /* Each refusal has a sentence of its own, and no other number has one. */
 static void texts(void) {
-  const char *none = cp_refusal_text(CP_ABSENT_FLOW + 1);
+  const char *none = cp_refusal_text(CP_BAD_TEXT + 1);
   int sentences = 0;
-  for (uint32_t number = 0; number <= CP_ABSENT_FLOW; number++) {
+  for (uint32_t number = 0; number <= CP_BAD_TEXT; number++) {
     const char *text = cp_refusal_text(number);
     if (strcmp(text, none) == 0) continue;
     sentences++;
     for (uint32_t other = 0; other < number; other++) holds("a sentence of its own", strcmp(text, cp_refusal_text(other)) != 0);
   }
-  holds("28 sentences", sentences == 28 && strcmp(cp_refusal_text(14), none) == 0 && strcmp(cp_refusal_text(19), none) == 0);
+  holds("29 sentences", sentences == 29 && strcmp(cp_refusal_text(14), none) == 0 && strcmp(cp_refusal_text(19), none) == 0);
 }
 
 int main(void) {

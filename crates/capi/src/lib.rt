@@ -26,6 +26,8 @@ mod loads; // loads.rt: the loads
 mod near; // near.rt: the nearest durations
 mod nearest_numbers; // nearest_numbers.rt: those of the call that names the nearest durations
 mod searches; // searches.rt: the searches
+mod text; // text.rt: a plan's text
+mod text_written; // text_written.rt: the held plan as text
 mod usable; // usable.rt: those of the calls that name spans
 mod writes; // writes.rt: calls that write fields
 mod written; // written.rt: those of the calls that write bytes
@@ -67,6 +69,15 @@ pub struct UnsentAnswerNumbers {
     pub cycle: u64,
     pub bits: u64,
     pub most: u64,
+}
+
+#[repr(C)]
+pub struct EncodeAnswerNumbers {
+    pub refusal: u32,
+    pub line: u32,
+    pub fault: u32,
+    pub item: u32,
+    pub value: u64,
 }
 
 #[repr(C)]
