@@ -5,8 +5,8 @@ use console::say;
 use console::say_number;
 use plan_text::grammar::Fault;
 use plan_text::grammar::Item;
-use plan_text::grammar::high_of;
-use plan_text::grammar::low_of;
+use plan_text::ranges::high_of;
+use plan_text::ranges::low_of;
 
 // The largest number that is told apart from larger ones.
 const LARGEST: u64 = 18_446_744_073_709_551_614;

@@ -1,6 +1,7 @@
 -- Laws of what a line says.
 pub mod Grammar
 pub mod Line
+pub mod Matching
 pub mod Failing
 pub mod Ports
 pub mod Says

@@ -2,8 +2,8 @@
 use crate::grammar::Item;
 use crate::grammar::Kind;
 use crate::grammar::NO_NUMBER;
-use crate::grammar::in_range;
-use crate::grammar::item_at;
+use crate::kinds::item_at;
+use crate::ranges::in_range;
 ghost use mathlib.Core.Path.{_≡_};
 ghost use Rattle.plan_text.specs.Line.{firstFailing};
 ghost use Rattle.plan_text.specs.Reading.{testBy};

@@ -1,6 +1,6 @@
 -- A line that says something passed its tests, and so a line that is taken.
-use Prim.Native.Nat.{ℕ, suc, _≤_}
-use mathlib.Core.Path.{_≡_, refl, sym, ap, subst, _∙_}
+use Prim.Native.Nat.{ℕ, suc}
+use mathlib.Core.Path.{_≡_, refl, ap, _∙_}
 use mathlib.Core.Bool.{Bool, true, false, cond, _&&_, _||_, true≢false}
 use mathlib.Core.List.{List, [], _∷_, map}
 use mathlib.Core.Option.{Option, some, none}
@@ -12,9 +12,9 @@ use Rattle.words.specs.Words.{words}
 use Rattle.words.specs.Decimal.{decimalValue}
 use Rattle.plan_text.specs.Grammar.{absentOf}
 use Rattle.plan_text.specs.Kinds.{items, isRouted, isOther, kindIn}
-use Rattle.plan_text.specs.Line.{Word, Line, nothing, says, refused, coded, given, numberIn, rest, Matched, wrong, matched, with, matchBy, match, portWords, lastItem, firstFailing, itemAt, numberTest, rangeTest, portTest, formBy, rangesIn, anyNone, lacksPorts, numbersIn, wordsBy, wordsIn, kindly, lineOf}
+use Rattle.plan_text.specs.Line.{Word, Line, nothing, says, refused, coded, given, numberIn, rest, Matched, wrong, matched, with, matchBy, match, portWords, firstFailing, itemAt, numberTest, rangeTest, portTest, formBy, rangesIn, anyNone, lacksPorts, numbersIn, wordsBy, wordsIn, kindly, lineOf}
 use Rattle.plan_text.specs.Reading.{Fits}
-use Rattle.plan_text.specs.Text.{Draft, Step, stop, more, stepBy, stepAt}
+use Rattle.plan_text.specs.Text.{Draft, more, stepBy, stepAt}
 use Rattle.plan_text.specs.Drafting.{Goes, idle, takes}
 use Rattle.plan_text.specs.laws.Steps.{more-inj, stop-more, taken-more}
 use Rattle.plan_text.specs.declared.grammar.Item.{Item}

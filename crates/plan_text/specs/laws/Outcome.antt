@@ -1,15 +1,14 @@
 -- Laws of what the reading of a text leaves, by what it reads.
 use Prim.Native.Nat.{ℕ}
-use mathlib.Core.Path.{_≡_, refl, sym, ap, _∙_}
+use mathlib.Core.Path.{_≡_, refl, ap, _∙_}
 use mathlib.Core.Bool.{Bool, true, false}
 use mathlib.Core.List.{List}
-use Rattle.cqf.specs.Form.{Form, formNumber, formFits}
+use Rattle.cqf.specs.Form.{formNumber}
 use Rattle.cqf.specs.Plan.{Plan, noPlan}
 use Rattle.tables.specs.Tables.{planOf}
 use Rattle.plan_text.specs.Line.{formBy}
-use Rattle.plan_text.specs.Text.{Reading, reads, rejected, readText}
+use Rattle.plan_text.specs.Text.{reads, rejected, readText}
 use Rattle.plan_text.specs.Outcome.{isNewer, textAnswer, textLeaves, textForm, TextReads}
-use Rattle.plan_text.specs.laws.Whole.{text-said}
 use Rattle.plan_text.specs.declared.grammar.Item.{Item}
 use Rattle.plan_text.specs.declared.grammar.Fault.{Fault}
 use Rattle.plan_text.specs.declared.text.TextAnswer.{TextAnswer}

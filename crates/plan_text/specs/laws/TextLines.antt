@@ -6,7 +6,7 @@ use mathlib.Core.List.{List, [], _∷_}
 use native.Mathlib.Omega.{arith}
 use lib.ListN.{length, getD, take, drop, length-drop, drop-of-length-le, getD-replicate}
 use lib.Seq.{drop-cons, drop-drop}
-use Rattle.words.specs.Lines.{isFeed, lines, uncommented, saidLines}
+use Rattle.words.specs.Lines.{isFeed, lines, saidLines}
 use Rattle.words.specs.Sizes.{saidSize, lineSize, LineAt}
 use Rattle.words.specs.laws.Lines.{first-line, said-most}
 use borrow.Author.Tests.{le-leb, lt-leb}

@@ -1,22 +1,21 @@
 -- Every plan that a text says is valid, and fits its form: the tables are after each line, but for what the end of a text tests.
-use Prim.Native.Nat.{ℕ, zero, suc, _+_, _-_, _*_, _≤_, _<_}
+use Prim.Native.Nat.{ℕ, _-_, _≤_, _<_}
 use mathlib.Core.Path.{_≡_, refl, sym, ap, subst, _∙_}
-use mathlib.Core.Bool.{Bool, true, false, not, cond, _&&_, _||_, and-eq-true-iff, true≢false, false≢true}
+use mathlib.Core.Bool.{true, false, and-eq-true-iff, false≢true}
 use mathlib.Core.List.{List, [], _∷_}
 use native.Mathlib.Omega.{arith}
 use native.Mathlib.Decide.{ℕ-discrete}
 use borrow.Author.Tests.{lt-ltb}
-use lib.ListN.{length, getD, set, replicate, getD-replicate, take}
+use lib.ListN.{length, getD, set, replicate, getD-replicate}
 use lib.Seq.{getD-set-same, getD-set-other, take-all}
 use Rattle.cqf.specs.Bounded.{every, distinct}
-use Rattle.cqf.specs.Form.{Form, older, newer, mostHopsIn}
+use Rattle.cqf.specs.Form.{Form, newer, mostHopsIn}
 use Rattle.cqf.specs.Limits.{portSlots, flowSlots, portOk, flowOk, guardOk, topOk}
 use Rattle.cqf.specs.Plan.{Plan, noPlan, rateOf, extraOf, periodOf, jitterOf, hopsOf, present, portIn}
 use Rattle.cqf.specs.laws.Route.{portIn-there}
 use Rattle.plan_reading.specs.Store.{store, storeAll}
 use Rattle.plan_reading.specs.Reading.{hasFlow}
 use Rattle.plan_reading.specs.Sized.{Sized}
-use Rattle.plan_reading.specs.Ranges.{PortOk, FlowOk, ExtraOk, JitterOk}
 use Rattle.plan_reading.specs.laws.fields.Within.{within-low, within-high, slot-below}
 use Rattle.plan_reading.specs.laws.reading.Absent.{flow-there}
 use Rattle.plan_reading.specs.laws.validity.Slots.{validRate, validExtra, validIn, validJitter}

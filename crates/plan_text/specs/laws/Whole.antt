@@ -1,23 +1,23 @@
 -- A text that says a plan says a valid one, and one that fits its form.
-use Prim.Native.Nat.{ℕ, zero, suc, _-_, _*_, _≤_, _<_}
+use Prim.Native.Nat.{ℕ, zero, suc, _-_, _<_}
 use mathlib.Core.Path.{_≡_, refl, sym, ap, subst, _∙_}
-use mathlib.Core.Bool.{Bool, true, false, not, cond, _&&_, _||_, and-eq-true-iff, or-true, true≢false, false≢true}
+use mathlib.Core.Bool.{Bool, true, false, not, cond, _&&_, _||_, and-eq-true-iff, or-true, false≢true}
 use mathlib.Core.List.{List, [], _∷_}
 use native.Mathlib.Omega.{arith}
 use native.Mathlib.Decide.{ℕ-discrete}
-use borrow.Author.Tests.{eq-eqb, ne-eqb, eqb-true, eqb-false, le-leb, not-false}
+use borrow.Author.Tests.{eq-eqb, eqb-true, eqb-false, le-leb}
 use lib.Dec.{eqb, leb, ltb}
 use lib.ListN.{length, getD}
-use Rattle.cqf.specs.Bounded.{every, distinct, anyTo, sublist}
+use Rattle.cqf.specs.Bounded.{every, distinct}
 use Rattle.cqf.specs.Form.{Form, older, newer, formNumber, formFits, mostHopsIn}
-use Rattle.cqf.specs.Limits.{portSlots, flowSlots, routeStride, portOk, flowOk, extraOk, jitterOk, periodOk, countOk, lengthOk, hopsOk}
+use Rattle.cqf.specs.Limits.{portSlots, flowSlots, portOk, flowOk, extraOk, jitterOk, periodOk, countOk, lengthOk, hopsOk}
 use Rattle.cqf.specs.Plan.{Plan, rateOf, extraOf, periodOf, countOf, lengthOf, jitterOf, hopsOf, routeOf, present, portIn, validPort, validFlow, validPlan}
 use Rattle.cqf.specs.laws.Bounded.{or-cases, allTo-every, anyTo-some}
 use Rattle.cqf.specs.laws.Route.{portIn-there}
 use Rattle.plan_reading.specs.Reading.{hasFlow}
 use Rattle.plan_reading.specs.laws.reading.Absent.{flow-there}
 use Rattle.plan_reading.specs.laws.validity.Slots.{validExtra, validIn, validJitter, port-whole, flow-whole}
-use Rattle.words.specs.Lines.{lines, uncommented, saidLines}
+use Rattle.words.specs.Lines.{lines, saidLines}
 use Rattle.plan_text.specs.Line.{formBy}
 use Rattle.plan_text.specs.Text.{Draft, Step, stop, more, blank, Absent, missing, missingOf, lower, absentTo, absentIn, Reading, reads, rejected, closing, stepAt, readLines, readText, maxText}
 use Rattle.plan_text.specs.laws.Fitting.{step-goes}

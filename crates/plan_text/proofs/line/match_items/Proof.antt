@@ -10,7 +10,8 @@ use Rattle.words.specs.Words.{words}
 use Rattle.plan_text.specs.Kinds.{items}
 use Rattle.plan_text.specs.Line.{match}
 use Rattle.cqf.specs.Limits.{maxHops}
-use Rattle.plan_text.specs.laws.Line.{SoFar, items-most, so-far-none, so-far-wrong, so-far-more, so-far-all}
+use Rattle.plan_text.specs.laws.Line.{items-most}
+use Rattle.plan_text.specs.laws.Matching.{SoFar, so-far-none, so-far-wrong, so-far-more, so-far-all}
 use Rattle.plan_text.proofs.line.match_items.Statement.{statement}
 use Rattle.plan_text.proofs.line.match_items.Tie as tie
 

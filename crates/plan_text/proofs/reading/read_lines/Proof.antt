@@ -1,16 +1,16 @@
 -- `read_lines` meets its contract. The invariant: the reading from this line on gives what the reading from the first gives.
-use Prim.Native.Nat.{ℕ, suc, _+_, _-_, _≤_, _<_}
-use mathlib.Core.Path.{_≡_, refl, sym, ap, subst, _∙_}
+use Prim.Native.Nat.{ℕ, _-_, _≤_, _<_}
+use mathlib.Core.Path.{_≡_, sym, ap, subst, _∙_}
 use mathlib.Core.List.{List}
 use native.Mathlib.Omega.{arith}
 use borrow.Author.Needs.{needs}
 use denote.Ref.{now}
-use lib.ListN.{length, take, drop, replicate}
+use lib.ListN.{length, replicate}
 use Rattle.cqf.specs.Limits.{flowSlots}
-use Rattle.cqf.specs.Plan.{Plan, noPlan}
+use Rattle.cqf.specs.Plan.{Plan}
 use Rattle.words.specs.Lines.{saidLines}
-use Rattle.plan_text.specs.Text.{Draft, Step, more, blank, readLines, readText, maxText}
-use Rattle.plan_text.specs.Drafting.{draftOf, unread, progressOf, StepsAs}
+use Rattle.plan_text.specs.Text.{Draft, Step, blank, readLines, readText}
+use Rattle.plan_text.specs.Drafting.{draftOf, unread, progressOf}
 use Rattle.plan_text.specs.laws.TextLines.{Reached, reached-first, line-inside, line-onward, reached-more, reached-stop, read-end, text-long, text-short}
 use Rattle.plan_text.specs.declared.draft.Progress.{Progress}
 use Rattle.plan_text.proofs.reading.read_lines.Statement.{statement}

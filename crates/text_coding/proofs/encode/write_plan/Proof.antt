@@ -8,7 +8,6 @@ use Rattle.cqf.specs.Form.{Form}
 use Rattle.cqf.specs.Plan.{Plan}
 use Rattle.plan.specs.Answer.{formOf}
 use Rattle.tables.specs.Tables.{planOf}
-use Rattle.answers.specs.Answer.{Answer}
 use Rattle.saving.specs.Answer.{saveOf}
 use Rattle.saving.specs.declared.SaveAnswer.{SaveAnswer}
 use Rattle.text_coding.specs.Encode.{answered}
