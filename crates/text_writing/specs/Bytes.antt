@@ -30,7 +30,7 @@ spaced (w ∷ ws) = (space ∷ w) ++ spaced ws
 abbrev pub endBytes : List ℕ
 endBytes = lineFeed ∷ []
 
--- the line of a port, and the most bytes that it has
+-- the line of a port, and the most bytes that it has: no number has more than nine digits
 abbrev pub portBytes : (number rate blocking extra : ℕ) → List ℕ
 portBytes n rate blocking extra =
     ((((portWord ++ numberBytes n) ++ pairBytes rateWord rate) ++ unlessBytes blockerWord blocking 0) ++ unlessBytes extraWord extra 0) ++ endBytes
@@ -38,7 +38,7 @@ portBytes n rate blocking extra =
 abbrev pub mostPort : ℕ
 mostPort = 64
 
--- of a flow, up to its route and with it, and the most bytes of a port on a route
+-- the line of a flow up to its route, and the whole of it
 abbrev pub flowNumberBytes : (number period count bytes jitter : ℕ) → List ℕ
 flowNumberBytes n period count bytes jitter =
     ((((flowWord ++ numberBytes n) ++ pairBytes periodWord period) ++ unlessBytes countWord count 1) ++ pairBytes lengthWord bytes) ++ unlessBytes jitterWord jitter 0
@@ -47,6 +47,7 @@ abbrev pub flowBytes : (number period count bytes jitter : ℕ) → List ℕ →
 flowBytes n period count bytes jitter route =
     ((flowNumberBytes n period count bytes jitter ++ (space ∷ routeWord)) ++ spaced (map digits route)) ++ endBytes
 
+-- the most bytes of a port on a route, of the line up to its route, and of the line
 abbrev pub mostHop : ℕ
 mostHop = 4
 
@@ -63,10 +64,6 @@ portAt p q = lineWhen (ltb 0 (rateOf p q)) (portLine p q)
 abbrev pub flowAt : Plan → ℕ → List (List Word)
 flowAt p f = lineWhen (ltb 0 (periodOf p f)) (flowLine p f)
 
--- routes that are no longer than a plan may have
-abbrev pub HopsFit : List ℕ → Type 0
-HopsFit hops = (f : ℕ) → f < flowSlots → getD hops f 0 ≤ maxHops
-
 -- the line of the clocks, which is left out where they are equal
 abbrev pub clocksBytes : Clock → List ℕ
 clocksBytes k =
@@ -78,9 +75,19 @@ mostClocks = 55
 abbrev pub clocksAt : Plan → List (List Word)
 clocksAt p = lineWhen (not (clocksEqual p)) (clocksLine p)
 
--- the most bytes of the form's line, and of a text
+-- the most bytes of the form's line, of the guard band's and of the top's, and of all lines
 abbrev pub mostForm : ℕ
 mostForm = 17
 
+abbrev pub mostGuard : ℕ
+mostGuard = 16
+
+abbrev pub mostTop : ℕ
+mostTop = 14
+
 abbrev pub mostText : ℕ
-mostText = mostForm + 16 + 14 + portSlots * mostPort + flowSlots * mostFlow + mostClocks
+mostText = mostForm + mostGuard + mostTop + portSlots * mostPort + flowSlots * mostFlow + mostClocks
+
+-- routes that are no longer than a plan may have
+abbrev pub HopsFit : List ℕ → Type 0
+HopsFit hops = (f : ℕ) → f < flowSlots → getD hops f 0 ≤ maxHops

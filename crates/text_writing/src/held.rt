@@ -47,6 +47,7 @@ pub fn write_text<'a>(
     ) {
         return TextAnswer::NoPlan;
     }
+    // Counted before a byte is written: of what goes into one byte, nearly all is left out.
     let mut none = [0u8; 1];
     let needed = put_text(
         form,

@@ -1,136 +1,41 @@
--- `put_digits` meets its contract.
-use borrow.Author.Needs.{needs}
-use Rattle.text_writing.specs.laws.Digits.{puts-no-digit, puts-digit, puts-last}
+-- `put_digits` meets its contract. The measure is how many digits it may write at most; the digits in front are written by its call of
+-- itself.
 use Prim.Native.Nat.{ℕ, _<_}
+use borrow.Author.Needs.{needs}
 use borrow.Fn.Kinds.{In}
 use borrow.Fn.PlainCycle.{Measures, is, falls, and}
+use Rattle.text_writing.specs.laws.Digits.{puts-no-digit, puts-digit, puts-last}
+use Rattle.text_writing.proofs.number.put_byte.Reads as put-byte
+use Rattle.text_writing.proofs.number.put_digits.Kinds as kinds
 use Rattle.text_writing.proofs.number.put_digits.Reads as put-digits
-use Rattle.text_writing.proofs.number.put_digits.Kinds as put-digits-kinds
-use Rattle.text_writing.proofs.number.+put_digits.Lts-put_digits as put-digits-lts
-use Rattle.text_writing.proofs.number.put_byte.Reads as put-byte-reads
+use Rattle.text_writing.proofs.number.+put_digits.Lts-put_digits as lts
 use Rattle.text_writing.proofs.number.+put_digits.{statement}
 use Rattle.text_writing.proofs.number.+put_digits.Tie.{close}
 
-abbrev μ-put-digits : Measures 1 put-digits-kinds.ps ℕ
+abbrev μ-put-digits : Measures 1 kinds.ps ℕ
 μ-put-digits κs a = a .1 .1 .0
 
-abbrev put-digits-at : ℕ → In 1 put-digits-kinds.ps
-put-digits-at t =
-    and 1 put-digits-kinds.ps (is 1 put-digits-kinds.ps μ-put-digits t) put-digits.Pre
+-- what it is given at the measure t, and what a call of it asks below t
+abbrev at : ℕ → In 1 kinds.ps
+at t = and 1 kinds.ps (is 1 kinds.ps μ-put-digits t) put-digits.Pre
 
-abbrev put-digits-below : ℕ → In 1 put-digits-kinds.ps
-put-digits-below t =
-    and 1 put-digits-kinds.ps (falls 1 put-digits-kinds.ps _<_ μ-put-digits t) put-digits.Pre
+abbrev below : ℕ → In 1 kinds.ps
+below t = and 1 kinds.ps (falls 1 kinds.ps _<_ μ-put-digits t) put-digits.Pre
 
-put-digits-returns : (t : ℕ) → put-digits-lts.Need-returns (
-  put-byte-reads.Asked,
-  put-byte-reads.Learnt,
-  put-digits-below t,
-  put-digits.Post,
-) (put-digits-at t) put-digits.Post
-put-digits-returns t c =
+returns : (t : ℕ) → lts.Need-returns (put-byte.Asked, put-byte.Learnt, below t, put-digits.Post) (at t) put-digits.Post
+returns t c =
     let a = c .before .before .args in
     puts-no-digit (a .most) (a .n) (c .if1 .taken)
 
-put-digits-cast-put-byte : (t : ℕ) → put-digits-lts.Need-cast-put-byte (
-  put-byte-reads.Asked,
-  put-byte-reads.Learnt,
-  put-digits-below t,
-  put-digits.Post,
-) (put-digits-at t) put-digits.Post
-put-digits-cast-put-byte t c = search needs
-
-put-digits-add-put-byte : (t : ℕ) → put-digits-lts.Need-add-put-byte (
-  put-byte-reads.Asked,
-  put-byte-reads.Learnt,
-  put-digits-below t,
-  put-digits.Post,
-) (put-digits-at t) put-digits.Post
-put-digits-add-put-byte t c = search needs
-
-put-digits-put-byte-requires : (t : ℕ) → put-digits-lts.Need-put-byte-requires (
-  put-byte-reads.Asked,
-  put-byte-reads.Learnt,
-  put-digits-below t,
-  put-digits.Post,
-) (put-digits-at t) put-digits.Post
-put-digits-put-byte-requires t c κs = search needs
-
-put-digits-same-length : (t : ℕ) → put-digits-lts.Need-same-length (
-  put-byte-reads.Asked,
-  put-byte-reads.Learnt,
-  put-digits-below t,
-  put-digits.Post,
-) (put-digits-at t) put-digits.Post
-put-digits-same-length t c = search needs
-
-put-digits-returns-2 : (t : ℕ) → put-digits-lts.Need-returns-2 (
-  put-byte-reads.Asked,
-  put-byte-reads.Learnt,
-  put-digits-below t,
-  put-digits.Post,
-) (put-digits-at t) put-digits.Post
-put-digits-returns-2 t c =
+returns-2 : (t : ℕ) → lts.Need-returns-2 (put-byte.Asked, put-byte.Learnt, below t, put-digits.Post) (at t) put-digits.Post
+returns-2 t c =
     let written = c .before .before in
     let low = written .before .before in
     let a = low .before .before .before .args in
     puts-digit (a .most) (a .n) (low .before .if1 .left) (low .if2 .taken) (written .put-byte .ensures)
 
-put-digits-sub-put-digits : (t : ℕ) → put-digits-lts.Need-sub-put-digits (
-  put-byte-reads.Asked,
-  put-byte-reads.Learnt,
-  put-digits-below t,
-  put-digits.Post,
-) (put-digits-at t) put-digits.Post
-put-digits-sub-put-digits t c = search needs
-
-put-digits-put-digits-requires : (t : ℕ) → put-digits-lts.Need-put-digits-requires (
-  put-byte-reads.Asked,
-  put-byte-reads.Learnt,
-  put-digits-below t,
-  put-digits.Post,
-) (put-digits-at t) put-digits.Post
-put-digits-put-digits-requires t c κs = search needs
-
-put-digits-cast-put-byte-2 : (t : ℕ) → put-digits-lts.Need-cast-put-byte-2 (
-  put-byte-reads.Asked,
-  put-byte-reads.Learnt,
-  put-digits-below t,
-  put-digits.Post,
-) (put-digits-at t) put-digits.Post
-put-digits-cast-put-byte-2 t c = search needs
-
-put-digits-add-put-byte-2 : (t : ℕ) → put-digits-lts.Need-add-put-byte-2 (
-  put-byte-reads.Asked,
-  put-byte-reads.Learnt,
-  put-digits-below t,
-  put-digits.Post,
-) (put-digits-at t) put-digits.Post
-put-digits-add-put-byte-2 t c = search needs
-
-put-digits-put-byte-requires-2 : (t : ℕ) → put-digits-lts.Need-put-byte-requires-2 (
-  put-byte-reads.Asked,
-  put-byte-reads.Learnt,
-  put-digits-below t,
-  put-digits.Post,
-) (put-digits-at t) put-digits.Post
-put-digits-put-byte-requires-2 t c κs = search needs
-
-put-digits-same-length-2 : (t : ℕ) → put-digits-lts.Need-same-length-2 (
-  put-byte-reads.Asked,
-  put-byte-reads.Learnt,
-  put-digits-below t,
-  put-digits.Post,
-) (put-digits-at t) put-digits.Post
-put-digits-same-length-2 t c = search needs
-
-put-digits-returns-3 : (t : ℕ) → put-digits-lts.Need-returns-3 (
-  put-byte-reads.Asked,
-  put-byte-reads.Learnt,
-  put-digits-below t,
-  put-digits.Post,
-) (put-digits-at t) put-digits.Post
-put-digits-returns-3 t c =
+returns-3 : (t : ℕ) → lts.Need-returns-3 (put-byte.Asked, put-byte.Learnt, below t, put-digits.Post) (at t) put-digits.Post
+returns-3 t c =
     let last = c .before .before in
     let front = last .before .before .before .before in
     let high = front .before .before in
@@ -138,24 +43,19 @@ put-digits-returns-3 t c =
     puts-last (a .most) (a .n) (high .before .if1 .left) (high .if2 .left) (front .put-digits .ensures) (last .put-byte2 .ensures)
 
 pub +put-digits-spec : {M : Type 1} → statement M
-+put-digits-spec = close μ-put-digits λ t. put-digits-lts.spec (
-  put-byte-reads.Asked,
-  put-byte-reads.Learnt,
-  put-digits-below t,
-  put-digits.Post,
-)
-    (put-digits-at t)
++put-digits-spec = close μ-put-digits λ t. lts.spec (put-byte.Asked, put-byte.Learnt, below t, put-digits.Post)
+    (at t)
     put-digits.Post
-    (put-digits-returns t)
-    (put-digits-cast-put-byte t)
-    (put-digits-add-put-byte t)
-    (put-digits-put-byte-requires t)
-    (put-digits-same-length t)
-    (put-digits-returns-2 t)
-    (put-digits-sub-put-digits t)
-    (put-digits-put-digits-requires t)
-    (put-digits-cast-put-byte-2 t)
-    (put-digits-add-put-byte-2 t)
-    (put-digits-put-byte-requires-2 t)
-    (put-digits-same-length-2 t)
-    (put-digits-returns-3 t)
+    (returns t)
+    (λ c. search needs)
+    (λ c. search needs)
+    (λ c κs. search needs)
+    (λ c. search needs)
+    (returns-2 t)
+    (λ c. search needs)
+    (λ c κs. search needs)
+    (λ c. search needs)
+    (λ c. search needs)
+    (λ c κs. search needs)
+    (λ c. search needs)
+    (returns-3 t)
