@@ -2,6 +2,7 @@
 use plan::Fault;
 
 mod convert; // convert.rt: to the newer form, and back
+mod written; // written.rt: the plan that was read, written in one form
 
 pub use convert::downgrade;
 pub use convert::upgrade;

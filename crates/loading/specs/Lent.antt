@@ -2,12 +2,12 @@
 use Prim.Native.Nat.{ℕ}
 use mathlib.Core.Path.{_≡_}
 use mathlib.Core.List.{List}
-use Rattle.cqf.specs.Form.{heldTop}
+use Rattle.cqf.specs.Form.{Form, heldTop}
 use Rattle.cqf.specs.Plan.{Plan, noPlan}
 use Rattle.plan_reading.specs.Reading.{Mode}
 use Rattle.tables.specs.Columns.{planBy}
 use Rattle.loading.specs.Answer.{loadOf}
-use Rattle.loading.specs.Outcome.{loadAnswer, loadLeaves, loadForm}
+use Rattle.loading.specs.Outcome.{formAnswer, formLeaves, loadAnswer, loadLeaves, loadForm}
 use Rattle.loading.specs.declared.LoadAnswer.{LoadAnswer}
 
 -- what is lent: the form's number beside the tables, each number as it stands
@@ -41,3 +41,8 @@ pub record LoadsLent (mode : Mode) (entry : Lent) (bytes : List ℕ) (exit : Len
   pub formed : exit .form ≡ loadForm mode (entry .form) bytes
   pub holds : lentPlan exit ≡ loadLeaves mode (lentPlan entry) bytes
   pub answers : loadOf answer ≡ loadAnswer mode bytes
+
+-- bytes read as a plan of this form, in this reading, into columns that held none: the plan that is then in them, and the answer
+pub record ReadsForm (form : Form) (mode : Mode) (bytes : List ℕ) (exit : Plan) (answer : LoadAnswer) : Type 0 where
+  pub leaves : exit ≡ formLeaves form mode noPlan bytes
+  pub answers : loadOf answer ≡ formAnswer form mode bytes

@@ -4,13 +4,13 @@ use mathlib.Core.Path.{_≡_, sym, ap, _∙_}
 use mathlib.Core.Bool.{true}
 use mathlib.Core.List.{List, [], _∷_}
 use Rattle.answers.specs.Answer.{result, refusal}
-use Rattle.cqf.specs.Plan.{Plan}
+use Rattle.cqf.specs.Plan.{Plan, noPlan}
 use Rattle.cqf.specs.Form.{Form, formNumber, formFits}
 use Rattle.plan.specs.Layout.{formBy}
 use Rattle.plan_reading.specs.Reading.{PlanRead, accepted, rejected, Mode, readForm, readAs}
-use Rattle.loading.specs.Outcome.{readingAnswer, readingLeaves, readingForm, loadAnswer, loadLeaves, loadForm}
+use Rattle.loading.specs.Outcome.{readingAnswer, readingLeaves, readingForm, formAnswer, formLeaves, loadAnswer, loadLeaves, loadForm}
 use Rattle.loading.specs.Answer.{loadOf}
-use Rattle.loading.specs.Lent.{Lent, lentPlan, LoadsLent}
+use Rattle.loading.specs.Lent.{Lent, lentPlan, LoadsLent, ReadsForm}
 use Rattle.loading.specs.declared.LoadAnswer.{LoadAnswer}
 
 -- the reading by the form that the bytes tell
@@ -56,3 +56,24 @@ module _ (form : Form) (mode : Mode) (s : List ℕ) (told : form ≡ formBy s) {
         holds = fits-lent exit (rw number fits) ∙ sym (ap (readingLeaves (lentPlan entry)) e);
         answers = answered ∙ sym (ap readingAnswer e);
       }
+
+-- bytes read as a plan of one form
+module _ (form : Form) (mode : Mode) (s : List ℕ) {exit : Plan} {answer : LoadAnswer} where
+  pub refused-form
+      : (n o : ℕ)
+      → readForm form mode s ≡ rejected n o
+      → exit ≡ noPlan
+      → loadOf answer ≡ refusal n (o ∷ [])
+      → ReadsForm form mode s exit answer
+  unfolding formLeaves formAnswer
+  refused-form n o e none answered =
+      record { leaves = none ∙ sym (ap (readingLeaves noPlan) e); answers = answered ∙ sym (ap readingAnswer e) }
+
+  pub accepted-form
+      : (ports flows : ℕ)
+      → readForm form mode s ≡ accepted exit ports flows
+      → loadOf answer ≡ result (record { ports = ports; flows = flows })
+      → ReadsForm form mode s exit answer
+  unfolding formLeaves formAnswer
+  accepted-form ports flows e answered =
+      record { leaves = sym (ap (readingLeaves noPlan) e); answers = answered ∙ sym (ap readingAnswer e) }

@@ -6,26 +6,27 @@ use borrow.Author.Needs.{needs}
 use denote.Ref.{now}
 use Rattle.cqf.specs.Form.{Form}
 use Rattle.cqf.specs.Plan.{Plan}
+use Rattle.numbers.specs.Clock.{clockOf}
 use Rattle.plan.specs.Answer.{formOf}
-use Rattle.tables.specs.Tables.{planOf}
+use Rattle.tables.specs.Columns.{planBy}
 use Rattle.saving.specs.Answer.{saveOf}
 use Rattle.converting.specs.laws.Convert.{saved-converts, never-none}
-use Rattle.converting.proofs.convert.write_plan.Statement.{statement}
-use Rattle.converting.proofs.convert.write_plan.Tie as tie
+use Rattle.converting.proofs.written.write_plan.Statement.{statement}
+use Rattle.converting.proofs.written.write_plan.Tie as tie
 
--- from what saving answers: the top by the planner's form, and where the function starts
+-- from what saving answers: where the function starts
 module _ (c : tie.After-save-tables) where
-  abbrev topped : tie.After-held-top
-  topped = c .before .before .before .before .before .before .before .before .before .before .before .before .before
-
   abbrev begin : tie.Start
-  begin = topped .before .before .before .before
+  begin = c .before .before .before
 
   abbrev form : Form
   form = formOf (begin .args .form)
 
   abbrev plan : Plan
-  plan = planOf (begin .args .t2)
+  plan =
+      let a = begin .args in
+      planBy (a .guard) (a .top) (clockOf (a .clock)) (a .rates .now) (a .blockings .now) (a .extras .now) (a .periods .now) (a .counts .now)
+      (a .lengths .now) (a .jitters .now) (a .hops .now) (a .routes .now)
 
   abbrev given : List ℕ
   given = now (begin .args .buffer)
@@ -33,26 +34,24 @@ module _ (c : tie.After-save-tables) where
 returns : tie.Need-returns
 returns c =
     let put = c .before .before .before .before .before in
-    let w = saved-converts (form put) (plan put) (given put) (begin put .pre) (rw (topped put .held-top .ensures) at (put .save-tables .ensures)) in
+    let w = saved-converts (form put) (plan put) (given put) (begin put .pre) (put .save-tables .ensures) in
     (sym (ap saveOf (c .before .size .given .1)) ∙ w .0, w .1)
 
 returns-2 : tie.Need-returns-2
 returns-2 c =
     let put = c .before .before .before .before .before in
-    let w = saved-converts (form put) (plan put) (given put) (begin put .pre) (rw (topped put .held-top .ensures) at (put .save-tables .ensures)) in
+    let w = saved-converts (form put) (plan put) (given put) (begin put .pre) (put .save-tables .ensures) in
     (sym (ap saveOf (c .before .size2 .given .1)) ∙ w .0, w .1)
 
 returns-3 : tie.Need-returns-3
 returns-3 c =
     let put = c .before .before .before .before in
-    let saves = rw (topped put .held-top .ensures) at (put .save-tables .ensures) in
-    absurd (never-none (form put) (plan put) (given put) (begin put .pre) (sym (ap saveOf (c .enum-told .given .1)) ∙ saves .0))
+    absurd (never-none (form put) (plan put) (given put) (begin put .pre) (sym (ap saveOf (c .enum-told .given .1)) ∙ put .save-tables .ensures .0))
 
 pub write-plan-spec : {M : Type 1} → statement M
 write-plan-spec =
     tie.close
     (tie.spec
-    (λ c κs. search needs)
     (λ c κs. search needs)
     (λ c. search needs)
     (λ c. search needs)
