@@ -6,6 +6,8 @@ use tables::columns;
 ghost use mathlib.Core.Path.{_≡_};
 ghost use mathlib.Core.Bool.{true};
 ghost use Prim.Native.Nat.{suc, _≤_};
+ghost use lib.ListN.{length};
+ghost use Rattle.cqf.specs.Limits.{portSlots};
 ghost use Rattle.cqf.specs.Plan.{validPlan};
 ghost use Rattle.numbers.specs.Clock.{clockOf};
 ghost use Rattle.tables.specs.Columns.{planBy};
@@ -28,12 +30,13 @@ pub(crate) fn refused_below<'a>(
     routes: &'a columns::Routes,
     low: u64,
     high: u64,
+    out: &mut [u64],
 ) -> u64
     requires { ⌜
         (validPlan
         (planBy guard top (clockOf clock) (now rates) (now blockings) (now extras) (now periods) (now counts)
         (now lengths) (now jitters) (now hops) (now routes))
-        ≡ true) × (1 ≤ low) × (low ≤ suc high) × (high ≤ top)
+        ≡ true) × (1 ≤ low) × (low ≤ suc high) × (high ≤ top) × (length (now out) ≡ portSlots)
         ⌝ }
     ensures { λ r. ⌜
         RunDown
@@ -62,6 +65,7 @@ pub(crate) fn refused_below<'a>(
                 routes,
                 low,
                 below,
+                out,
             ),
         );
         if below < most {

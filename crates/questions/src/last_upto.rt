@@ -5,6 +5,8 @@ use tables::columns;
 ghost use mathlib.Core.Path.{_≡_};
 ghost use mathlib.Core.Bool.{true};
 ghost use Prim.Native.Nat.{_≤_, _<_};
+ghost use lib.ListN.{length};
+ghost use Rattle.cqf.specs.Limits.{portSlots};
 ghost use Rattle.cqf.specs.Plan.{validPlan};
 ghost use Rattle.cqf.specs.Need.{largestNeed};
 ghost use Rattle.numbers.specs.Clock.{clockOf};
@@ -27,12 +29,13 @@ fn outgrown<'a>(
     hops: &'a columns::Hops,
     routes: &'a columns::Routes,
     duration: u64,
+    out: &mut [u64],
 ) -> u64
     requires { ⌜
         (validPlan
         (planBy guard top (clockOf clock) (now rates) (now blockings) (now extras) (now periods) (now counts)
         (now lengths) (now jitters) (now hops) (now routes))
-        ≡ true) × (1 ≤ duration) × (duration ≤ top)
+        ≡ true) × (1 ≤ duration) × (duration ≤ top) × (length (now out) ≡ portSlots)
         ⌝ }
     requires { ⌜
         duration < largestNeed
@@ -67,6 +70,7 @@ fn outgrown<'a>(
             routes,
             1,
             middle,
+            out,
         );
         if duration < most {
             over = middle;
@@ -92,12 +96,13 @@ pub(crate) fn last_upto<'a>(
     hops: &'a columns::Hops,
     routes: &'a columns::Routes,
     duration: u64,
+    out: &mut [u64],
 ) -> u64
     requires { ⌜
         (validPlan
         (planBy guard top (clockOf clock) (now rates) (now blockings) (now extras) (now periods) (now counts)
         (now lengths) (now jitters) (now hops) (now routes))
-        ≡ true) × (duration ≤ top)
+        ≡ true) × (duration ≤ top) × (length (now out) ≡ portSlots)
         ⌝ }
     ensures { λ r. ⌜
         r ≡ mostUpTo
@@ -124,6 +129,7 @@ pub(crate) fn last_upto<'a>(
             routes,
             1,
             at,
+            out,
         );
         if most <= at {
             break at;
@@ -142,6 +148,7 @@ pub(crate) fn last_upto<'a>(
             hops,
             routes,
             at,
+            out,
         )
             - 1;
     };

@@ -3,6 +3,7 @@ use super::last_upto::last_upto;
 use super::upward::first_from;
 use numbers::clock::Clock;
 use numbers::limits::between;
+use tables::PORTS;
 use tables::columns;
 use tables::valid_tables;
 ghost use mathlib.Core.Path.{_≡_};
@@ -75,6 +76,7 @@ pub fn nearest_tables<'a>(
     if !between(1, top as u64, duration) {
         return NearestAnswer::BadDuration;
     }
+    let mut out = [0u64; PORTS];
     let last = last_upto(
         guard,
         top,
@@ -89,6 +91,7 @@ pub fn nearest_tables<'a>(
         hops,
         routes,
         duration,
+        &mut out,
     );
     let first = first_from(
         guard,
@@ -104,6 +107,7 @@ pub fn nearest_tables<'a>(
         hops,
         routes,
         duration,
+        &mut out,
     );
     NearestAnswer::Nearest {
         below: told(top, last),

@@ -3,7 +3,6 @@ use super::demand::demands;
 use super::need::largest_need;
 use numbers::clock::Clock;
 use numbers::limits::between;
-use tables::PORTS;
 use tables::columns;
 ghost use mathlib.Core.Path.{_≡_};
 ghost use mathlib.Core.Bool.{true, cond};
@@ -62,7 +61,8 @@ fn need_into<'a>(
     largest_need(guard, rates, blockings, extras, &out[..])
 }
 
-// The most that a port needs at a duration from low to top; 0 at any other, where nothing is worked out.
+// The most that a port needs at a duration from low to top; 0 at any other, where nothing is worked out. The demands are worked out in
+// out, which the caller lends: it is on the stack once.
 pub(crate) fn need_within<'a>(
     guard: u32,
     top: u32,
@@ -78,12 +78,13 @@ pub(crate) fn need_within<'a>(
     routes: &'a columns::Routes,
     low: u64,
     duration: u64,
+    out: &mut [u64],
 ) -> u64
     requires { ⌜
-        validPlan
+        (validPlan
         (planBy guard top (clockOf clock) (now rates) (now blockings) (now extras) (now periods) (now counts)
         (now lengths) (now jitters) (now hops) (now routes))
-        ≡ true
+        ≡ true) × (length (now out) ≡ portSlots)
         ⌝ }
     ensures { λ r. ⌜
         r ≡ cond (within low top duration) (largestNeed
@@ -96,7 +97,6 @@ pub(crate) fn need_within<'a>(
     if !between(low, top as u64, duration) {
         return 0;
     }
-    let mut out = [0u64; PORTS];
     need_into(
         guard,
         top,
@@ -111,6 +111,6 @@ pub(crate) fn need_within<'a>(
         hops,
         routes,
         duration,
-        &mut out,
+        out,
     )
 }

@@ -4,11 +4,14 @@ use super::run_end::last_from;
 use super::upward::first_from;
 use numbers::clock::Clock;
 use numbers::limits::between;
+use tables::PORTS;
 use tables::columns;
 use tables::valid_tables;
 ghost use mathlib.Core.Path.{_≡_};
 ghost use mathlib.Core.Bool.{true};
 ghost use Prim.Native.Nat.{_≤_};
+ghost use lib.ListN.{length};
+ghost use Rattle.cqf.specs.Limits.{portSlots};
 ghost use Rattle.cqf.specs.Plan.{validPlan};
 ghost use Rattle.cqf.specs.Condition.{admissible};
 ghost use Rattle.numbers.specs.Clock.{clockOf};
@@ -54,12 +57,13 @@ fn first_of<'a>(
     routes: &'a columns::Routes,
     duration: u64,
     start: u64,
+    out: &mut [u64],
 ) -> u64
     requires { ⌜
         (validPlan
         (planBy guard top (clockOf clock) (now rates) (now blockings) (now extras) (now periods) (now counts)
         (now lengths) (now jitters) (now hops) (now routes))
-        ≡ true) × (1 ≤ duration) × (duration ≤ start) × (start ≤ top)
+        ≡ true) × (1 ≤ duration) × (duration ≤ start) × (start ≤ top) × (length (now out) ≡ portSlots)
         ⌝ }
     requires { ⌜
         admissible
@@ -94,6 +98,7 @@ fn first_of<'a>(
             routes,
             1,
             start,
+            out,
         )
 }
 
@@ -131,6 +136,7 @@ pub(crate) fn span_from<'a>(
     if limit < duration {
         return no_span();
     }
+    let mut out = [0u64; PORTS];
     let start = first_from(
         guard,
         top,
@@ -145,6 +151,7 @@ pub(crate) fn span_from<'a>(
         hops,
         routes,
         duration,
+        &mut out,
     );
     if limit < start {
         return no_span();
@@ -164,6 +171,7 @@ pub(crate) fn span_from<'a>(
         routes,
         duration,
         start,
+        &mut out,
     );
     let last = last_from(
         guard,
@@ -179,6 +187,7 @@ pub(crate) fn span_from<'a>(
         hops,
         routes,
         start,
+        &mut out,
     );
     SpanRecord {
         first: first,

@@ -7,6 +7,8 @@ use tables::columns;
 ghost use mathlib.Core.Path.{_≡_};
 ghost use mathlib.Core.Bool.{true};
 ghost use Prim.Native.Nat.{suc, _≤_, _<_};
+ghost use lib.ListN.{length};
+ghost use Rattle.cqf.specs.Limits.{portSlots};
 ghost use Rattle.cqf.specs.Plan.{validPlan};
 ghost use Rattle.cqf.specs.Condition.{admissible};
 ghost use Rattle.span_lists.specs.Span.{lastFrom};
@@ -79,12 +81,13 @@ pub(crate) fn last_from<'a>(
     hops: &'a columns::Hops,
     routes: &'a columns::Routes,
     start: u64,
+    out: &mut [u64],
 ) -> u64
     requires { ⌜
         (validPlan
         (planBy guard top (clockOf clock) (now rates) (now blockings) (now extras) (now periods) (now counts)
         (now lengths) (now jitters) (now hops) (now routes))
-        ≡ true) × (1 ≤ start) × (start ≤ top)
+        ≡ true) × (1 ≤ start) × (start ≤ top) × (length (now out) ≡ portSlots)
         ⌝ }
     requires { ⌜
         admissible
@@ -119,6 +122,7 @@ pub(crate) fn last_from<'a>(
             routes,
             held + 1,
             at,
+            out,
         );
         if below <= held {
             held = at;

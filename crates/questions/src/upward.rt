@@ -5,6 +5,8 @@ use tables::columns;
 ghost use mathlib.Core.Path.{_≡_};
 ghost use mathlib.Core.Bool.{true};
 ghost use Prim.Native.Nat.{min, _≤_};
+ghost use lib.ListN.{length};
+ghost use Rattle.cqf.specs.Limits.{portSlots};
 ghost use Rattle.cqf.specs.Plan.{validPlan};
 ghost use Rattle.cqf.specs.Need.{leastFrom};
 ghost use Rattle.numbers.specs.Clock.{clockOf};
@@ -33,12 +35,13 @@ pub(crate) fn first_from<'a>(
     hops: &'a columns::Hops,
     routes: &'a columns::Routes,
     start: u64,
+    out: &mut [u64],
 ) -> u64
     requires { ⌜
         (validPlan
         (planBy guard top (clockOf clock) (now rates) (now blockings) (now extras) (now periods) (now counts)
         (now lengths) (now jitters) (now hops) (now routes))
-        ≡ true) × (1 ≤ start) × (start ≤ top)
+        ≡ true) × (1 ≤ start) × (start ≤ top) × (length (now out) ≡ portSlots)
         ⌝ }
     ensures { λ r. ⌜
         r ≡ leastFrom
@@ -66,6 +69,7 @@ pub(crate) fn first_from<'a>(
             routes,
             1,
             t,
+            out,
         );
         if most <= t {
             break t;

@@ -1,6 +1,9 @@
 -- `questions::last_upto::outgrown` meets its contract. Round the loop some port needs more than the duration at over.
+use mathlib.Core.Path.{_≡_, sym, _∙_}
 use Prim.Native.Nat.{ℕ, _+_, _-_, _/_, _<_}
 use native.Mathlib.Omega.{arith}
+use lib.ListN.{length}
+use Rattle.cqf.specs.Limits.{portSlots}
 use Rattle.cqf.specs.Plan.{Plan}
 use Rattle.numbers.specs.Clock.{clockOf}
 use Rattle.tables.specs.Columns.{planBy}
@@ -9,11 +12,11 @@ use Rattle.questions.proofs.last_upto.outgrown.Statement.{statement}
 use Rattle.questions.proofs.last_upto.outgrown.Tie as tie
 
 abbrev Inv-loop : tie.InvT-loop
-Inv-loop guard top clock rates blockings extras periods counts lengths jitters hops routes duration under₀ over₀ under over =
-    Halving (planBy guard top (clockOf clock) rates blockings extras periods counts lengths jitters hops routes) duration under over
+Inv-loop guard top clock rates blockings extras periods counts lengths jitters hops routes duration out₀ under₀ over₀ out under over =
+    Halving (planBy guard top (clockOf clock) rates blockings extras periods counts lengths jitters hops routes) duration under over × (length out ≡ portSlots)
 
 abbrev μ-loop : tie.MeasureT-loop
-μ-loop guard top clock rates blockings extras periods counts lengths jitters hops routes duration under₀ over₀ under over =
+μ-loop guard top clock rates blockings extras periods counts lengths jitters hops routes duration out₀ under₀ over₀ out under over =
     over - under
 
 -- the plan of the tables
@@ -26,40 +29,63 @@ plan s =
 between : (c : tie.In-loop Inv-loop μ-loop) → (c .before .loop .under < (c .before .loop .under + c .before .loop .over) / 2) × ((c .before .loop .under + c .before .loop .over) / 2 < c .before .loop .over)
 between c = middle-between _ _ (omega (arith, c .loop-test .taken))
 
+-- what is needed in the middle, and the turn of the loop; the demands' array is as long as it was
+abbrev asked : tie.After-slice-known2 Inv-loop μ-loop → tie.After-need-within Inv-loop μ-loop
+asked c = c .before .before
+
+abbrev turn : tie.After-need-within Inv-loop μ-loop → tie.In-loop Inv-loop μ-loop
+turn c = c .before .before
+
+kept : (c : tie.After-need-within Inv-loop μ-loop) → length (c .need-within .last .1 .1 .1 .1 .1 .1 .1 .1 .1 .1 .1 .1 .1 .1 .0) ≡ portSlots
+kept c = c .need-within .kept .1 .1 .1 .1 .1 .1 .1 .1 .1 .1 .1 .1 .1 .1 .0 ∙ turn c .before .loop .inv .1
+
 loop-holds : tie.Need-loop-holds Inv-loop μ-loop
-loop-holds c = halving-start (plan c) (c .args .duration) (c .pre .0 .1) (c .pre .0 .2) (c .pre .1)
+loop-holds c =
+    let s = c .before in
+    (halving-start (plan s) (s .args .duration) (s .pre .0 .1) (s .pre .0 .2) (s .pre .1), s .pre .0 .3)
 
 add-loop : tie.Need-add-loop Inv-loop μ-loop
-add-loop c = omega (arith, c .loop .inv .apart, c .loop .inv .upto, c .loop .inv .within-top)
+add-loop c =
+    let v = c .loop .inv .0 in
+    omega (arith, v .apart, v .upto, v .within-top)
 
 add-middle : tie.Need-add-middle Inv-loop μ-loop
 add-middle c =
-    let v = c .before .loop .inv in
+    let v = c .before .loop .inv .0 in
     omega (arith, v .apart, v .upto, v .within-top)
 
 need-within-requires : tie.Need-need-within-requires Inv-loop μ-loop
-need-within-requires c κs = c .before .before .pre .0 .0
+need-within-requires c κs =
+    let l = c .before .before in
+    (l .before .before .pre .0 .0, l .loop .inv .1)
 
 loop-less : tie.Need-loop-less Inv-loop μ-loop
-loop-less c = omega (arith, between (c .before .before) .0, between (c .before .before) .1)
+loop-less c =
+    let m = between (turn (asked (c .before))) in
+    omega (arith, m .0, m .1)
 
 loop-again : tie.Need-loop-again Inv-loop μ-loop
 loop-again c =
-    let at = c .before in
-    let m = between (at .before) in
-    halving-over (at .before .before .loop .inv) _ (m .0) (m .1) (omega (arith, c .if1 .taken, at .need-within .ensures))
+    let at = asked (c .before) in
+    let m = between (turn at) in
+    (halving-over (turn at .before .loop .inv .0) _ (m .0) (m .1) (omega (arith, c .if1 .taken, at .need-within .ensures)), kept at)
 
 loop-less-2 : tie.Need-loop-less-2 Inv-loop μ-loop
-loop-less-2 c = omega (arith, between (c .before .before) .0, between (c .before .before) .1)
+loop-less-2 c =
+    let m = between (turn (asked (c .before))) in
+    omega (arith, m .0, m .1)
 
 loop-again-2 : tie.Need-loop-again-2 Inv-loop μ-loop
 loop-again-2 c =
-    let turn = c .before .before in
-    halving-under (turn .before .loop .inv) _ (between turn .1)
+    let at = asked (c .before) in
+    (halving-under (turn at .before .loop .inv .0) _ (between (turn at) .1), kept at)
+
+same-length : tie.Need-same-length Inv-loop μ-loop
+same-length c = c .before .loop .inv .1 ∙ sym (c .before .before .before .pre .0 .3)
 
 returns : tie.Need-returns Inv-loop μ-loop
 returns c =
-    let v = c .before .loop .inv in
+    let v = c .before .loop .inv .0 in
     (omega (arith, v .apart), v .upto, v .more)
 
 pub outgrown-spec : {M : Type 1} → statement M
@@ -76,4 +102,5 @@ outgrown-spec =
     loop-again
     loop-less-2
     loop-again-2
+    same-length
     returns)

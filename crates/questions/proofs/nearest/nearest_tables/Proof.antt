@@ -1,6 +1,7 @@
 -- `questions::nearest::nearest_tables` meets its contract: the refusals in their order, then both searches.
-use mathlib.Core.Path.{_≡_, sym, _∙_}
+use mathlib.Core.Path.{_≡_, refl, sym, _∙_}
 use mathlib.Core.Bool.{true}
+use borrow.Author.Needs.{needs}
 use borrow.Author.Tests.{not-true, not-false}
 use Rattle.cqf.specs.Bounded.{within}
 use Rattle.cqf.specs.Plan.{Plan, validPlan}
@@ -43,19 +44,23 @@ returns-2 c =
     sym (nearest-out (plan s) (s .args .duration) (valid at) (sym (c .before .between .ensures) ∙ not-true _ (c .if2 .taken)))
 
 last-upto-requires : tie.Need-last-upto-requires
-last-upto-requires c κs = (valid (first c), within-high _ _ _ (ranged c))
+last-upto-requires c κs =
+    let at = c .before in
+    (valid (first at), within-high _ _ _ (ranged at), refl)
 
 first-from-requires : tie.Need-first-from-requires
 first-from-requires c κs =
-    let at = c .before in
-    (valid (first at), within-low _ _ _ (ranged at), within-high _ _ _ (ranged at))
+    let below = c .before .before in
+    let at = below .before .before in
+    (valid (first at), within-low _ _ _ (ranged at), within-high _ _ _ (ranged at), below .last-upto .kept .1 .1 .1 .1 .1 .1 .1 .1 .1 .1 .1 .1 .1 .0)
 
 returns-3 : tie.Need-returns-3
 returns-3 c =
-    let searched = c .before .before in
-    let at = searched .before .before in
+    let searched = c .before .before .before in
+    let below = searched .before .before .before in
+    let at = below .before .before in
     nearest-found (plan (begin at)) (begin at .args .duration) (valid (first at)) (ranged at)
-    (searched .before .last-upto .ensures) (searched .first-from .ensures) (c .before .told .ensures) (c .told2 .ensures)
+    (below .last-upto .ensures) (searched .first-from .ensures) (c .before .told .ensures) (c .told2 .ensures)
 
 pub nearest-tables-spec : {M : Type 1} → statement M
 nearest-tables-spec =
@@ -65,7 +70,9 @@ nearest-tables-spec =
     returns
     (λ c κs. tt)
     returns-2
+    (λ c. search needs)
     last-upto-requires
+    (λ c. search needs)
     first-from-requires
     (λ c κs. tt)
     (λ c κs. tt)

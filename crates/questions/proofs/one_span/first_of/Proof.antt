@@ -1,6 +1,7 @@
 -- `questions::one_span::first_of` meets its contract: nothing below an admissible duration that was searched for is admissible, and one
 -- that was asked for is at the end of a run.
 use mathlib.Core.Path.{_≡_, subst}
+use borrow.Author.Needs.{needs}
 use Prim.Native.Nat.{ℕ, suc, _+_}
 use native.Mathlib.Nat.{le-trans}
 use native.Mathlib.Omega.{arith}
@@ -20,24 +21,27 @@ plan s =
 
 returns : tie.Need-returns
 returns c =
-    let s = c .before in
+    let s = c .before .before in
     first-start (plan s) (s .args .duration) (s .args .start) (s .pre .0 .1) (c .if1 .taken)
 
 refused-below-requires : tie.Need-refused-below-requires
 refused-below-requires c κs =
-    let s = c .before in
-    (s .pre .0 .0, omega arith, omega arith, s .pre .0 .3)
+    let s = c .before .before .before in
+    (s .pre .0 .0, omega arith, omega arith, s .pre .0 .3, s .pre .0 .4)
 
 add-result : tie.Need-add-result
-add-result c = omega (arith, c .refused-below .ensures .upto, c .before .before .pre .0 .3)
+add-result c =
+    let asked = c .before .before in
+    omega (arith, asked .refused-below .ensures .upto, asked .before .before .before .before .pre .0 .3)
 
 returns-2 : tie.Need-returns-2
 returns-2 c =
-    let s = c .before .before in
-    let r = c .refused-below .result in
+    let asked = c .before .before in
+    let s = asked .before .before .before .before in
+    let r = asked .refused-below .result in
     let e : suc r ≡ 1 + r = omega arith in
     subst (FirstOf (plan s) (s .args .duration) (s .args .start)) e
-    (first-below (plan s) (s .args .duration) (s .args .start) r (le-trans (s .pre .0 .1) (s .pre .0 .2)) (c .refused-below .ensures) (s .pre .1))
+    (first-below (plan s) (s .args .duration) (s .args .start) r (le-trans (s .pre .0 .1) (s .pre .0 .2)) (asked .refused-below .ensures) (s .pre .1))
 
 pub first-of-spec : {M : Type 1} → statement M
-first-of-spec = tie.close (tie.spec returns refused-below-requires add-result returns-2)
+first-of-spec = tie.close (tie.spec returns refused-below-requires add-result (λ c. search needs) returns-2)

@@ -1,6 +1,7 @@
 -- `questions::one_span::span_from` meets its contract: the run that holds the least admissible duration from the one asked for on.
-use mathlib.Core.Path.{_≡_, sym, ap, subst, _∙_}
+use mathlib.Core.Path.{_≡_, refl, sym, ap, subst, _∙_}
 use mathlib.Core.Bool.{true}
+use borrow.Author.Needs.{needs}
 use Prim.Native.Nat.{ℕ, _≤_}
 use native.Mathlib.Omega.{arith}
 use Rattle.cqf.specs.Plan.{Plan}
@@ -24,17 +25,20 @@ plan s =
 
 -- the least admissible duration was found, and it is up to top
 module _ (c : tie.Else2) where
+  abbrev searched : tie.After-first-from
+  searched = c .before .before
+
   abbrev begin : tie.Start
-  begin = c .before .before .before
+  begin = searched .before .before .before
 
   abbrev T : ℕ
   T = begin .args .duration
 
   abbrev start : ℕ
-  start = c .before .first-from .result
+  start = searched .first-from .result
 
   is : start ≡ leastFrom (plan begin) T
-  is = c .before .first-from .ensures
+  is = searched .first-from .ensures
 
   upto : leastFrom (plan begin) T ≤ plan begin .top
   upto = omega (arith, is, c .if2 .left)
@@ -54,34 +58,40 @@ returns c =
     c .no-span .ensures ∙ sym (next-above (plan s) (s .args .duration) (s .pre .1) (omega (arith, c .before .if1 .taken)))
 
 first-from-requires : tie.Need-first-from-requires
-first-from-requires c κs = (c .before .pre .0, c .before .pre .1, omega (arith, c .if1 .left))
+first-from-requires c κs =
+    let s = c .before .before in
+    (s .pre .0, s .pre .1, omega (arith, c .before .if1 .left), refl)
 
 no-span-requires-2 : tie.Need-no-span-requires-2
 no-span-requires-2 c κs = tt
 
 returns-2 : tie.Need-returns-2
 returns-2 c =
-    let f = c .before .before in
-    let s = f .before .before in
+    let f = c .before .before .before in
+    let s = f .before .before .before in
     c .no-span2 .ensures
     ∙ sym (next-none (plan s) (s .args .duration) (s .pre .1) (omega (arith, f .first-from .ensures, c .before .if2 .taken)))
 
 first-of-requires : tie.Need-first-of-requires
 first-of-requires c κs =
-    ((begin c .pre .0, begin c .pre .1, omega (arith, is c, found c .from), omega (arith, c .if2 .left)), good c)
+    let at = c .before in
+    ((begin at .pre .0, begin at .pre .1, omega (arith, is at, found at .from), omega (arith, at .if2 .left), searched at .first-from .kept .1 .1 .1 .1 .1 .1 .1 .1 .1 .1 .1 .1 .1 .0), good at)
 
 last-from-requires : tie.Need-last-from-requires
 last-from-requires c κs =
-    let at = c .before in
-    ((begin at .pre .0, omega (arith, begin at .pre .1, is at, found at .from), omega (arith, at .if2 .left)), good at)
+    let first = c .before .before in
+    let at = first .before .before in
+    ((begin at .pre .0, omega (arith, begin at .pre .1, is at, found at .from), omega (arith, at .if2 .left), first .first-of .kept .1 .1 .1 .1 .1 .1 .1 .1 .1 .1 .1 .1 .1 .1 .0 ∙ searched at .first-from .kept .1 .1 .1 .1 .1 .1 .1 .1 .1 .1 .1 .1 .1 .0), good at)
 
 returns-3 : tie.Need-returns-3
 returns-3 c =
-    let at = c .before .before in
-    let first = c .before .first-of .result in
-    ap (λ (l : ℕ). record { first = first; last = l }) (c .last-from .ensures ∙ ap (lastFrom (plan (begin at))) (is at))
+    let run = c .before in
+    let begun = run .before .before .before in
+    let at = begun .before .before in
+    let first = begun .first-of .result in
+    ap (λ (l : ℕ). record { first = first; last = l }) (run .last-from .ensures ∙ ap (lastFrom (plan (begin at))) (is at))
     ∙ sym (next-found (plan (begin at)) (T at) (begin at .pre .1) first (upto at)
-    (subst (λ (t : ℕ). FirstOf (plan (begin at)) (T at) t first) (is at) (c .before .first-of .ensures)))
+    (subst (λ (t : ℕ). FirstOf (plan (begin at)) (T at) t first) (is at) (begun .first-of .ensures)))
 
 pub span-from-spec : {M : Type 1} → statement M
 span-from-spec =
@@ -89,9 +99,12 @@ span-from-spec =
     (tie.spec
     no-span-requires
     returns
+    (λ c. search needs)
     first-from-requires
     no-span-requires-2
     returns-2
+    (λ c. search needs)
     first-of-requires
+    (λ c. search needs)
     last-from-requires
     returns-3)
