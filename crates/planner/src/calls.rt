@@ -1,12 +1,12 @@
 // The calls: the planner by value, its tables lent column by column.
-use crate::lent::check_columns;
-use crate::lent::fixed_point_columns;
-use crate::lent::slack_columns;
-use crate::lent_lists::reprice_columns;
-use crate::lent_searches::least_columns;
-use crate::lent_searches::margin_safe_columns;
-use crate::lent_writes::gates_columns;
-use crate::lent_writes::save_columns;
+use column_calls::check_columns;
+use column_calls::fixed_point_columns;
+use column_calls::gates_columns;
+use column_calls::least_columns;
+use column_calls::margin_safe_columns;
+use column_calls::reprice_columns;
+use column_calls::save_columns;
+use column_calls::slack_columns;
 use gate_writing::GatesAnswer;
 use questions::CheckAnswer;
 use questions::FixedPointAnswer;

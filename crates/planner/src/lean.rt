@@ -1,6 +1,6 @@
 // The two searches over a scratch of one number.
-use crate::lent_lean::lean_least_columns;
-use crate::lent_lean::lean_margin_safe_columns;
+use column_calls::lean_least_columns;
+use column_calls::lean_margin_safe_columns;
 use questions::SearchAnswer;
 use tables::Planner;
 ghost use mathlib.Core.Path.{_≡_};

@@ -1,5 +1,5 @@
 // The nearest admissible durations.
-use crate::lent_nearest::nearest_columns;
+use column_calls::nearest_columns;
 use questions::NearestAnswer;
 use tables::Planner;
 ghost use mathlib.Core.Path.{_≡_};

@@ -1,5 +1,5 @@
 // The usable durations: one span, and all of them.
-use crate::lent_writes::span_columns;
+use column_calls::span_columns;
 use questions::SpanAnswer;
 use questions::SpanRecord;
 use questions::SpansAnswer;
