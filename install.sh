@@ -5,7 +5,7 @@
 set -eu
 [ $# = 1 ] || { echo "install.sh PREFIX" >&2; exit 2; }
 here=$(cd "$(dirname "$0")" && pwd)
-programs="cycle progress normalize upgrade downgrade gates batch spans draw ask"
+programs="cycle progress normalize upgrade downgrade gates batch spans draw ask encode decode"
 for made in staticlib/libcapi.a $(for program in $programs; do echo "bin/$program"; done); do
   [ -e "$here/target/$made" ] || { echo "no target/$made: make it by rt check && rt staticlib capi" >&2; exit 1; }
 done

@@ -1,4 +1,4 @@
-// Reads a plan from standard input and says of the duration given as argument whether it is admissible: where it is, how much is to
+// Reads a plan from standard input, as bytes or as text, and says of the duration given as argument whether it is admissible: where it is, how much is to
 // spare and how far the durations around it are admissible too; where it is not, which ports fail by how much and for which flows, the
 // nearest durations that are, and a bad emission. A refusal stands on standard error.
 mod accepted; // accepted.rt: of an admissible duration
@@ -10,16 +10,24 @@ mod lent; // lent.rt: the questions for a bad emission, of a planner by value
 mod shares; // shares.rt: what each flow brings to a port
 
 use arguments::Parsed;
+use console::Input;
 use console::Output;
 use console::say;
 use console::say_number;
 use console::say_refused;
 use console::say_refused_plan;
+use libc::STDIN_FILENO;
+use plan_text::TextAnswer;
+use plan_text::read_text;
 use planner::CheckAnswer;
 use planner::LoadAnswer;
 use planner::NearestAnswer;
 use planner::Neighbour;
 use planner::Planner;
+use text_refusals::say_refusal;
+
+// One byte more than a text may have: a longer input is read no further.
+const ROOM: usize = plan_text::MAX_TEXT + 1;
 
 fn say_neighbour(out: Output, neighbour: Neighbour) -> Output {
     match neighbour {
@@ -68,29 +76,66 @@ fn answer(planner: Planner, duration: u64) {
     }
 }
 
-fn ask(duration: u64) {
-    let given = console::given_plan();
-    let readable = given.readable;
-    let outcome = given.outcome;
+// A plan of either form, in bytes.
+fn ask_bytes(bytes: &[u8], duration: u64) {
+    let outcome = planner::load(planner::empty(), bytes);
     let held = outcome.planner;
     let loaded = outcome.answer;
     match loaded {
         LoadAnswer::Refused { fault: _, offset } => {
-            say_refused_plan(
-                console::standard_error(),
-                readable,
-                planner::load_number(loaded),
-                offset,
-            );
+            let refusal = planner::load_number(loaded);
+            say_refused_plan(console::standard_error(), true, refusal, offset);
         }
         LoadAnswer::Held { ports: _, flows: _ } => answer(held, duration),
+    }
+}
+
+fn ask_text(text: &[u8], duration: u64) {
+    let outcome = read_text(text);
+    let held = outcome.planner;
+    match outcome.answer {
+        TextAnswer::Refused {
+            line,
+            fault,
+            item,
+            value,
+        } => {
+            say_refusal(console::standard_error(), line, fault, item, value);
+        }
+        TextAnswer::Plan { newer: _ } => answer(held, duration),
+    }
+}
+
+// Whether a plan's bytes begin so: with a tag of either form.
+fn is_tag(first: u8) -> bool {
+    (1 <= first && first <= 6) || (0x11 <= first && first <= 0x13)
+}
+
+// Bytes where the first of them is a tag, else text.
+fn ask(given: &[u8], duration: u64) {
+    if 0 < given.len() {
+        if is_tag(given[0]) {
+            ask_bytes(given, duration);
+            return;
+        }
+    }
+    ask_text(given, duration);
+}
+
+fn ask_input(duration: u64) {
+    let mut input = [0u8; ROOM];
+    match console::read_input(STDIN_FILENO, &mut input) {
+        Input::Failed => {
+            say(console::standard_error(), b"cannot read the plan\n");
+        }
+        Input::Bytes(n) => ask(&input[..n], duration),
     }
 }
 
 fn main() {
     if arguments::count() == 2 {
         if let Parsed::Number(duration) = arguments::number(1) {
-            ask(duration);
+            ask_input(duration);
             return;
         }
     }

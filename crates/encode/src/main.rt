@@ -1,14 +1,11 @@
 // Reads a plan's text from standard input and writes the plan's strict bytes to standard output.
-mod refusal; // refusal.rt: the words of a refusal
-mod name; // name.rt: the words for a number of a text
-
-use crate::refusal::say_long;
-use crate::refusal::say_refusal;
 use console::Input;
 use console::say;
 use libc::STDIN_FILENO;
 use text_coding::EncodeAnswer;
 use text_coding::encode_text;
+use text_refusals::say_long;
+use text_refusals::say_refusal;
 ghost use lib.ListN.{length};
 ghost use Rattle.text_coding.specs.Answer.{Inside};
 

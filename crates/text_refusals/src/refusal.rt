@@ -99,14 +99,14 @@ fn say_fault(out: Output, fault: Fault, item: Item, value: u64) -> Output {
     }
 }
 
-pub(crate) fn say_refusal(out: Output, line: u32, fault: Fault, item: Item, value: u64) -> Output {
+pub fn say_refusal(out: Output, line: u32, fault: Fault, item: Item, value: u64) -> Output {
     let out = say_number(say(out, b"line "), line as u64);
     let out = say_fault(say(out, b": "), fault, item, value);
     say(out, b"\n")
 }
 
 // A plan of more bytes than a plan may have.
-pub(crate) fn say_long(out: Output, size: usize) -> Output {
+pub fn say_long(out: Output, size: usize) -> Output {
     let out = say_number(say(out, b"the plan has "), size as u64);
     say(out, b" bytes: at most 16384\n")
 }
