@@ -17,5 +17,6 @@ pub mod Hops
 pub mod TextLines
 pub mod Fitting
 pub mod Valid
+pub mod Closed
 pub mod Whole
 pub mod Outcome

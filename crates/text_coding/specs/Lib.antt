@@ -2,3 +2,4 @@
 pub mod Encode
 pub mod Answer
 pub mod laws
+pub mod worked

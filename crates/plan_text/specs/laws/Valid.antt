@@ -9,7 +9,7 @@ use borrow.Author.Tests.{lt-ltb}
 use lib.ListN.{length, getD, set, replicate, getD-replicate}
 use lib.Seq.{getD-set-same, getD-set-other, take-all}
 use Rattle.cqf.specs.Bounded.{every, distinct}
-use Rattle.cqf.specs.Form.{Form, newer, mostHopsIn}
+use Rattle.cqf.specs.Form.{Form, mostHopsIn}
 use Rattle.cqf.specs.Limits.{portSlots, flowSlots, portOk, flowOk, guardOk, topOk}
 use Rattle.cqf.specs.Plan.{Plan, noPlan, rateOf, extraOf, periodOf, jitterOf, hopsOf, present, portIn}
 use Rattle.cqf.specs.laws.Route.{portIn-there}

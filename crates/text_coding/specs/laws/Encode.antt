@@ -15,6 +15,7 @@ use Rattle.plan_text.specs.Line.{formBy}
 use Rattle.plan_text.specs.Text.{Reading, reads, rejected, readText}
 use Rattle.plan_text.specs.Drafting.{readingOf}
 use Rattle.plan_text.specs.Outcome.{isNewer, textAnswer, textLeaves}
+use Rattle.plan_text.specs.laws.Closed.{rejected-reads}
 use Rattle.plan_text.specs.laws.Whole.{text-said}
 use Rattle.plan_text.specs.declared.grammar.Fault.{Fault}
 use Rattle.plan_text.specs.declared.grammar.Item.{Item}
@@ -49,10 +50,6 @@ form-by : (form : Form) → formBy (isNewer form) ≡ form
 form-by older = refl
 form-by newer = refl
 
-abbrev isRead : Reading → ℕ
-isRead (reads form p) = 1
-isRead (rejected line fault item value) = 0
-
 module _ (text : List ℕ) where
   pub read-plan : (asked : Bool) (p : Plan) → TextAnswer.Plan asked ≡ textAnswer (readText text) → p ≡ textLeaves (readText text) → Read text (formBy asked) p
   read-plan asked p answer leaves = go (readText text) refl answer leaves
@@ -61,8 +58,7 @@ module _ (text : List ℕ) where
       go (reads form q) e a l =
           let same : reads (formBy asked) q ≡ reads form q = ap (λ (t : TextAnswer). readingOf t q) a ∙ ap (λ (f : Form). reads f q) (form-by form) in
           record { says = e ∙ sym same ∙ ap (reads (formBy asked)) (sym l); valid = rw l (text-said text form q e .valid) }
-      go (rejected line fault item value) e a l =
-          let z : _≡_ {A = ℕ} 1 0 = ap (λ (t : TextAnswer). isRead (readingOf t p)) a in absurd (omega arith)
+      go (rejected line fault item value) e a l = rejected-reads (sym (ap (λ (t : TextAnswer). readingOf t p) a))
 
   pub read-refused
       : (line : ℕ) (fault : Fault) (item : Item) (value : ℕ)
@@ -71,7 +67,7 @@ module _ (text : List ℕ) where
   read-refused line fault item value answer = go (readText text) answer
     where
       go : (r : Reading) → TextAnswer.Refused line fault item value ≡ textAnswer r → r ≡ rejected line fault item value
-      go (reads form q) a = let z : _≡_ {A = ℕ} 0 1 = ap (λ (t : TextAnswer). isRead (readingOf t q)) a in absurd (omega arith)
+      go (reads form q) a = rejected-reads (ap (λ (t : TextAnswer). readingOf t q) a)
       go (rejected n f x v) a = sym (ap (λ (t : TextAnswer). readingOf t noPlan) a)
 
   pub plan-encodes

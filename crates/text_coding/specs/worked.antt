@@ -1,0 +1,2 @@
+-- Texts worked out.
+pub mod K
