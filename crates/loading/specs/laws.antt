@@ -3,3 +3,4 @@ pub mod Copy
 pub mod Load
 pub mod Lent
 pub mod Twice
+pub mod Known

@@ -1,6 +1,8 @@
 // One field of a plan that is being read: the tests 2 to 7, with 12 between 6 and 7, and the field stored.
 
-use crate::repeat::names_twice;
+use crate::first::has_flow;
+use crate::first::has_port;
+use crate::repeat::route_ports;
 use crate::store::KEYS;
 use crate::store::Totals;
 use crate::store::key_of;
@@ -20,7 +22,7 @@ ghost use Rattle.plan.specs.Field.{field, fieldAt};
 ghost use Rattle.plan_reading.specs.Reading.{modeIn, late, stepAt, maxBytes};
 ghost use Rattle.plan.specs.Answer.{formOf, fieldOf};
 ghost use Rattle.loading.specs.Answer.{modeOf};
-ghost use Rattle.loading.specs.Loading.{draftOf, progressOf};
+ghost use Rattle.loading.specs.Loading.{draftOf, progressOf, knownBy, NamesKnown};
 
 // Whether the reading goes on after a field.
 pub(crate) enum Progress {
@@ -28,6 +30,7 @@ pub(crate) enum Progress {
         next: usize,
         key: usize,
         totals: Totals,
+        known: bool,
     },
     Stop {
         fault: Fault,
@@ -55,6 +58,28 @@ fn is_late(strict: bool, field: Field, last: usize) -> bool
     key_of(field) < last
 }
 
+// Whether what a field names was read before it; told says so of the ports of its route.
+fn names_known<'a>(
+    x: Field,
+    told: bool,
+    rates: &'a columns::Rates,
+    periods: &'a columns::Periods,
+) -> bool
+    ensures { λ r. ⌜ r ≡ knownBy (fieldOf x .kind) (fieldOf x .numbers) told (now (rates .entry)) (now (periods .entry)) ⌝ }
+{
+    match x {
+        Field::Header(_) => told,
+        Field::Port(_) => told,
+        Field::Flow(_) => told,
+        Field::Extra(e) => has_port(rates, e.number),
+        Field::Jitter(j) => has_flow(periods, j.number),
+        Field::Clock(_) => told,
+        Field::Header2(_) => told,
+        Field::Port2(_) => told,
+        Field::Flow2(_) => told,
+    }
+}
+
 // A field that passed the tests 2 to 5: the tests 6, 12 and 7, and the field stored, in a plan of this form. last is the key of the field in front of it.
 fn take_field(
     form: Form,
@@ -79,7 +104,7 @@ fn take_field(
     requires { ⌜
         (totals .ports ≤ maxBytes) × (totals .flows ≤ maxBytes) × (fieldAt (formOf form) (now plan) at ≡ field (fieldOf x) next)
         ⌝ }
-    ensures { λ r. ⌜
+    ensures steps { λ r. ⌜
         progressOf r (now (rates .exit)) (now (blockings .exit)) (now (extras .exit)) (now (periods .exit))
         (now (counts .exit)) (now (lengths .exit)) (now (jitters .exit)) (now (hops .exit)) (now (routes .exit))
         (now (seen .exit)) ≡ stepAt (formOf form) (modeOf strict) (now (plan .entry)) at last
@@ -87,6 +112,7 @@ fn take_field(
         (now (counts .entry)) (now (lengths .entry)) (now (jitters .entry)) (now (hops .entry))
         (now (routes .entry)) (now (seen .entry)))
         ⌝ }
+    ensures names { λ r. ⌜ NamesKnown r (now (rates .entry)) (now (periods .entry)) (now (plan .entry)) at ⌝ }
 {
     let key = key_of(x);
     if 0 < seen[key] {
@@ -102,12 +128,14 @@ fn take_field(
         };
     }
     let route = route_bytes(field_value(plan, at), route_start(x));
-    if names_twice(route) {
+    let ports = route_ports(route, rates);
+    if ports.twice {
         return Progress::Stop {
             fault: Fault::RepeatedPort,
             offset: at,
         };
     }
+    let known = names_known(x, ports.known, rates, periods);
     let sums = store_field(
         x,
         route,
@@ -127,6 +155,7 @@ fn take_field(
         next,
         key,
         totals: sums,
+        known,
     }
 }
 
@@ -150,7 +179,7 @@ pub(crate) fn step(
     seen: &mut [u8; KEYS],
 ) -> Progress
     requires { ⌜ (totals .ports ≤ maxBytes) × (totals .flows ≤ maxBytes) ⌝ }
-    ensures { λ r. ⌜
+    ensures steps { λ r. ⌜
         progressOf r (now (rates .exit)) (now (blockings .exit)) (now (extras .exit)) (now (periods .exit))
         (now (counts .exit)) (now (lengths .exit)) (now (jitters .exit)) (now (hops .exit)) (now (routes .exit))
         (now (seen .exit)) ≡ stepAt (formOf form) (modeOf strict) (now (plan .entry)) at last
@@ -158,6 +187,7 @@ pub(crate) fn step(
         (now (counts .entry)) (now (lengths .entry)) (now (jitters .entry)) (now (hops .entry))
         (now (routes .entry)) (now (seen .entry)))
         ⌝ }
+    ensures names { λ r. ⌜ NamesKnown r (now (rates .entry)) (now (periods .entry)) (now (plan .entry)) at ⌝ }
 {
     match field_at(form, plan, at) {
         FieldRead::Field { field, next } => take_field(

@@ -30,8 +30,9 @@ pub(crate) struct ColumnsRead {
     pub answer: LoadAnswer,
 }
 
-// All fields are read: the tests 8 and 9.
+// All fields are read: the tests 8 and 9. Where it is known that all that the fields name is there, no field is looked at again.
 fn close<'a>(
+    known: bool,
     plan: &[u8],
     ports: u16,
     flows: u16,
@@ -40,7 +41,7 @@ fn close<'a>(
     seen: &[u8; KEYS],
 ) -> LoadAnswer
     ensures { λ r. ⌜
-        ClosesWith (now (plan .entry)) (now (rates .entry)) (now (periods .entry)) (now (seen .entry)) ports flows r
+        ClosesWith known (now (plan .entry)) (now (rates .entry)) (now (periods .entry)) (now (seen .entry)) ports flows r
         ⌝ }
 {
     if seen[HEADER_KEY] == 0 {
@@ -54,6 +55,9 @@ fn close<'a>(
             fault: Fault::Incomplete,
             offset: plan.len(),
         };
+    }
+    if known {
+        return LoadAnswer::Held { ports, flows };
     }
     let offset = first_absent(plan, rates, periods);
     if offset < plan.len() {
@@ -125,6 +129,7 @@ pub(crate) fn read_columns(
     }
     let strictly = strict_in(form, strict);
     let mut seen = [0u8; KEYS];
+    let mut known = true;
     let mut last = 0;
     let mut at = 0;
     while at < plan.len() {
@@ -150,7 +155,11 @@ pub(crate) fn read_columns(
                 next,
                 key,
                 totals: sums,
+                known: named,
             } => {
+                if !named {
+                    known = false;
+                }
                 totals = sums;
                 last = key;
                 at = next;
@@ -163,6 +172,14 @@ pub(crate) fn read_columns(
             }
         }
     }
-    let answer = close(plan, totals.ports, totals.flows, rates, periods, &seen);
+    let answer = close(
+        known,
+        plan,
+        totals.ports,
+        totals.flows,
+        rates,
+        periods,
+        &seen,
+    );
     ColumnsRead { totals, answer }
 }

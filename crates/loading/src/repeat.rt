@@ -1,29 +1,49 @@
-// Test 7 of a route whose ports are in range: each of them is looked at once.
+// What the ports of a route are, where they are in range: test 7, and whether each was read before. Each of them is looked at once.
 
 use plan::route::route_len;
 use plan::route::route_port;
 use tables::PORTS;
+use tables::columns;
 ghost use mathlib.Core.Path.{_≡_};
 ghost use mathlib.Core.Bool.{true, not};
 ghost use Rattle.cqf.specs.Bounded.{every, distinct};
 ghost use Rattle.cqf.specs.Limits.{portOk};
+ghost use Rattle.cqf.specs.Plan.{portIn};
 ghost use Rattle.plan.specs.Field.{routePorts};
 
-// Whether the route holds a port twice.
-pub(crate) fn names_twice(route: &[u8]) -> bool
+// Whether a port stands in a route twice; and, where none does, whether each is in the plan as far as it was read.
+pub(crate) struct RoutePorts {
+    pub twice: bool,
+    pub known: bool,
+}
+
+pub(crate) fn route_ports<'a>(route: &[u8], rates: &'a columns::Rates) -> RoutePorts
     requires { ⌜ every portOk (routePorts (now route)) ≡ true ⌝ }
-    ensures { λ r. ⌜ r ≡ not (distinct (routePorts (now (route .entry)))) ⌝ }
+    ensures { λ r. ⌜
+        (r .twice ≡ not (distinct (routePorts (now (route .entry)))))
+        × (r .known ≡ true → every (portIn (now (rates .entry))) (routePorts (now (route .entry))) ≡ true)
+        ⌝ }
 {
     let hops = route_len(route);
     let mut seen = [0u8; PORTS];
+    let mut known = true;
     let mut i = 0;
     while i < hops {
         let slot = (route_port(route, i) - 1) as usize;
         if seen[slot] != 0 {
-            return true;
+            return RoutePorts {
+                twice: true,
+                known: false,
+            };
         }
         seen[slot] = 1;
+        if rates[slot] == 0 {
+            known = false;
+        }
         i += 1;
     }
-    false
+    RoutePorts {
+        twice: false,
+        known,
+    }
 }

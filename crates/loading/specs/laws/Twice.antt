@@ -15,7 +15,7 @@ sublist-behind x l at zero = refl
 sublist-behind x l at (suc h) = ap (λ (t : List ℕ). getD l at 0 ∷ t) (sublist-behind x l (suc at) h)
 
 -- the sublist of all
-sublist-all : (l : List ℕ) → sublist l 0 (length l) ≡ l
+pub sublist-all : (l : List ℕ) → sublist l 0 (length l) ≡ l
 unfolding sublist
 sublist-all [] = refl
 sublist-all (x ∷ l) = ap (λ (t : List ℕ). x ∷ t) (sublist-behind x l 0 (length l) ∙ sublist-all l)

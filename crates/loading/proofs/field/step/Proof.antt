@@ -24,7 +24,7 @@ take-field-requires c κs =
 returns-2 : tie.Need-returns-2
 returns-2 c =
     let a = c .before .before .before .before .before in
-    sym (step-refused _ (modeOf (a .args .strict)) _ _ _ (held a) _ _ (sym (c .before .before .before .field-at .ensures) ∙ ap fieldReadOf (c .before .fault .given .1)))
+    (sym (step-refused _ (modeOf (a .args .strict)) _ _ _ (held a) _ _ (sym (c .before .before .before .field-at .ensures) ∙ ap fieldReadOf (c .before .fault .given .1))), tt)
 
 pub step-spec : {M : Type 1} → statement M
 step-spec =

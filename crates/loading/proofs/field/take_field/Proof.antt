@@ -15,6 +15,7 @@ use Rattle.plan_reading.specs.laws.fields.Found.{found-numbers, found-route}
 use Rattle.plan_reading.specs.laws.fields.Kinds.{key-below}
 use Rattle.plan_reading.specs.laws.reading.Steps.{step-taken, step-late, step-repeats, step-added}
 use Rattle.loading.specs.Answer.{modeOf}
+use Rattle.loading.specs.laws.Known.{known-field}
 use Rattle.loading.specs.Loading.{draftOf}
 use borrow.Author.Needs.{needs}
 use Rattle.loading.proofs.field.take_field.Statement.{statement}
@@ -27,8 +28,11 @@ held c =
     (now (c .args .lengths)) (now (c .args .jitters)) (now (c .args .hops)) (now (c .args .routes)) (now (c .args .seen))
 
 -- the states on the way, each named once: past test 7; past test 6 from past test 12; and the start from past test 6
+abbrev asked : tie.After-store-field-arg10 → tie.After-names-known
+asked c = c .before .before .before .before .before .before .before .before .before .before
+
 abbrev past-7 : tie.After-store-field-arg10 → tie.Else3
-past-7 c = c .before .before .before .before .before .before .before .before .before .before
+past-7 c = asked c .before .before .before
 
 abbrev past-6 : tie.Else2 → tie.Else1
 past-6 c = c .before .before
@@ -60,46 +64,52 @@ route-read c =
       part-whole _ _ (field-is-whole _ _ _ (fieldOf (a .args .x)) (a .args .next) (a .pre .2)),
     )
 
-repeats-read : (c : tie.After-names-twice) →
-    let a = entry (past-6 (c .before .before .before .before)) in
-    c .names-twice .result ≡ fieldRepeats (routeAt (fieldOf (a .args .x) .kind) (now (a .args .plan)) (a .args .at))
-repeats-read c = c .names-twice .ensures ∙ rw (route-read (c .before))
+repeats-read : (c : tie.After-route-ports) →
+    let a = entry (past-6 (c .before .before .before .before .before)) in
+    c .route-ports .result .twice ≡ fieldRepeats (routeAt (fieldOf (a .args .x) .kind) (now (a .args .plan)) (a .args .at))
+repeats-read c = c .route-ports .ensures .0 ∙ rw (route-read (c .before .before))
 
 element-copy-out-if1 : tie.Need-element-copy-out-if1
 element-copy-out-if1 c = omega (arith, c .key-of .ensures, key-below (fieldOf (c .before .before .args .x)) (found-numbers _ _ _ _ _ (c .before .before .pre .2)))
 
 returns : tie.Need-returns
 returns c =
-    let a = c .before .before .before .before in
-    sym (step-taken _ (modeOf (a .args .strict)) _ _ _ (held a) (fieldOf (a .args .x)) (a .args .next) (a .pre .2)
-    (rw (← c .before .before .key-of .ensures) (lt-ltb _ _ (c .if1 .taken))))
+    let a = c .before .before .before .before in (
+      sym (step-taken _ (modeOf (a .args .strict)) _ _ _ (held a) (fieldOf (a .args .x)) (a .args .next) (a .pre .2)
+          (rw (← c .before .before .key-of .ensures) (lt-ltb _ _ (c .if1 .taken)))),
+      tt,
+    )
 
 returns-2 : tie.Need-returns-2
 returns-2 c =
     let six = c .before .before in
-    let a = entry six in
-    sym (step-late _ (modeOf (a .args .strict)) _ _ _ (held a) (fieldOf (a .args .x)) (a .args .next) (a .pre .2)
-    (free six)
-    (sym (c .before .is-late .ensures) ∙ c .if2 .taken))
+    let a = entry six in (
+      sym (step-late _ (modeOf (a .args .strict)) _ _ _ (held a) (fieldOf (a .args .x)) (a .args .next) (a .pre .2)
+          (free six)
+          (sym (c .before .is-late .ensures) ∙ c .if2 .taken)),
+      tt,
+    )
 
-names-twice-requires : tie.Need-names-twice-requires
-names-twice-requires c κs =
-    let a = entry (past-6 (c .before .before .before)) in
-    rw (route-read c) (found-route _ _ _ _ _ (a .pre .2) .ports)
+route-ports-requires : tie.Need-route-ports-requires
+route-ports-requires c κs =
+    let a = entry (past-6 (c .before .before .before .before)) in
+    rw (route-read (c .before)) (found-route _ _ _ _ _ (a .pre .2) .ports)
 
 returns-3 : tie.Need-returns-3
 returns-3 c =
-    let twelve = c .before .before .before .before .before in
+    let twelve = c .before .before .before .before .before .before in
     let six = past-6 twelve in
-    let a = entry six in
-    sym (step-repeats _ (modeOf (a .args .strict)) _ _ _ (held a) (fieldOf (a .args .x)) (a .args .next) (a .pre .2)
-    (free six)
-    (in-time twelve)
-    (sym (repeats-read (c .before)) ∙ c .if3 .taken))
+    let a = entry six in (
+      sym (step-repeats _ (modeOf (a .args .strict)) _ _ _ (held a) (fieldOf (a .args .x)) (a .args .next) (a .pre .2)
+          (free six)
+          (in-time twelve)
+          (sym (repeats-read (c .before)) ∙ c .if3 .taken)),
+      tt,
+    )
 
 store-field-requires : tie.Need-store-field-requires
 store-field-requires c κs =
-    let route = past-7 c .before .before in
+    let route = past-7 c .before .before .before in
     let a = entry (past-6 (route .before .before .before)) in
     let n = found-numbers _ _ _ _ _ (a .pre .2) in
     (a .pre .0, a .pre .1, record { kind = refl; ranges = n .ranges; hops = n .hops }, rw (route-read route) (found-route _ _ _ _ _ (a .pre .2)))
@@ -107,16 +117,22 @@ store-field-requires c κs =
 returns-4 : tie.Need-returns-4
 returns-4 c =
     let seven = past-7 (c .before) in
-    let route = seven .before .before in
+    let route = seven .before .before .before in
     let twelve = route .before .before .before in
     let six = past-6 twelve in
     let a = entry six in
-    rw (c .store-field .ensures, route-read route)
-    (ap (λ (key : ℕ). more (a .args .next) key (added (held a) (fieldOf (a .args .x)) (routeAt (fieldOf (a .args .x) .kind) (now (a .args .plan)) (a .args .at)))) (six .before .before .key-of .ensures)
-    ∙ sym (step-added _ (modeOf (a .args .strict)) _ _ _ (held a) (fieldOf (a .args .x)) (a .args .next) (a .pre .2)
-    (free six)
-    (in-time twelve)
-    (sym (repeats-read (seven .before)) ∙ seven .if3 .left)))
+    let s = now (a .args .plan) in (
+      rw (c .store-field .ensures, route-read route)
+          (ap (λ (key : ℕ). more (a .args .next) key (added (held a) (fieldOf (a .args .x)) (routeAt (fieldOf (a .args .x) .kind) (now (a .args .plan)) (a .args .at)))) (six .before .before .key-of .ensures)
+          ∙ sym (step-added _ (modeOf (a .args .strict)) _ _ _ (held a) (fieldOf (a .args .x)) (a .args .next) (a .pre .2)
+          (free six)
+          (in-time twelve)
+          (sym (repeats-read (seven .before)) ∙ seven .if3 .left))),
+      λ k.
+          known-field (now (a .args .rates)) (now (a .args .periods)) s (a .args .at) (seven .before .route-ports .result .known) _ (fieldOf (a .args .x)) (a .args .next) (a .pre .2)
+          (λ t. rw (route-read route) at (seven .before .route-ports .ensures .1 t))
+          (sym (asked (c .before) .names-known .ensures) ∙ k),
+    )
 
 pub take-field-spec : {M : Type 1} → statement M
 take-field-spec =
@@ -130,7 +146,8 @@ take-field-spec =
     (λ c κs. search needs)
     (λ c κs. search needs)
     (λ c κs. search needs)
-    names-twice-requires
+    route-ports-requires
     returns-3
+    (λ c κs. search needs)
     store-field-requires
     returns-4)

@@ -23,28 +23,38 @@ headed c p = lt-ltb 0 (getD (now (c .before .before .before .args .seen)) header
 
 -- what was found is the first field that names a port or a flow not in these tables
 found : (c : tie.After-first-absent) (p : Plan)
-    → p .rates ≡ now (c .before .before .before .before .before .args .rates)
-    → p .periods ≡ now (c .before .before .before .before .before .args .periods)
-    → c .first-absent .result ≡ firstAbsent (p .rates) (p .periods) (now (c .before .before .before .before .before .args .plan))
+    → p .rates ≡ now (c .before .before .before .before .before .before .args .rates)
+    → p .periods ≡ now (c .before .before .before .before .before .before .args .periods)
+    → c .first-absent .result ≡ firstAbsent (p .rates) (p .periods) (now (c .before .before .before .before .before .before .args .plan))
 found c p e g = rw (e, g) (c .first-absent .ensures)
 
 returns : tie.Need-returns
-returns c = λ p e g. sym (close-headless (now (c .before .before .before .args .plan)) (closed (c .before .before .before) p) (rw (c .if1 .taken)))
+returns c = λ p e g known. sym (close-headless (now (c .before .before .before .args .plan)) (closed (c .before .before .before) p) (rw (c .if1 .taken)))
 
 returns-2 : tie.Need-returns-2
-returns-2 c = λ p e g. sym (close-flowless (now (c .before .before .before .before .args .plan)) (closed (c .before .before .before .before) p) (c .if2 .taken))
+returns-2 c = λ p e g known. sym (close-flowless (now (c .before .before .before .before .args .plan)) (closed (c .before .before .before .before) p) (c .if2 .taken))
 
 returns-3 : tie.Need-returns-3
-returns-3 c = λ p e g.
-    let f = found (c .before) p e g in
-    rw f (sym (close-absent (now (c .before .before .before .before .before .before .args .plan)) (closed (c .before .before .before .before .before .before) p) (headed (c .before .before .before) p) (c .before .before .if2 .left) (rw f at (c .if3 .taken))))
+returns-3 c = λ p e g known.
+    let two = c .before in
+    let s = two .before .before .before .before in
+    sym (close-accepted (now (s .args .plan)) (closed s p) (headed (two .before) p) (two .if2 .left) (rw (e, g) (known (c .if3 .taken))))
 
 returns-4 : tie.Need-returns-4
-returns-4 c = λ p e g.
+returns-4 c = λ p e g known.
     let f = found (c .before) p e g in
-    sym (close-accepted (now (c .before .before .before .before .before .before .args .plan)) (closed (c .before .before .before .before .before .before) p) (headed (c .before .before .before) p) (c .before .before .if2 .left) (rw f at (c .if3 .left)))
+    let two = c .before .before .before in
+    let s = two .before .before .before .before in
+    rw f (sym (close-absent (now (s .args .plan)) (closed s p) (headed (two .before) p) (two .if2 .left) (rw f at (c .if4 .taken))))
+
+returns-5 : tie.Need-returns-5
+returns-5 c = λ p e g known.
+    let f = found (c .before) p e g in
+    let two = c .before .before .before in
+    let s = two .before .before .before .before in
+    sym (close-accepted (now (s .args .plan)) (closed s p) (headed (two .before) p) (two .if2 .left) (rw f at (c .if4 .left)))
 
 pub close-spec : {M : Type 1} → statement M
 close-spec =
     tie.close
-    (tie.spec (λ c. search needs) returns returns-2 (λ c κs. search needs) returns-3 returns-4)
+    (tie.spec (λ c. search needs) returns returns-2 returns-3 (λ c κs. search needs) returns-4 returns-5)

@@ -1,7 +1,7 @@
 -- `read_columns` meets its contract: test 1, then the fields. The invariant: the reading from this offset on gives what the reading from the start gives.
 use Prim.Native.Nat.{ℕ, _-_, _≤_}
-use mathlib.Core.Path.{_≡_, refl, sym, ap, _∙_}
-use mathlib.Core.Bool.{true}
+use mathlib.Core.Path.{_≡_, refl, sym, ap, _∙_, subst}
+use mathlib.Core.Bool.{Bool, true, false, true≢false}
 use mathlib.Core.List.{List}
 use borrow.Author.Needs.{needs}
 use borrow.Author.Tests.{not-true, not-false}
@@ -19,24 +19,26 @@ use Rattle.plan_reading.specs.laws.reading.PlanLength.{form-sized, form-unsized
 use Rattle.plan_reading.specs.laws.fields.Within.{within-high}
 use Rattle.plan_reading.specs.laws.reading.Onward.{Onward, onward, read-end, read-stop, read-more}
 use Rattle.loading.specs.Answer.{modeOf}
-use Rattle.loading.specs.Loading.{draftOf, progressOf, answerOf}
+use Rattle.loading.specs.Loading.{draftOf, progressOf, answerOf, NamesNone, NamesKnown}
+use Rattle.loading.specs.laws.Known.{Behind, behind-next, behind-end}
 use Rattle.loading.specs.declared.field.Progress.{Progress}
 use Rattle.loading.proofs.reading.read_columns.Statement.{statement}
 use Rattle.loading.proofs.reading.read_columns.Tie as tie
 
 -- the fields before this offset are read, into this draft
-record Reached (form : Form) (mode : Mode) (s : List ℕ) (d : Draft) (at last : ℕ) : Type 0 where
+record Reached (form : Form) (mode : Mode) (s : List ℕ) (d : Draft) (at last : ℕ) (known : Bool) : Type 0 where
   inside : at ≤ length s
   ports : d .ports ≤ at
   flows : d .flows ≤ at
   rest : readFrom form mode (length s) s 0 0 blank ≡ readFrom form mode (length s) s at last d
+  behind : known ≡ true → Behind s d at
 
 abbrev Inv-loop : tie.InvT-loop
-Inv-loop form strict plan rates₀ blockings₀ extras₀ periods₀ counts₀ lengths₀ jitters₀ hops₀ routes₀ totals₀ strictly seen₀ last₀ at₀ rates blockings extras periods counts lengths jitters hops routes totals seen last at =
-    Reached (formOf form) (modeOf strictly) plan (draftOf totals rates blockings extras periods counts lengths jitters hops routes seen) at last
+Inv-loop form strict plan rates₀ blockings₀ extras₀ periods₀ counts₀ lengths₀ jitters₀ hops₀ routes₀ totals₀ strictly seen₀ known₀ last₀ at₀ rates blockings extras periods counts lengths jitters hops routes totals seen known last at =
+    Reached (formOf form) (modeOf strictly) plan (draftOf totals rates blockings extras periods counts lengths jitters hops routes seen) at last known
 
 abbrev μ-loop : tie.MeasureT-loop
-μ-loop form strict plan rates₀ blockings₀ extras₀ periods₀ counts₀ lengths₀ jitters₀ hops₀ routes₀ totals₀ strictly seen₀ last₀ at₀ rates blockings extras periods counts lengths jitters hops routes totals seen last at =
+μ-loop form strict plan rates₀ blockings₀ extras₀ periods₀ counts₀ lengths₀ jitters₀ hops₀ routes₀ totals₀ strictly seen₀ known₀ last₀ at₀ rates blockings extras periods counts lengths jitters hops routes totals seen known last at =
     length plan - at
 
 -- the states on the way, each named once: in a turn from where its columns are lent, the loop's from its end, and the start
@@ -113,7 +115,12 @@ module _ (c : tie.After-known-told Inv-loop μ-loop) where
       (l .1 .1 .1 .1 .1 .1 .0) (l .1 .1 .1 .1 .1 .1 .1 .0) (l .1 .1 .1 .1 .1 .1 .1 .1 .0) (l .1 .1 .1 .1 .1 .1 .1 .1 .1 .0)
 
   stepped : stepAt (form turn) (mode turn) (bytes turn) (here turn) (last turn) (held turn) ≡ more next key read
-  stepped = sym (c .before .before .before .step .ensures) ∙ ap (stepped-as (c .before .before .before)) (c .before .next .given .1)
+  stepped = sym (c .before .before .before .step .ensures .0) ∙ ap (stepped-as (c .before .before .before)) (c .before .next .given .1)
+
+  names-none : c .before .next .given .0 .1 .1 .1 .0 ≡ true → NamesNone (held turn .tables .rates) (held turn .tables .periods) (bytes turn) (here turn)
+  names-none =
+      subst (λ (p : Progress). NamesKnown p (held turn .tables .rates) (held turn .tables .periods) (bytes turn) (here turn)) (c .before .next .given .1)
+      (c .before .before .before .step .ensures .1)
 
   goes-on : Onward (bytes turn) (here turn) (held turn) next read
   goes-on = onward (form turn) (mode turn) (bytes turn) (here turn) (last turn) (held turn) next key read stepped
@@ -126,7 +133,7 @@ at-end c =
     let l = at-last c in
     rest-read l
     ∙ read-end (form l) (mode l) (bytes l) (here l) (last l) (held l) _ (c .before .before .before .before .loop-test .left)
-    ∙ sym (c .close .ensures (held l .tables) refl refl)
+    ∙ sym (c .close .ensures (held l .tables) refl refl (λ k. behind-end (bytes l) (held l) (here l) (c .before .before .before .before .loop-test .left) (l .loop .inv .behind k)))
 
 returns : tie.Need-returns Inv-loop μ-loop
 returns c =
@@ -148,6 +155,7 @@ loop-holds c =
       rest =
           ap (λ (p : Plan). readFrom (formOf (s .args .form)) (modeOf (c .strict-in .result)) (length (now (s .args .plan))) (now (s .args .plan)) 0 0 (fresh p))
           (sym (s .pre));
+      behind = λ k rates periods a b all. all;
     }
 
 step-requires : tie.Need-step-requires Inv-loop μ-loop
@@ -157,11 +165,12 @@ step-requires c κs =
     let most = within-high 1 maxBytes (length (bytes l)) (sized l) in
     (omega (arith, i .inside, i .ports, most), omega (arith, i .inside, i .flows, most))
 
-loop-less : tie.Need-loop-less Inv-loop μ-loop
-loop-less c = omega (arith, goes-on c .forward, goes-on c .inside)
-
-loop-again : tie.Need-loop-again Inv-loop μ-loop
-loop-again c =
+-- a turn that goes on reaches the next offset
+again
+    : (c : tie.After-known-told Inv-loop μ-loop) (known : Bool)
+    → (known ≡ true → Behind (bytes (turn c)) (read c) (next c))
+    → Reached (form (turn c)) (mode (turn c)) (bytes (turn c)) (read c) (next c) (key c) known
+again c known behind =
     let l = turn c in
     let i = l .loop .inv in
     record {
@@ -169,7 +178,26 @@ loop-again c =
       ports = omega (arith, i .ports, goes-on c .ports, goes-on c .forward);
       flows = omega (arith, i .flows, goes-on c .flows, goes-on c .forward);
       rest = i .rest ∙ read-more (form l) (mode l) (bytes l) (here l) (last l) (held l) (tested c .loop-test .taken) (next c) (key c) (read c) (stepped c);
+      behind = behind;
     }
+
+loop-less : tie.Need-loop-less Inv-loop μ-loop
+loop-less c = omega (arith, goes-on (c .before) .forward, goes-on (c .before) .inside)
+
+loop-again : tie.Need-loop-again Inv-loop μ-loop
+loop-again c = again (c .before) false (λ k. absurd (true≢false (sym k)))
+
+loop-less-2 : tie.Need-loop-less-2 Inv-loop μ-loop
+loop-less-2 c = omega (arith, goes-on (c .before) .forward, goes-on (c .before) .inside)
+
+loop-again-2 : tie.Need-loop-again-2 Inv-loop μ-loop
+loop-again-2 c =
+    let t = c .before in
+    let l = turn t in
+    again t (l .loop .known)
+    (λ k.
+    behind-next (form l) (mode l) (bytes l) (here l) (last l) (held l) (next t) (key t) (read t) (stepped t) (names-none t (not-false _ (c .if2 .left)))
+    (l .loop .inv .behind k))
 
 returns-2 : tie.Need-returns-2 Inv-loop μ-loop
 returns-2 c =
@@ -178,7 +206,7 @@ returns-2 c =
     sym
     (rest-read l
     ∙ read-stop (form l) (mode l) (bytes l) (here l) (last l) (held l) (test .loop-test .taken) _ _
-    (sym (c .before .before .before .step .ensures) ∙ ap (stepped-as (c .before .before .before)) (c .before .fault .given .1)))
+    (sym (c .before .before .before .step .ensures .0) ∙ ap (stepped-as (c .before .before .before)) (c .before .fault .given .1)))
 
 returns-3 : tie.Need-returns-3 Inv-loop μ-loop
 returns-3 c = sym (at-end c)
@@ -197,6 +225,8 @@ read-columns-spec =
     (λ c. search needs)
     loop-less
     loop-again
+    loop-less-2
+    loop-again-2
     (λ c. search needs)
     returns-2
     (λ c κs. tt)
