@@ -1,15 +1,24 @@
 // What the ports of a route are, where they are in range: test 7, and whether each was read before. Each of them is looked at once.
 
+use plan::layout::HOP_SIZE;
 use plan::route::route_len;
-use plan::route::route_port;
 use tables::PORTS;
 use tables::columns;
+ghost use Prim.Native.Nat.{_<_};
 ghost use mathlib.Core.Path.{_≡_};
 ghost use mathlib.Core.Bool.{true, not};
 ghost use Rattle.cqf.specs.Bounded.{every, distinct};
 ghost use Rattle.cqf.specs.Limits.{portOk};
 ghost use Rattle.cqf.specs.Plan.{portIn};
-ghost use Rattle.plan.specs.Field.{routePorts};
+ghost use Rattle.plan.specs.Field.{routeLength, routePorts, routePort};
+
+// Port i of such a route: its high byte is 0.
+fn low_byte(route: &[u8], i: usize) -> u8
+    requires { ⌜ (i < routeLength (now route)) × (every portOk (routePorts (now route)) ≡ true) ⌝ }
+    ensures { λ r. ⌜ r ≡ routePort (now (route .entry)) i ⌝ }
+{
+    route[HOP_SIZE * i + 1]
+}
 
 // Whether a port stands in a route twice; and, where none does, whether each is in the plan as far as it was read.
 pub(crate) struct RoutePorts {
@@ -29,7 +38,7 @@ pub(crate) fn route_ports<'a>(route: &[u8], rates: &'a columns::Rates) -> RouteP
     let mut known = true;
     let mut i = 0;
     while i < hops {
-        let slot = (route_port(route, i) - 1) as usize;
+        let slot = (low_byte(route, i) - 1) as usize;
         if seen[slot] != 0 {
             return RoutePorts {
                 twice: true,

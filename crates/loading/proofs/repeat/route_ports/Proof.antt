@@ -37,16 +37,16 @@ abbrev μ-loop : tie.MeasureT-loop
 μ-loop route rates hops seen₀ known₀ i₀ seen known i = hops - i
 
 -- the port of a turn: its place in the route, its number and its range
-module _ (c : tie.After-route-port Inv-loop μ-loop) where
+module _ (c : tie.After-low-byte Inv-loop μ-loop) where
   abbrev bytes : List ℕ
   bytes = now (c .before .before .before .before .before .args .route)
 
   abbrev at : ℕ
   at = c .before .before .loop .i
 
-  told : c .route-port .result ≡ getD (routePorts bytes) (0 + at) 0
+  told : c .low-byte .result ≡ getD (routePorts bytes) (0 + at) 0
   unfolding routePort
-  told = c .route-port .ensures ∙ ap (λ (k : ℕ). getD (routePorts bytes) k 0) (sym (zero-add at))
+  told = c .low-byte .ensures ∙ ap (λ (k : ℕ). getD (routePorts bytes) k 0) (sym (zero-add at))
 
   inside : at < length (routePorts bytes)
   inside = omega (arith, route-length bytes, c .before .before .before .route-len .ensures)
@@ -63,6 +63,9 @@ module _ (c : tie.After-route-port Inv-loop μ-loop) where
 loop-holds : tie.Need-loop-holds Inv-loop μ-loop
 unfolding allTo elem sublist every
 loop-holds c = (omega arith, refl, refl, λ q h. getD-replicate 64 q 0 0 h, λ h. refl)
+
+low-byte-requires : tie.Need-low-byte-requires Inv-loop μ-loop
+low-byte-requires c κs = (omega (arith, c .before .before .route-len .ensures, c .loop-test .taken), c .before .before .before .before .pre)
 
 sub-slot : tie.Need-sub-slot Inv-loop μ-loop
 sub-slot c = omega (arith, told c, low c)
@@ -123,7 +126,7 @@ route-ports-spec =
     μ-loop
     (λ c κs. tt)
     loop-holds
-    (λ c κs. tt)
+    low-byte-requires
     sub-slot
     cast-slot
     array-read-if1
