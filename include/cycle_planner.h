@@ -12,8 +12,8 @@
  * Durations, intervals, guard band, jitter and synchronization error are in ns, rates in Mbit/s, lengths of frames and plans in bytes,
  * demands in bits on the wire, spares in thousandths of a bit.
  *
- * Stack of a call, with what the functions of this header take: a load 11.5 KB (1.2 planners), cp_span and cp_spans 1.7 KB, another
- * question up to 1.2 KB, cp_upgrade and cp_downgrade 51 KB. No heap. The library keeps nothing between calls and has no data of its own:
+ * Stack of a call, with what the functions of this header take: a load 11.5 KB (1.2 planners), a question up
+ * to 1.3 KB, cp_upgrade and cp_downgrade 11.2 KB. No heap. The library keeps nothing between calls and has no data of its own:
  * calls are re-entrant, and may be made from several tasks at once, also about one planner as long as none of them loads or clears it. */
 #ifndef CYCLE_PLANNER_H
 #define CYCLE_PLANNER_H
@@ -448,7 +448,7 @@ static inline cp_answer cp_gates(const cp_planner *planner, uint64_t duration, u
 
 /* A batch: eight plans whose least durations are searched in turn. For an office's computer and not for the cabinet: plain data of
  * 79,816 bytes that goes into each call by value and comes back as the call leaves it; keep it so, and do not look inside. A call of
- * these takes up to 351 KB of stack, beside the batch given and the outcome, 160 KB, that the caller holds, and copies up to 438 KB.
+ * these takes up to 340 KB of stack, beside the batch given and the outcome, 160 KB, that the caller holds, and copies up to 429 KB.
  * No call here takes or gives a cp_planner: a plan held elsewhere stays as it is. A slot's state is 0 for no plan, 1 for a plan that
  * is searched, with the duration reached and the steps used, and 2 to 5 for a final answer: found, 22, and 20 and 10 for tables and
  * durations that no call leaves. Any other state, and state 1 with as many steps as its duration or more, is a slot with no plan; next
