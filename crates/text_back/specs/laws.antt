@@ -15,7 +15,5 @@ pub mod PlanWords
 pub mod PlanRead
 pub mod Closing
 pub mod Saved
-pub mod Short
-pub mod ShortText
 pub mod ReadTidy
 pub mod ReadWhole

@@ -22,6 +22,7 @@ use Rattle.plan_text.specs.Print.{planLines, textOf}
 use Rattle.plan_text.specs.Text.{maxText, blank, reads, closing, readLines, readText}
 use Rattle.plan_text.specs.laws.Absent.{none-absent}
 use Rattle.plan_text.specs.laws.Steps.{read-none}
+use Rattle.text_writing.specs.laws.Length.{text-fits}
 use Rattle.text_back.specs.Encodes.{Encodes}
 use Rattle.text_back.specs.laws.Lines.{joined}
 use Rattle.text_back.specs.laws.TextLines.{lines-said}
@@ -32,7 +33,6 @@ use Rattle.text_back.specs.laws.PlanWords.{plan-words}
 use Rattle.text_back.specs.laws.PlanRead.{drafted, plan-read}
 use Rattle.text_back.specs.laws.Closing.{plan-absent}
 use Rattle.text_back.specs.laws.Saved.{tidied-bytes}
-use Rattle.text_back.specs.laws.ShortText.{text-short}
 use Rattle.text_back.specs.laws.ReadWhole.{formIn, planIn}
 
 -- a text that is not too long is read by its lines
@@ -60,7 +60,7 @@ module _ (form : Form) (p : Plan) (valid : validPlan p ≡ true) (sized : Sized 
   unfolding textOf
   text-read =
       let r = plan-read p valid form (fits-hops form (p .hops) fits) in
-      by-lines (textOf form p) (text-short p valid form)
+      by-lines (textOf form p) (text-fits form p valid)
       ∙ ap (readLines blank 1) (lines-said (planLines form p) (plan-words p form))
       ∙ ap (readLines blank 1) (sym (append-nil (map joined (planLines form p))))
       ∙ r .reads []
