@@ -1,6 +1,6 @@
 // Bytes, words and numbers, written from a position on; the answer is where the next ones begin.
 ghost use mathlib.Core.List.{[], _∷_};
-ghost use Prim.Native.Nat.{_+_, _≤_};
+ghost use Prim.Native.Nat.{_+_, _≤_, _<_};
 ghost use lib.ListN.{length};
 ghost use Rattle.plan_text.specs.Print.{digitsBy};
 ghost use Rattle.text_writing.specs.Puts.{Puts, farthest};
@@ -44,4 +44,27 @@ pub(crate) fn put_digits(out: &mut [u8], at: usize, most: usize, n: u32) -> usiz
     }
     let next = put_digits(out, at, most - 1, n / 10);
     put_byte(out, next, ZERO + (n % 10) as u8)
+}
+
+// The same of a number of two digits: most ports have such.
+pub(crate) fn put_two(out: &mut [u8], at: usize, most: usize, n: u32) -> usize
+    requires { ⌜ (at < farthest) × (2 ≤ most) × (10 ≤ n) × (n < 100) ⌝ }
+    ensures { λ r. ⌜ Puts most (digitsBy most n) (now (out .entry)) at r (now (out .exit)) ⌝ }
+{
+    let next = put_byte(out, at, ZERO + (n / 10) as u8);
+    put_byte(out, next, ZERO + (n % 10) as u8)
+}
+
+// A number by either.
+pub(crate) fn put_decimal(out: &mut [u8], at: usize, most: usize, n: u32) -> usize
+    requires { ⌜ (at + most ≤ farthest) × (2 ≤ most) ⌝ }
+    ensures { λ r. ⌜ Puts most (digitsBy most n) (now (out .entry)) at r (now (out .exit)) ⌝ }
+{
+    if n < 10 {
+        return put_digits(out, at, most, n);
+    }
+    if n < 100 {
+        return put_two(out, at, most, n);
+    }
+    put_digits(out, at, most, n)
 }

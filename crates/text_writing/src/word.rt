@@ -1,7 +1,7 @@
 // The words of a line: each behind a space, but for the first.
 use crate::number::put_byte;
 use crate::number::put_bytes;
-use crate::number::put_digits;
+use crate::number::put_decimal;
 ghost use mathlib.Core.List.{[], _∷_, _++_};
 ghost use Prim.Native.Nat.{_+_, _≤_, _<_};
 ghost use lib.ListN.{length};
@@ -28,7 +28,7 @@ pub(crate) fn put_number(out: &mut [u8], at: usize, n: u32) -> usize
     ensures { λ r. ⌜ Puts 10 (numberBytes n) (now (out .entry)) at r (now (out .exit)) ⌝ }
 {
     let next = put_byte(out, at, SPACE);
-    put_digits(out, next, MAX_DIGITS, n)
+    put_decimal(out, next, MAX_DIGITS, n)
 }
 
 // The first word of a line, and a number.

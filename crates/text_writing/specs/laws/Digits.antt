@@ -27,6 +27,21 @@ unfolding digitsBy
 digits-more zero n some high = absurd (some refl)
 digits-more (suc k) n some high = rw (le-ltb n 10 high, sub-one (suc k))
 
+pub digits-two : (most n : ℕ) → 2 ≤ most → 10 ≤ n → n < 100 → digitsBy most n ≡ (zeroDigit + n / 10) ∷ (zeroDigit + n % 10) ∷ []
+digits-two most n two high low =
+    rw (digits-more most n (λ none. omega (arith, none)) high, digits-one (most - 1) (n / 10) (λ none. omega (arith, none)) (omega arith))
+
+-- two digits, one behind the other
+pub puts-two
+    : (most n : ℕ) {buffer now exit : List ℕ} {at mid next : ℕ}
+    → 2 ≤ most
+    → 10 ≤ n
+    → n < 100
+    → Puts 1 ((zeroDigit + n / 10) ∷ []) buffer at mid now
+    → Puts 1 ((zeroDigit + n % 10) ∷ []) now mid next exit
+    → Puts most (digitsBy most n) buffer at next exit
+puts-two most n two high low p q = puts-as (sym (digits-two most n two high low)) (puts-few most two (puts-then p q))
+
 -- a number written: none of its digits, one, and the last behind the others
 module _ (most n : ℕ) {buffer : List ℕ} {at : ℕ} where
   pub puts-no-digit : most ≡ 0 → Puts most (digitsBy most n) buffer at at buffer

@@ -8,7 +8,7 @@ returns : tie.Need-returns
 returns c =
     let second = c .before .before in
     let first = second .before .before .before .before in
-    puts-then (first .put-byte .ensures) (second .put-digits .ensures)
+    puts-then (first .put-byte .ensures) (second .put-decimal .ensures)
 
 pub put-number-spec : {M : Type 1} → statement M
 put-number-spec =
