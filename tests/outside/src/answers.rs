@@ -54,6 +54,17 @@ pub struct SpanRecord {
     pub last: u64,
 }
 
+/// What a text was turned into, or the line at which it is refused, why, and what of it.
+#[repr(C)]
+#[derive(Clone, Copy, PartialEq, Eq, Debug)]
+pub struct EncodeAnswer {
+    pub refusal: u32,
+    pub line: u32,
+    pub fault: u32,
+    pub item: u32,
+    pub value: u64,
+}
+
 /// How many numbers cp_field tells.
 pub const NUMBERS: usize = 6;
 

@@ -1,7 +1,9 @@
 //! The C interface of the planner. Most exports are lent its columns one by one: `raw` takes them off a planner, as the C header does.
 //! A Rust slice is never null, an empty one neither.
 
-use crate::answers::{Answer, Batch, BurstAnswer, FieldRead, Planner, SlackAnswer, SpanRecord, StepsAnswer, UnsentAnswer, PLANNER_BYTES};
+use crate::answers::{
+    Answer, Batch, BurstAnswer, EncodeAnswer, FieldRead, Planner, SlackAnswer, SpanRecord, StepsAnswer, UnsentAnswer, PLANNER_BYTES,
+};
 
 mod raw {
     use crate::answers::{Answer, BurstAnswer, Planner, SlackAnswer, SpanRecord, StepsAnswer, UnsentAnswer, STRIDE};
@@ -52,6 +54,7 @@ mod raw {
         cp_burst_columns as burst(duration: u64, port: u64, flow: u64, frame: u64) -> BurstAnswer;
         cp_unsent_columns as unsent(duration: u64) -> UnsentAnswer;
         cp_save_columns as save(buffer: *mut u8, length: usize) -> Answer;
+        cp_text_columns as text(buffer: *mut u8, length: usize) -> Answer;
         cp_gates_columns as gates(duration: u64, even: u64, odd: u64, buffer: *mut u8, length: usize) -> Answer;
     }
 }
@@ -81,6 +84,7 @@ extern "C" {
     fn cp_batch_collect(batch: Batch, slot: u64) -> CollectOutcome;
     fn cp_field_bytes(plan: *const u8, length: usize, offset: usize) -> FieldRead;
     fn cp_repeats_bytes(tag: u32, value: *const u8, length: usize) -> u8;
+    fn cp_encode_bytes(text: *const u8, length: usize, buffer: *mut u8, room: usize) -> EncodeAnswer;
     fn cp_upgrade_bytes(plan: *const u8, length: usize, buffer: *mut u8, room: usize) -> Answer;
     fn cp_downgrade_bytes(plan: *const u8, length: usize, buffer: *mut u8, room: usize) -> Answer;
     fn cp_write_header_bytes(guard: u32, top: u32, buffer: *mut u8, room: usize) -> Answer;
@@ -180,6 +184,10 @@ pub fn save(planner: &Planner, buffer: &mut [u8]) -> Answer {
     unsafe { raw::save(planner, buffer.as_mut_ptr(), buffer.len()) }
 }
 
+pub fn text(planner: &Planner, buffer: &mut [u8]) -> Answer {
+    unsafe { raw::text(planner, buffer.as_mut_ptr(), buffer.len()) }
+}
+
 pub fn gates(planner: &Planner, duration: u64, even: u64, odd: u64, buffer: &mut [u8]) -> Answer {
     unsafe { raw::gates(planner, duration, even, odd, buffer.as_mut_ptr(), buffer.len()) }
 }
@@ -210,6 +218,10 @@ pub fn field(plan: &[u8], offset: usize) -> FieldRead {
 /// Whether the value of a flow field of this tag names a port twice.
 pub fn repeats(tag: u32, value: &[u8]) -> u8 {
     unsafe { cp_repeats_bytes(tag, value.as_ptr(), value.len()) }
+}
+
+pub fn encode(text: &[u8], buffer: &mut [u8]) -> EncodeAnswer {
+    unsafe { cp_encode_bytes(text.as_ptr(), text.len(), buffer.as_mut_ptr(), buffer.len()) }
 }
 
 pub fn upgrade(plan: &[u8], buffer: &mut [u8]) -> Answer {

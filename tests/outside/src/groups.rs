@@ -38,6 +38,8 @@ pub mod steps;
 mod steps_k;
 pub mod strict;
 mod strict_k;
+pub mod text;
+mod text_k;
 mod worked;
 pub mod written;
 

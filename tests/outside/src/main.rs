@@ -20,7 +20,7 @@ const SEED: u64 = 20_261_115;
 const CASES: u64 = 1_500;
 
 /// A group's name, its share of the cases in hundredths, and its body.
-const GROUPS: [(&str, u64, fn(&mut Tally)); 25] = [
+const GROUPS: [(&str, u64, fn(&mut Tally)); 26] = [
     ("reading", 60, alone::reading::run),
     ("converting", 60, alone::converting::run),
     ("known", 100, groups::known::run),
@@ -46,6 +46,7 @@ const GROUPS: [(&str, u64, fn(&mut Tally)); 25] = [
     ("lighter", 60, groups::lighter::run),
     ("forms", 40, groups::forms::run),
     ("convert", 40, groups::convert::run),
+    ("text", 40, groups::text::run),
 ];
 
 fn number_from(name: &str, otherwise: u64) -> u64 {

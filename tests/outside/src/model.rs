@@ -12,6 +12,7 @@ pub mod reprice;
 pub mod save;
 pub mod spans;
 pub mod tables;
+pub mod text;
 pub mod usable;
 pub mod values;
 pub mod write;
