@@ -13,12 +13,15 @@ mod found;
 mod jump;
 mod lean;
 mod most_spans;
+mod newer;
 mod paper;
 mod plans;
 mod reader;
 mod scan;
 mod search;
 mod spans;
+mod text;
+mod texts;
 mod usable;
 mod valid;
 mod writer;
@@ -284,6 +287,8 @@ fn main() {
             std::io::stdout().write_all(bytes).expect("cannot write");
         }
         [part @ ("load" | "read" | "read-by-port"), name] => load(loaded(name).expect("no such plan"), part),
+        ["texts"] => texts::list(),
+        [part @ ("text" | "text-rust" | "encode" | "encode-rust"), name] => println!("{}", texts::told_of(part, name)),
         ["turns", name] => turns(&searched(name).bytes),
         [part @ ("save" | "write"), name] => save(loaded(name).expect("no such plan"), part),
         [part @ ("span-first" | "span-top" | "spans" | "same-span-first" | "same-span-top" | "same-spans" | "pieces"), name] => {
@@ -292,6 +297,6 @@ fn main() {
         }
         [part @ ("reprice" | "slacks"), name] => reprice(&searched(name).bytes, part),
         [part, name] => search(searched(name), part),
-        _ => panic!("searches, usable, loads, paper, search SECONDS SEED, bytes PLAN, or PART PLAN"),
+        _ => panic!("searches, usable, loads, texts, paper, search SECONDS SEED, bytes PLAN, or PART PLAN"),
     }
 }

@@ -1,6 +1,6 @@
 //! The plans that are measured, as bytes.
 
-use crate::{found, most_spans};
+use crate::{found, most_spans, newer};
 
 /// How a plan is measured: its name, its bytes, and how many durations the scan tries at most.
 pub struct Case {
@@ -229,4 +229,13 @@ pub fn loads() -> Vec<(&'static str, Vec<u8>)> {
     let mut every_field = late_clocks(0.6);
     (1..=64).for_each(|number| extra(&mut every_field, number, number));
     vec![("K", k()), ("longest", longest), ("longest-lacking", lacking), ("every-field", every_field)]
+}
+
+/// The plans whose text is measured: K, one with many short routes, and the longest of either form.
+pub fn texts() -> Vec<(&'static str, Vec<u8>)> {
+    let mut plans = loads();
+    plans.retain(|plan| plan.0 != "longest-lacking");
+    plans.insert(1, ("149-flows", spread()));
+    plans.push(("newer-longest", newer::longest()));
+    plans
 }

@@ -31,18 +31,18 @@ fn needed(planner: &Planner) -> usize {
 }
 
 /// What is written first of what remains, and what remains then.
-fn put<'a, const N: usize>(rest: &'a mut [u8], bytes: [u8; N]) -> &'a mut [u8] {
+pub fn put<'a, const N: usize>(rest: &'a mut [u8], bytes: [u8; N]) -> &'a mut [u8] {
     let (front, rest) = rest.split_at_mut(N);
     front.copy_from_slice(&bytes);
     rest
 }
 
-fn head(rest: &mut [u8], tag: u8, length: u16) -> &mut [u8] {
+pub fn head(rest: &mut [u8], tag: u8, length: u16) -> &mut [u8] {
     let length = length.to_be_bytes();
     put(rest, [tag, length[0], length[1]])
 }
 
-fn number(slot: usize) -> [u8; 2] {
+pub fn number(slot: usize) -> [u8; 2] {
     (slot as u16 + 1).to_be_bytes()
 }
 
@@ -82,6 +82,11 @@ pub fn save(planner: &Planner, buffer: &mut [u8]) -> Answer {
     if !valid_plan(planner) {
         return Answer::refused(20);
     }
+    put_plan(planner, buffer)
+}
+
+/// The plan of good tables in strict order, and the answer that saving gives.
+pub fn put_plan(planner: &Planner, buffer: &mut [u8]) -> Answer {
     let needed = needed(planner);
     if buffer.len() < needed {
         return Answer::new(13, needed as u64, 0);
