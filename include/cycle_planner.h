@@ -411,8 +411,9 @@ static inline cp_answer cp_text(const cp_planner *planner, uint8_t *buffer, size
 /* cp_encode writes the plan that a text says as its bytes in strict order, as cp_save does. Result: value = the length written. Refusal
  * 13, the buffer is shorter: value = the length needed; CP_MAX_SAVED is enough for every plan that a load takes (a text behind format 2
  * can say up to 17,495 bytes). CP_BAD_TEXT: line = the line at which the text is refused, counted from 1, fault = why, item = what it is
- * about, value = the number that is named with it, or 0; a number of 2^64 - 2 or more is told as 2^64 - 2. The others are 0, and a
- * refusal writes no byte. What cp_text wrote is encoded as what cp_save writes. */
+ * about, value = the number that is named with it, or 0: one that is out of its range, how many ports a route has, the first number of
+ * a line that is said again (of the clocks, item CP_ITEM_DRIFT), a port that is absent; one of 2^64 - 2 or more is told as 2^64 - 2. The
+ * others are 0, and a refusal writes no byte. What cp_text wrote is encoded as what cp_save writes. */
 static inline cp_encode_answer cp_encode(const uint8_t *text, size_t length, uint8_t *buffer, size_t room) {
   uint8_t none = 0;
   return cp_encode_bytes(length == 0 ? &none : text, length, room == 0 ? &none : buffer, room);
