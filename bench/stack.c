@@ -20,10 +20,13 @@ static cp_answer answer;
 static cp_slack_answer slacked;
 static cp_fixed_point_answer stepped;
 static cp_field_read field;
+static cp_burst_answer burst;
+static cp_unsent_answer unsent;
+static cp_encode_answer encoded;
 static uint64_t scratch[PORTS];
 static int64_t list[PORTS];
 static cp_span_record spans[PORTS];
-static uint8_t buffer[MAX_BYTES];
+static uint8_t buffer[MAX_BYTES], text[CP_MAX_TEXT];
 static uint8_t repeats;
 static cp_batch batch;
 static cp_place_outcome placed;
@@ -49,6 +52,13 @@ static cp_answer see_gates(const cp_planner *p, uint64_t d, uint64_t e, uint64_t
 }
 static cp_answer see_convert(const uint8_t *b, size_t n, uint8_t *c, size_t m) {
   SEEN; (void)b, (void)n, (void)c, (void)m; return answer;
+}
+static cp_burst_answer see_burst(const cp_planner *p, uint64_t d, uint64_t q, uint64_t f, uint64_t k) {
+  SEEN; (void)p, (void)d, (void)q, (void)f, (void)k; return burst;
+}
+static cp_unsent_answer see_unsent(const cp_planner *p, uint64_t d) { SEEN; (void)p, (void)d; return unsent; }
+static cp_encode_answer see_encode(const uint8_t *b, size_t n, uint8_t *c, size_t m) {
+  SEEN; (void)b, (void)n, (void)c, (void)m; return encoded;
 }
 static cp_field_read see_field(const uint8_t *b, size_t n, size_t o) { SEEN; (void)b, (void)n, (void)o; return field; }
 static cp_batch see_batch(void) { SEEN; return batch; }
@@ -118,6 +128,13 @@ MEASURED(on_refused_save, cp_answer (*volatile call)(const cp_planner *, uint8_t
          answer = call(&held, buffer, 1))
 MEASURED(on_gates, cp_answer (*volatile call)(const cp_planner *, uint64_t, uint64_t, uint64_t, uint8_t *, size_t), see_gates, cp_gates,
          answer = call(&held, held.top, 2, 3, buffer, MAX_BYTES))
+MEASURED(on_burst, cp_burst_answer (*volatile call)(const cp_planner *, uint64_t, uint64_t, uint64_t, uint64_t), see_burst, cp_burst,
+         burst = call(&held, held.top, 1, 1, 0))
+MEASURED(on_unsent, cp_unsent_answer (*volatile call)(const cp_planner *, uint64_t), see_unsent, cp_unsent, unsent = call(&held, held.top))
+MEASURED(on_text, cp_answer (*volatile call)(const cp_planner *, uint8_t *, size_t), see_save, cp_text,
+         answer = call(&held, text, CP_MAX_TEXT))
+MEASURED(on_encode, cp_encode_answer (*volatile call)(const uint8_t *, size_t, uint8_t *, size_t), see_encode, cp_encode,
+         encoded = call(text, (size_t)answer.first, buffer, MAX_BYTES))
 MEASURED(on_upgrade, CONVERTS, see_convert, cp_upgrade, answer = call(accepted.bytes, accepted.length, buffer, MAX_BYTES))
 MEASURED(on_downgrade, CONVERTS, see_convert, cp_downgrade, answer = call(upgraded.bytes, upgraded.length, buffer, MAX_BYTES))
 MEASURED(on_field, cp_field_read (*volatile call)(const uint8_t *, size_t, size_t), see_field, cp_field,
@@ -199,11 +216,17 @@ int main(int count, char **paths) {
   answering("cp_save", on_save, 0);
   answering("cp_save, refused", on_refused_save, 13);
   answering("cp_gates", on_gates, 0);
+  answering("cp_text", on_text, 0);
+  row("cp_encode", on_encode, 0, sizeof encoded);
+  if (encoded.refusal != 0) return 1;
+  row("cp_burst", on_burst, 0, sizeof burst);
   held = overloaded;
   questions(refusing);
   if (answer.refusal != 23 || stepped.refusal != 22) return 1;
   answering("cp_span, refused", on_span, 25);
   answering("cp_gates, refused", on_gates, 21);
+  row("cp_unsent", on_unsent, 0, sizeof unsent);
+  if (unsent.failing == 0) return 1;
   answering("cp_upgrade", on_upgrade, 0);
   memcpy(upgraded.bytes, buffer, upgraded.length = (size_t)answer.first);
   answering("cp_downgrade", on_downgrade, 0);
