@@ -93,7 +93,8 @@ fn ask_bytes(bytes: &[u8], duration: u64) {
 fn ask_text(text: &[u8], duration: u64) {
     let outcome = read_text(text);
     let held = outcome.planner;
-    match outcome.answer {
+    let read = outcome.answer;
+    match read {
         TextAnswer::Refused {
             line,
             fault,
