@@ -122,7 +122,8 @@ pub(crate) fn overrun_in<'a>(
         duration q c (r .slot))
         ⌝ }
 {
-    let bits = cycle_bits(
+    let mut bits = [0u64; PORTS];
+    cycle_bits(
         guard,
         top,
         clock,
@@ -139,6 +140,7 @@ pub(crate) fn overrun_in<'a>(
         q,
         latest,
         c,
+        &mut bits,
     );
     let available = window(guard, duration);
     let slot = lowest_over(rates, blockings, extras, available, &bits);

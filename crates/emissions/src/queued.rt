@@ -12,7 +12,7 @@ use tables::columns;
 ghost use mathlib.Core.Path.{_≡_};
 ghost use mathlib.Core.Bool.{true};
 ghost use Prim.Native.Nat.{ℕ, _+_, _*_, _≤_, _<_};
-ghost use lib.ListN.{getD};
+ghost use lib.ListN.{length, getD};
 ghost use Rattle.cqf.specs.Bounded.{sublist};
 ghost use Rattle.cqf.specs.Limits.{portSlots, flowSlots, routeStride, minPeriod, maxPeriod, maxCount, maxLength, maxJitter, maxExtra};
 ghost use Rattle.cqf.specs.Overflow.{mostWidened};
@@ -92,7 +92,8 @@ pub(crate) fn cycle_bits<'a>(
     q: usize,
     latest: u64,
     c: u64,
-) -> [u64; PORTS]
+    bits: &mut [u64; PORTS],
+)
     requires { ⌜
         (validPlan
         (planBy guard top (clockOf clock) (now rates) (now blockings) (now extras) (now periods) (now counts)
@@ -100,10 +101,10 @@ pub(crate) fn cycle_bits<'a>(
         ≡ true) × (duration ≤ top) × (q < portSlots) × (latest ≡ latestHop
         (planBy guard top (clockOf clock) (now rates) (now blockings) (now extras) (now periods) (now counts)
         (now lengths) (now jitters) (now hops) (now routes))
-        q)
+        q) × (length (now bits) ≡ portSlots) × ((r : ℕ) → r < portSlots → getD (now bits) r 0 ≡ 0)
         ⌝ }
-    ensures { λ bits. ⌜
-        ((r : ℕ) → r < portSlots → getD bits r 0 ≡ burstBits
+    ensures { λ _. ⌜
+        ((r : ℕ) → r < portSlots → getD (now (bits .exit)) r 0 ≡ burstBits
         (planBy guard top (clockOf clock) (now (rates .entry)) (now (blockings .entry)) (now (extras .entry))
         (now (periods .entry)) (now (counts .entry)) (now (lengths .entry)) (now (jitters .entry))
         (now (hops .entry)) (now (routes .entry)))
@@ -111,7 +112,6 @@ pub(crate) fn cycle_bits<'a>(
         ⌝ }
 {
     let over = widened(clock, duration as u32) as u32;
-    let mut bits = [0u64; PORTS];
     let mut f: usize = 0;
     while f < FLOWS {
         let n = queued_port(routes, f * STRIDE, hops[f] as usize, q, latest, c) as usize;
@@ -129,5 +129,4 @@ pub(crate) fn cycle_bits<'a>(
         }
         f += 1;
     }
-    bits
 }

@@ -6,13 +6,11 @@ use Prim.Native.Nat.{ℕ, suc, _-_, _≤_, _<_}
 use native.Mathlib.Omega.{arith}
 use lib.ListN.{length, length-set}
 use borrow.Author.Needs.{needs}
-use Rattle.cqf.specs.Bounded.{tabulate}
 use Rattle.cqf.specs.Limits.{portSlots, flowSlots}
 use Rattle.cqf.specs.Overflow.{mostWidened}
 use Rattle.cqf.specs.Plan.{Plan, equalClocks, routeOf}
 use Rattle.cqf.specs.Widened.{widenedBy}
 use Rattle.cqf.specs.laws.Ranges.{top-most, extra-most}
-use Rattle.cqf.specs.laws.Tabulate.{tabulate-at}
 use Rattle.cqf.specs.laws.Valid.{Held}
 use Rattle.numbers.specs.Clock.{clockOf}
 use Rattle.tables.specs.Columns.{columns, planBy}
@@ -23,13 +21,13 @@ use Rattle.emissions.proofs.queued.cycle_bits.Statement.{statement}
 use Rattle.emissions.proofs.queued.cycle_bits.Tie as tie
 
 abbrev Inv-loop : tie.InvT-loop
-Inv-loop guard top rates blockings extras periods counts lengths jitters hops routes duration q latest c over bits₀ f₀ bits f =
+Inv-loop guard top rates blockings extras periods counts lengths jitters hops routes duration q latest c bits₀ over f₀ bits f =
     (f ≤ flowSlots)
     × (length bits ≡ portSlots)
     × Sums (columns equalClocks [] [] extras periods counts lengths jitters hops routes) over q latest c f bits
 
 abbrev μ-loop : tie.MeasureT-loop
-μ-loop guard top rates blockings extras periods counts lengths jitters hops routes duration q latest c over bits₀ f₀ bits f =
+μ-loop guard top rates blockings extras periods counts lengths jitters hops routes duration q latest c bits₀ over f₀ bits f =
     flowSlots - f
 
 -- the plan of the tables
@@ -86,10 +84,9 @@ cast-over : tie.Need-cast-over Inv-loop μ-loop
 cast-over c = omega (arith, c .widened .ensures, fits (c .before))
 
 loop-holds : tie.Need-loop-holds Inv-loop μ-loop
-unfolding tabulate
 loop-holds c =
     let s = c .before in
-    (omega arith, refl, sums-none (plan s) (c .widened .result) (s .args .q) (s .args .latest) (s .args .c) (tabulate portSlots (λ r. 0)) (tabulate-at portSlots (λ r. 0)))
+    (omega arith, s .pre .4, sums-none (plan s) (c .widened .result) (s .args .q) (s .args .latest) (s .args .c) (s .args .bits .now) (s .pre .5))
 
 cast-queued-port : tie.Need-cast-queued-port Inv-loop μ-loop
 cast-queued-port c =
@@ -116,22 +113,22 @@ flow-bits-requires c κs =
     let h = held at (then .if1 .taken) in
     (h .period-least, h .period-most, h .count-most, h .bytes-most, h .jitter-most, extra-most (plan (begin at)) (begin at .pre .0) _ (in-slots at (then .if1 .taken)), over-most at)
 
-array-read-bits : tie.Need-array-read-bits Inv-loop μ-loop
-array-read-bits c = in-slots (asked c) (c .before .before .before .before .before .before .if1 .taken)
+element-copy-out-bits : tie.Need-element-copy-out-bits Inv-loop μ-loop
+element-copy-out-bits c = in-slots (asked c) (c .before .before .before .before .before .before .if1 .taken)
 
 add-bits : tie.Need-add-bits Inv-loop μ-loop
 add-bits c =
-    let then = c .before .before .before .before .before .before in
+    let then = c .before .before .before .before .before .before .before in
     let at = then .before in
     let s = begin at in
     let a = s .args in
     let some = then .if1 .taken in
     let slot = in-slots at some in
     omega
-    (arith, turn at .before .loop .inv .2 (at .queued-port .result - 1) slot, c .flow-bits .ensures, next-most (plan s) (s .pre .0) (a .q) (a .latest) (a .c) (turn at .before .before .widened .result) (over-most at) (at .queued-port .result - 1) slot (flow at) (turn at .loop-test .taken) (port-is at some))
+    (arith, turn at .before .loop .inv .2 (at .queued-port .result - 1) slot, c .before .flow-bits .ensures, next-most (plan s) (s .pre .0) (a .q) (a .latest) (a .c) (turn at .before .before .widened .result) (over-most at) (at .queued-port .result - 1) slot (flow at) (turn at .loop-test .taken) (port-is at some))
 
-array-write-bits : tie.Need-array-write-bits Inv-loop μ-loop
-array-write-bits c = in-slots (asked c) (c .before .before .before .before .before .before .if1 .taken)
+element-write-bits : tie.Need-element-write-bits Inv-loop μ-loop
+element-write-bits c = in-slots (asked (c .before)) (c .before .before .before .before .before .before .before .if1 .taken)
 
 loop-again : tie.Need-loop-again Inv-loop μ-loop
 loop-again c =
@@ -145,8 +142,8 @@ loop-again c =
     (λ w.
     let slot = in-slots at (w .0 .taken) in (
       omega arith,
-      rw (w .7) (simp length-set (inv .1)),
-      rw (w .7) (sums-add p over (a .q) (a .latest) (a .c) (flow at) bits (at .queued-port .result - 1) (w .6 .result) (omega (arith, slot, inv .1)) slot (port-is at (w .0 .taken)) (w .6 .ensures) (inv .2)),
+      rw (w .8) (simp length-set (inv .1)),
+      rw (w .8) (sums-add p over (a .q) (a .latest) (a .c) (flow at) bits (at .queued-port .result - 1) (w .6 .result) (omega (arith, slot, inv .1)) slot (port-is at (w .0 .taken)) (w .6 .ensures) (inv .2)),
     ))
     (λ w.
     (omega arith, rw (w .1) (inv .1), rw (w .1) (sums-skip p over (a .q) (a .latest) (a .c) (flow at) bits (sym (at .queued-port .ensures) ∙ w .0 .left) (inv .2))))
@@ -185,10 +182,10 @@ cycle-bits-spec =
     element-copy-out-flow-bits-5
     flow-bits-requires
     (λ c. search needs)
-    array-read-bits
+    element-copy-out-bits
     add-bits
     (λ c. search needs)
-    array-write-bits
+    element-write-bits
     (λ c. search needs)
     (λ c. search needs)
     loop-again
