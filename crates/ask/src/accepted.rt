@@ -5,13 +5,13 @@ use crate::capacity::sendable;
 use crate::shares::frames_at;
 use crate::shares::shares_of;
 use crate::shares::sum_of;
-use console::Output;
-use console::say;
-use console::say_number;
 use planner::Planner;
 use planner::SearchAnswer;
 use planner::SlackAnswer;
 use planner::SpanAnswer;
+use streams::Output;
+use streams::say;
+use streams::say_number;
 use tables::PORTS;
 
 const MOST_SLACK: i64 = 9_223_372_036_854_775_807;

@@ -4,12 +4,12 @@ use crate::lent::Part;
 use crate::lent::part_of;
 use crate::lent::unsent;
 use crate::shares::say_frames;
-use console::Output;
-use console::say;
-use console::say_number;
 use emissions::UnsentAnswer;
 use planner::Planner;
 use std::num::wrapping_add_u64;
+use streams::Output;
+use streams::say;
+use streams::say_number;
 use tables::FLOWS;
 
 // A flow's number and contract.

@@ -6,11 +6,11 @@ use crate::shares::frames_at;
 use crate::shares::say_shares;
 use crate::shares::shares_of;
 use crate::shares::sum_of;
-use console::Output;
-use console::say;
-use console::say_number;
 use planner::Planner;
 use planner::SlackAnswer;
+use streams::Output;
+use streams::say;
+use streams::say_number;
 use tables::PORTS;
 
 fn say_port(out: Output, planner: Planner, duration: u64, port: Port) -> Output {

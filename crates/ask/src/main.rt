@@ -10,12 +10,6 @@ mod lent; // lent.rt: the questions for a bad emission, of a planner by value
 mod shares; // shares.rt: what each flow brings to a port
 
 use arguments::Parsed;
-use console::Input;
-use console::Output;
-use console::say;
-use console::say_number;
-use console::say_refused;
-use console::say_refused_plan;
 use libc::STDIN_FILENO;
 use plan_text::TextAnswer;
 use plan_text::read_text;
@@ -24,6 +18,12 @@ use planner::LoadAnswer;
 use planner::NearestAnswer;
 use planner::Neighbour;
 use planner::Planner;
+use streams::Input;
+use streams::Output;
+use streams::say;
+use streams::say_number;
+use streams::say_refused;
+use streams::say_refused_plan;
 use text_refusals::say_refusal;
 
 // One byte more than a text may have: a longer input is read no further.
@@ -49,19 +49,19 @@ fn say_nearest(out: Output, planner: Planner, duration: u64) -> Output {
 }
 
 fn say_admissible(planner: Planner, duration: u64) {
-    let out = say_number(console::standard_output(), duration);
+    let out = say_number(streams::standard_output(), duration);
     let out = say(out, b" ns is admissible\n");
     let out = accepted::say_spare(out, planner, duration);
     let out = accepted::say_run(out, planner, duration);
-    console::finish(accepted::say_margin_safe(out, planner, duration));
+    streams::finish(accepted::say_margin_safe(out, planner, duration));
 }
 
 fn say_failing(planner: Planner, duration: u64) {
-    let out = say_number(console::standard_output(), duration);
+    let out = say_number(streams::standard_output(), duration);
     let out = say(out, b" ns is not admissible\n");
     let out = failing::say_ports(out, planner, duration);
     let out = say_nearest(out, planner, duration);
-    console::finish(emission::say_emission(out, planner, duration));
+    streams::finish(emission::say_emission(out, planner, duration));
 }
 
 fn answer(planner: Planner, duration: u64) {
@@ -70,7 +70,7 @@ fn answer(planner: Planner, duration: u64) {
         CheckAnswer::Admissible => say_admissible(planner, duration),
         CheckAnswer::Failing { port: _, count: _ } => say_failing(planner, duration),
         _ => {
-            let out = say_refused(console::standard_error(), planner::check_number(answer));
+            let out = say_refused(streams::standard_error(), planner::check_number(answer));
             say(out, b"\n");
         }
     }
@@ -84,7 +84,7 @@ fn ask_bytes(bytes: &[u8], duration: u64) {
     match loaded {
         LoadAnswer::Refused { fault: _, offset } => {
             let refusal = planner::load_number(loaded);
-            say_refused_plan(console::standard_error(), true, refusal, offset);
+            say_refused_plan(streams::standard_error(), true, refusal, offset);
         }
         LoadAnswer::Held { ports: _, flows: _ } => answer(held, duration),
     }
@@ -101,7 +101,7 @@ fn ask_text(text: &[u8], duration: u64) {
             item,
             value,
         } => {
-            say_refusal(console::standard_error(), line, fault, item, value);
+            say_refusal(streams::standard_error(), line, fault, item, value);
         }
         TextAnswer::Plan { newer: _ } => answer(held, duration),
     }
@@ -125,9 +125,9 @@ fn ask(given: &[u8], duration: u64) {
 
 fn ask_input(duration: u64) {
     let mut input = [0u8; ROOM];
-    match console::read_input(STDIN_FILENO, &mut input) {
+    match streams::read_input(STDIN_FILENO, &mut input) {
         Input::Failed => {
-            say(console::standard_error(), b"cannot read the plan\n");
+            say(streams::standard_error(), b"cannot read the plan\n");
         }
         Input::Bytes(n) => ask(&input[..n], duration),
     }
@@ -140,5 +140,5 @@ fn main() {
             return;
         }
     }
-    say(console::standard_error(), b"usage: ask DURATION\n");
+    say(streams::standard_error(), b"usage: ask DURATION\n");
 }

@@ -1,11 +1,11 @@
 // A plan's file, read into a slot.
-use console::Input;
 use console::ROOM;
-use console::read_input;
 use planner::Batch;
 use planner::PlaceAnswer;
+use streams::Input;
+use streams::read_input;
 ghost use lib.ListN.{length};
-ghost use Rattle.console.specs.{Within};
+ghost use Rattle.streams.specs.{Within};
 
 // The batch as it is left, and what became of the file: whether it could be read, and the refusal of its plan with the offset.
 pub(crate) struct Placed {

@@ -3,17 +3,17 @@
 mod files; // files.rt: a plan's file, read into a slot
 mod turns; // turns.rt: turns until no plan is pending
 
-use console::Output;
-use console::finish;
-use console::say;
-use console::say_number;
-use console::say_refused;
-use console::say_refused_plan;
-use console::standard_error;
-use console::standard_output;
 use files::place_file;
 use planner::Batch;
 use planner::CollectAnswer;
+use streams::Output;
+use streams::finish;
+use streams::say;
+use streams::say_number;
+use streams::say_refused;
+use streams::say_refused_plan;
+use streams::standard_error;
+use streams::standard_output;
 use turns::serve_all;
 ghost use Prim.Native.Nat.{_≤_};
 

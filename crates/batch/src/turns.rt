@@ -1,11 +1,11 @@
 // Turns until no plan is pending.
 use batching::PENDING;
 use batching::SLOTS;
-use console::say;
-use console::say_number;
-use console::standard_error;
 use planner::Batch;
 use planner::ServeAnswer;
+use streams::say;
+use streams::say_number;
+use streams::standard_error;
 
 // More turns than eight plans take: no search has more steps than the highest top, 100,000,000.
 const MOST: u64 = 50_000_000;

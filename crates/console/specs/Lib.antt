@@ -1,4 +1,4 @@
--- What reading the input gives, and what is loaded of it.
+-- What is loaded of the input.
 use mathlib.Core.Path.{_≡_}
 use mathlib.Core.Bool.{Bool, true, false}
 use mathlib.Core.List.{List, []}
@@ -8,14 +8,10 @@ use Rattle.cqf.specs.Plan.{noPlan}
 use Rattle.plan_reading.specs.Reading.{loose, maxBytes}
 use Rattle.loading.specs.Answer.{Loads}
 use Rattle.converting.specs.declared.ConvertAnswer.{ConvertAnswer}
-use Rattle.console.specs.declared.Input.{Input}
+use Rattle.streams.specs.declared.input.Input.{Input}
+use Rattle.streams.specs.{Within}
 use Rattle.console.specs.declared.Given.{Given}
 pub mod laws
-
--- as many bytes as the buffer has room for, or fewer
-abbrev pub Within : ℕ → Input → Type 0
-Within room (Input.Bytes n) = n ≤ room
-Within room Input.Failed = Unit {0}
 
 -- what a converter wrote lies within so many bytes
 abbrev pub Inside : ℕ → ConvertAnswer → Type 0

@@ -1,12 +1,12 @@
 // Reads a plan from standard input and prints its counts, its header's numbers, and the least and the margin-safe duration.
-use console::Output;
-use console::say;
-use console::say_number;
-use console::say_refused;
-use console::say_refused_plan;
 use planner::LoadAnswer;
 use planner::Planner;
 use planner::SearchAnswer;
+use streams::Output;
+use streams::say;
+use streams::say_number;
+use streams::say_refused;
+use streams::say_refused_plan;
 
 fn say_held(out: Output, planner: Planner, ports: u16, flows: u16) -> Output {
     let out = say(out, b"ports ");
@@ -58,5 +58,5 @@ fn say_plan(out: Output) -> Output {
 }
 
 fn main() {
-    console::finish(say_plan(console::standard_output()));
+    streams::finish(say_plan(streams::standard_output()));
 }

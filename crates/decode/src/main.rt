@@ -1,8 +1,8 @@
 // Reads a plan of either form from standard input and writes it as text to standard output.
-use console::say;
-use console::say_refused_plan;
 use planner::LoadAnswer;
 use planner::Planner;
+use streams::say;
+use streams::say_refused_plan;
 use text_writing::TextAnswer;
 ghost use mathlib.Core.Path.{_≡_};
 ghost use mathlib.Core.Bool.{true};
@@ -32,7 +32,7 @@ fn write_held(planner: Planner)
 {
     let mut buffer = [0u8; text_writing::MAX_TEXT];
     let size = written(planner, &mut buffer);
-    console::finish(say(console::standard_output(), &buffer[..size]));
+    streams::finish(say(streams::standard_output(), &buffer[..size]));
 }
 
 fn main() {
@@ -44,7 +44,7 @@ fn main() {
     match answer {
         LoadAnswer::Refused { fault: _, offset } => {
             say_refused_plan(
-                console::standard_error(),
+                streams::standard_error(),
                 readable,
                 planner::load_number(answer),
                 offset,

@@ -1,8 +1,8 @@
 // Reads a plan of the newer form from standard input and writes it in the older one to standard output.
-use console::Input;
-use console::say;
 use console::say_converted;
 use libc::STDIN_FILENO;
+use streams::Input;
+use streams::say;
 
 fn convert(plan: &[u8]) {
     let mut buffer = [0u8; loading::MAX_BYTES];
@@ -12,9 +12,9 @@ fn convert(plan: &[u8]) {
 
 fn main() {
     let mut input = [0u8; console::ROOM];
-    match console::read_input(STDIN_FILENO, &mut input) {
+    match streams::read_input(STDIN_FILENO, &mut input) {
         Input::Failed => {
-            say(console::standard_error(), b"cannot read the plan\n");
+            say(streams::standard_error(), b"cannot read the plan\n");
         }
         Input::Bytes(n) => convert(&input[..n]),
     }

@@ -1,9 +1,9 @@
 // What a drawing marks, in words: the least, the margin-safe and the given duration.
-use console::Output;
-use console::say;
-use console::say_number;
 use planner::Planner;
 use planner::SearchAnswer;
+use streams::Output;
+use streams::say;
+use streams::say_number;
 
 // The duration given as an argument, with what it is.
 pub(crate) enum Given {

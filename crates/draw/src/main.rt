@@ -9,14 +9,14 @@ mod strip; // strip.rt: the columns by what they stand for
 mod text; // text.rt: the drawing in 80 columns
 
 use arguments::Parsed;
-use console::say;
-use console::say_refused;
-use console::say_refused_plan;
 use label::Given;
 use label::marks_of;
 use planner::CheckAnswer;
 use planner::LoadAnswer;
 use planner::Planner;
+use streams::say;
+use streams::say_refused;
+use streams::say_refused_plan;
 ghost use Prim.Native.Nat.{_≤_};
 
 // What the arguments ask for.
@@ -29,11 +29,11 @@ struct Wanted {
 fn draw(planner: Planner, text: bool, given: Given) {
     let marks = marks_of(planner, given);
     let out = if text {
-        text::say_text(console::standard_output(), planner, marks)
+        text::say_text(streams::standard_output(), planner, marks)
     } else {
-        picture::say_picture(console::standard_output(), planner, marks)
+        picture::say_picture(streams::standard_output(), planner, marks)
     };
-    console::finish(out);
+    streams::finish(out);
 }
 
 fn draw_given(planner: Planner, text: bool, duration: u64) {
@@ -44,7 +44,7 @@ fn draw_given(planner: Planner, text: bool, duration: u64) {
             draw(planner, text, Given::Refused(duration));
         }
         _ => {
-            let out = say_refused(console::standard_error(), planner::check_number(answer));
+            let out = say_refused(streams::standard_error(), planner::check_number(answer));
             say(out, b"\n");
         }
     }
@@ -59,7 +59,7 @@ fn draw_plan(wanted: Wanted) {
     match answer {
         LoadAnswer::Refused { fault: _, offset } => {
             say_refused_plan(
-                console::standard_error(),
+                streams::standard_error(),
                 readable,
                 planner::load_number(answer),
                 offset,
@@ -105,7 +105,7 @@ fn main() {
         }
     }
     say(
-        console::standard_error(),
+        streams::standard_error(),
         b"usage: draw [text] [DURATION]\n",
     );
 }

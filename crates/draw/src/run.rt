@@ -2,9 +2,9 @@
 // box, a hatched one, and one that stands out above and below; or three characters.
 use crate::scale::Scale;
 use crate::scale::left;
-use console::Output;
-use console::say;
-use console::say_number;
+use streams::Output;
+use streams::say;
+use streams::say_number;
 
 pub(crate) enum Kind {
     Admissible,

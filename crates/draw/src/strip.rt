@@ -5,9 +5,9 @@ use crate::run::code;
 use crate::run::say_run;
 use crate::scale::Scale;
 use crate::scale::upto;
-use console::Output;
 use planner::Planner;
 use planner::SpanAnswer;
+use streams::Output;
 
 // The span asked for last; one behind all durations where there was none.
 struct Seen {

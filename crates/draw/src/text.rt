@@ -15,10 +15,10 @@ use crate::scale::Scale;
 use crate::scale::place;
 use crate::scale::scale_of;
 use crate::strip::say_strip;
-use console::Output;
-use console::say;
-use console::say_number;
 use planner::Planner;
+use streams::Output;
+use streams::say;
+use streams::say_number;
 ghost use Prim.Native.Nat.{_≤_};
 
 const WIDTH: u32 = 80;

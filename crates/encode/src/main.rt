@@ -1,7 +1,7 @@
 // Reads a plan's text from standard input and writes the plan's strict bytes to standard output.
-use console::Input;
-use console::say;
 use libc::STDIN_FILENO;
+use streams::Input;
+use streams::say;
 use text_coding::EncodeAnswer;
 use text_coding::encode_text;
 use text_refusals::say_long;
@@ -17,10 +17,10 @@ fn say_encoded(answer: EncodeAnswer, buffer: &[u8])
 {
     match answer {
         EncodeAnswer::Written(size) => {
-            console::finish(say(console::standard_output(), &buffer[..size]))
+            streams::finish(say(streams::standard_output(), &buffer[..size]))
         }
         EncodeAnswer::Short(size) => {
-            say_long(console::standard_error(), size);
+            say_long(streams::standard_error(), size);
         }
         EncodeAnswer::Refused {
             line,
@@ -28,7 +28,7 @@ fn say_encoded(answer: EncodeAnswer, buffer: &[u8])
             item,
             value,
         } => {
-            say_refusal(console::standard_error(), line, fault, item, value);
+            say_refusal(streams::standard_error(), line, fault, item, value);
         }
     }
 }
@@ -42,9 +42,9 @@ fn encode(text: &[u8]) {
 
 fn main() {
     let mut input = [0u8; ROOM];
-    match console::read_input(STDIN_FILENO, &mut input) {
+    match streams::read_input(STDIN_FILENO, &mut input) {
         Input::Failed => {
-            say(console::standard_error(), b"cannot read the plan\n");
+            say(streams::standard_error(), b"cannot read the plan\n");
         }
         Input::Bytes(n) => encode(&input[..n]),
     }

@@ -1,12 +1,12 @@
 // The fields of a written list, read back from its bytes: a line for each, with the gate states as two hexadecimal digits and the
 // interval in ns.
-use console::Output;
-use console::say;
-use console::say_hex;
-use console::say_number;
 use gate_writing::FIELD_SIZE;
 use gate_writing::INTERVAL_AT;
 use gate_writing::STATES_AT;
+use streams::Output;
+use streams::say;
+use streams::say_hex;
+use streams::say_number;
 ghost use mathlib.Core.Path.{_≡_};
 ghost use Prim.Native.Nat.{_≤_};
 ghost use lib.ListN.{length};
@@ -42,7 +42,7 @@ fn say_entry(out: Output, states: u8, interval: u32) -> Output {
 }
 
 pub(crate) fn say_list(list: &[u8]) -> Output {
-    let mut out = console::standard_output();
+    let mut out = streams::standard_output();
     let mut at: usize = 0;
     while FIELD_SIZE <= list.len() - at {
         let field = &list[at..];

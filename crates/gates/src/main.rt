@@ -4,22 +4,22 @@ mod entry; // entry.rt: the fields of a written list
 mod shortest; // shortest.rt: whether taprio may refuse it
 
 use arguments::Parsed;
-use console::say;
-use console::say_number;
-use console::say_refused;
-use console::say_refused_plan;
 use entry::say_list;
 use gate_writing::MOST_BYTES;
 use planner::GatesAnswer;
 use planner::LoadAnswer;
 use planner::Planner;
 use shortest::warn;
+use streams::say;
+use streams::say_number;
+use streams::say_refused;
+use streams::say_refused_plan;
 
 // The program's name, and its three arguments.
 const WORDS: usize = 4;
 
 fn report_answer(answer: GatesAnswer) {
-    let out = say_refused(console::standard_error(), planner::gates_number(answer));
+    let out = say_refused(streams::standard_error(), planner::gates_number(answer));
     if let GatesAnswer::Failing { port, count } = answer {
         let out = say(out, b" port ");
         let out = say_number(out, port as u64);
@@ -37,7 +37,7 @@ fn say_gates(planner: Planner, duration: u64, even: u64, odd: u64) {
     match answer {
         GatesAnswer::Written(n) => {
             warn(planner, duration);
-            console::finish(say_list(&list[..n]));
+            streams::finish(say_list(&list[..n]));
         }
         _ => report_answer(answer),
     }
@@ -52,7 +52,7 @@ fn plan_gates(duration: u64, even: u64, odd: u64) {
     match answer {
         LoadAnswer::Refused { fault: _, offset } => {
             say_refused_plan(
-                console::standard_error(),
+                streams::standard_error(),
                 readable,
                 planner::load_number(answer),
                 offset,
@@ -64,7 +64,7 @@ fn plan_gates(duration: u64, even: u64, odd: u64) {
 
 fn report_usage() {
     say(
-        console::standard_error(),
+        streams::standard_error(),
         b"usage: gates DURATION EVEN ODD\n",
     );
 }

@@ -1,8 +1,8 @@
 // Whether Linux's taprio may refuse a list: it takes no entry that is shorter than 60 bytes at the link's speed.
-use console::say;
-use console::say_number;
 use numbers::port::window;
 use planner::Planner;
+use streams::say;
+use streams::say_number;
 use tables::PORTS;
 use tables::columns;
 
@@ -48,7 +48,7 @@ pub(crate) fn warn(planner: Planner, duration: u64) {
     let rate = slowest(&planner.rates);
     let interval = lower(planner.guard as u64, window(planner.guard, duration));
     if too_short(interval, rate) {
-        let out = say(console::standard_error(), b"warning: an interval of ");
+        let out = say(streams::standard_error(), b"warning: an interval of ");
         let out = say_number(out, interval);
         let out = say(out, b" ns is shorter than 60 bytes at ");
         let out = say_number(out, rate);

@@ -1,9 +1,9 @@
 // Reads a plan of any spelling from standard input and writes its strict bytes, those as which it is saved in its form, to standard output.
-use console::say;
-use console::say_refused_plan;
 use planner::LoadAnswer;
 use planner::Planner;
 use planner::SaveAnswer;
+use streams::say;
+use streams::say_refused_plan;
 ghost use Prim.Native.Nat.{_≤_};
 ghost use lib.ListN.{length};
 ghost use Rattle.cqf.specs.Form.{formFrom};
@@ -29,7 +29,7 @@ fn write_saved(planner: Planner)
 {
     let mut buffer = [0u8; loading::MAX_BYTES];
     let size = saved(planner, &mut buffer);
-    console::finish(say(console::standard_output(), &buffer[..size]));
+    streams::finish(say(streams::standard_output(), &buffer[..size]));
 }
 
 fn main() {
@@ -41,7 +41,7 @@ fn main() {
     match answer {
         LoadAnswer::Refused { fault: _, offset } => {
             say_refused_plan(
-                console::standard_error(),
+                streams::standard_error(),
                 readable,
                 planner::load_number(answer),
                 offset,

@@ -1,13 +1,13 @@
 // Reads a plan from standard input and looks for its least duration in portions of steps; prints after each portion the duration
 // reached, and at the end the least duration, or 22 with the ports that fail at top, and the steps used.
-use console::Output;
-use console::say;
-use console::say_number;
-use console::say_refused;
-use console::say_refused_plan;
 use planner::FixedPointAnswer;
 use planner::LoadAnswer;
 use planner::Planner;
+use streams::Output;
+use streams::say;
+use streams::say_number;
+use streams::say_refused;
+use streams::say_refused_plan;
 ghost use mathlib.Core.Path.{_≡_};
 ghost use mathlib.Core.Bool.{true};
 ghost use Prim.Native.Nat.{_+_};
@@ -82,7 +82,7 @@ fn say_reached(out: Output, duration: u64) -> Output {
 fn say_portions(planner: Planner) -> Output
     requires { ⌜ validPlan (planOf planner) ≡ true ⌝ }
 {
-    let mut out = console::standard_output();
+    let mut out = streams::standard_output();
     let mut at: u64 = 1;
     let mut used: u64 = 0;
     loop {
@@ -104,12 +104,12 @@ fn main() {
     let answer = outcome.answer;
     let out = match answer {
         LoadAnswer::Refused { fault: _, offset } => say_refused_plan(
-            console::standard_output(),
+            streams::standard_output(),
             readable,
             planner::load_number(answer),
             offset,
         ),
         LoadAnswer::Held { ports: _, flows: _ } => say_portions(held),
     };
-    console::finish(out);
+    streams::finish(out);
 }

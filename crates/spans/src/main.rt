@@ -1,14 +1,14 @@
 // Reads a plan from standard input and prints its spans, one a line and rising: the runs of admissible durations that can grow at
 // neither end. With a duration as argument it prints the first that ends there or later. What is no span stands on standard error.
 use arguments::Parsed;
-use console::Output;
-use console::say;
-use console::say_number;
-use console::say_refused;
-use console::say_refused_plan;
 use planner::LoadAnswer;
 use planner::Planner;
 use planner::SpanAnswer;
+use streams::Output;
+use streams::say;
+use streams::say_number;
+use streams::say_refused;
+use streams::say_refused_plan;
 ghost use mathlib.Core.Path.{_≡_};
 ghost use mathlib.Core.Bool.{true};
 ghost use Rattle.cqf.specs.Plan.{validPlan};
@@ -32,7 +32,7 @@ fn say_span(out: Output, first: u64, last: u64) -> Output {
 fn say_spans(planner: Planner) -> Output
     requires { ⌜ validPlan (planOf planner) ≡ true ⌝ }
 {
-    let mut out = console::standard_output();
+    let mut out = streams::standard_output();
     let top = planner.top as u64;
     let mut at: u64 = 1;
     while at <= top {
@@ -49,11 +49,11 @@ fn say_one(planner: Planner, duration: u64) {
     let answer = planner::span(planner, duration);
     match answer {
         SpanAnswer::Span(span) => {
-            let out = say_span(console::standard_output(), span.first, span.last);
-            console::finish(out);
+            let out = say_span(streams::standard_output(), span.first, span.last);
+            streams::finish(out);
         }
         _ => {
-            let out = say_refused(console::standard_error(), planner::span_number(answer));
+            let out = say_refused(streams::standard_error(), planner::span_number(answer));
             say(out, b"\n");
         }
     }
@@ -68,7 +68,7 @@ fn plan_spans(wanted: Wanted) {
     match answer {
         LoadAnswer::Refused { fault: _, offset } => {
             say_refused_plan(
-                console::standard_error(),
+                streams::standard_error(),
                 readable,
                 planner::load_number(answer),
                 offset,
@@ -78,7 +78,7 @@ fn plan_spans(wanted: Wanted) {
             if wanted.one {
                 say_one(held, wanted.duration);
             } else {
-                console::finish(say_spans(held));
+                streams::finish(say_spans(held));
             }
         }
     }
@@ -102,5 +102,5 @@ fn main() {
             return;
         }
     }
-    say(console::standard_error(), b"usage: spans [DURATION]\n");
+    say(streams::standard_error(), b"usage: spans [DURATION]\n");
 }

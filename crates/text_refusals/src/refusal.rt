@@ -1,12 +1,12 @@
 // The words in which a text is refused.
 use crate::name::say_name;
-use console::Output;
-use console::say;
-use console::say_number;
 use plan_text::grammar::Fault;
 use plan_text::grammar::Item;
 use plan_text::ranges::high_of;
 use plan_text::ranges::low_of;
+use streams::Output;
+use streams::say;
+use streams::say_number;
 
 // The largest number that is told apart from larger ones.
 const LARGEST: u64 = 18_446_744_073_709_551_614;

@@ -2,7 +2,7 @@
 use mathlib.Core.Path.{sym}
 use lib.Seq.{length-take-le}
 use borrow.Author.Needs.{needs}
-use Rattle.console.specs.declared.Input.{Input}
+use Rattle.streams.specs.declared.input.Input.{Input}
 use Rattle.console.proofs.load_input.Statement.{statement}
 use Rattle.console.proofs.load_input.Tie as tie
 

@@ -5,10 +5,10 @@ use Rattle.ask.proofs.emission.say_flows.Statement.{statement}
 use Rattle.ask.proofs.emission.say_flows.Tie as tie
 
 abbrev Inv-loop : tie.InvT-loop
-Inv-loop duration port planner out₀ f₀ out f = Unit {0}
+Inv-loop given duration port planner out₀ f₀ out f = Unit {0}
 
 abbrev μ-loop : tie.MeasureT-loop
-μ-loop duration port planner out₀ f₀ out f = 256 - f
+μ-loop given duration port planner out₀ f₀ out f = 256 - f
 
 pub say-flows-spec : {M : Type 1} → statement M
 say-flows-spec =

@@ -5,10 +5,10 @@ use Rattle.ask.proofs.failing.say_ports.Statement.{statement}
 use Rattle.ask.proofs.failing.say_ports.Tie as tie
 
 abbrev Inv-loop : tie.InvT-loop
-Inv-loop duration planner out₀ q₀ out q = Unit {0}
+Inv-loop given duration planner out₀ q₀ out q = Unit {0}
 
 abbrev μ-loop : tie.MeasureT-loop
-μ-loop duration planner out₀ q₀ out q = 64 - q
+μ-loop given duration planner out₀ q₀ out q = 64 - q
 
 pub say-ports-spec : {M : Type 1} → statement M
 say-ports-spec =

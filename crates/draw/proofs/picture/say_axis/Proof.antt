@@ -5,10 +5,10 @@ use Rattle.draw.proofs.picture.say_axis.Statement.{statement}
 use Rattle.draw.proofs.picture.say_axis.Tie as tie
 
 abbrev Inv-loop : tie.InvT-loop
-Inv-loop scale out₀ step unit tick₀ out tick = tick ≤ scale .top
+Inv-loop given scale out₀ step unit tick₀ out tick = tick ≤ scale .top
 
 abbrev μ-loop : tie.MeasureT-loop
-μ-loop scale out₀ step unit tick₀ out tick = scale .top - tick
+μ-loop given scale out₀ step unit tick₀ out tick = scale .top - tick
 
 pub say-axis-spec : {M : Type 1} → statement M
 say-axis-spec =

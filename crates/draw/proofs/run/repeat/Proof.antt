@@ -5,10 +5,10 @@ use Rattle.draw.proofs.run.repeat.Statement.{statement}
 use Rattle.draw.proofs.run.repeat.Tie as tie
 
 abbrev Inv-loop : tie.InvT-loop
-Inv-loop character from to out₀ at₀ out at = Unit {0}
+Inv-loop given character from to out₀ at₀ out at = Unit {0}
 
 abbrev μ-loop : tie.MeasureT-loop
-μ-loop character from to out₀ at₀ out at = to - at
+μ-loop given character from to out₀ at₀ out at = to - at
 
 pub repeat-spec : {M : Type 1} → statement M
 repeat-spec =

@@ -5,10 +5,10 @@ use Rattle.draw.proofs.strip.say_strip.Statement.{statement}
 use Rattle.draw.proofs.strip.say_strip.Tie as tie
 
 abbrev Inv-loop : tie.InvT-loop
-Inv-loop text planner scale out₀ seen₀ kind₀ from₀ column₀ out seen kind from column = column ≤ scale .columns
+Inv-loop given text planner scale out₀ seen₀ kind₀ from₀ column₀ out seen kind from column = column ≤ scale .columns
 
 abbrev μ-loop : tie.MeasureT-loop
-μ-loop text planner scale out₀ seen₀ kind₀ from₀ column₀ out seen kind from column = scale .columns - column
+μ-loop given text planner scale out₀ seen₀ kind₀ from₀ column₀ out seen kind from column = scale .columns - column
 
 pub say-strip-spec : {M : Type 1} → statement M
 say-strip-spec =

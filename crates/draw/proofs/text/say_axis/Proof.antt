@@ -5,10 +5,10 @@ use Rattle.draw.proofs.text.say_axis.Statement.{statement}
 use Rattle.draw.proofs.text.say_axis.Tie as tie
 
 abbrev Inv-loop : tie.InvT-loop
-Inv-loop labels scale step unit line₀ tick₀ t9 line tick = tick ≤ scale .top
+Inv-loop given labels scale step unit line₀ tick₀ t9 line tick = tick ≤ scale .top
 
 abbrev μ-loop : tie.MeasureT-loop
-μ-loop labels scale step unit line₀ tick₀ t9 line tick = scale .top - tick
+μ-loop given labels scale step unit line₀ tick₀ t9 line tick = scale .top - tick
 
 pub say-axis-spec : {M : Type 1} → statement M
 say-axis-spec =

@@ -1,11 +1,11 @@
--- `console::read_input` meets its contract: the bytes read so far are within the buffer, whose length no read changes, and each
+-- `streams::input::read_input` meets its contract: the bytes read so far are within the buffer, whose length no read changes, and each
 -- turn but the last reads some.
 use Prim.Native.Nat.{_≤_, _-_}
 use mathlib.Core.Path.{_≡_}
 use borrow.Author.Needs.{needs}
 use lib.ListN.{length}
-use Rattle.console.proofs.read_input.Statement.{statement}
-use Rattle.console.proofs.read_input.Tie as tie
+use Rattle.streams.proofs.input.read_input.Statement.{statement}
+use Rattle.streams.proofs.input.read_input.Tie as tie
 
 abbrev Inv-loop : tie.InvT-loop
 Inv-loop from buffer₀ at₀ buffer at = (at ≤ length buffer) × (length buffer ≡ length buffer₀)
