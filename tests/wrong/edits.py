@@ -14,6 +14,8 @@ class Edit:
     def __init__(self, path, crate):
         self.path, self.crate, self.label = path, crate, path.stem
         self.name = f"{crate}/{self.label}"
+        named = [line[len("by: ") :] for line in path.read_text().split("\n") if line.startswith("by: ")]
+        self.by = named[0] if named else None  # the file of laws or of a proof whose fact refuses it
 
     def pairs(self):
         """Each file, old text and new one. A line `file: ` holds for each `old: ` and `new:` after it."""

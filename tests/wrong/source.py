@@ -43,6 +43,23 @@ def functions_of(file, text):
     return found
 
 
+USED = re.compile(r"^(?:pub )?use Rattle·\w+·(specs|proofs)\.\1((?:\.[^\s.{]+)*)", re.M)
+
+
+def used_by(folder, file):
+    """The files of a crate that a file of its specs or proofs names, or that one of those names; and the file itself."""
+    found, waiting = set(), [file]
+    while waiting:
+        file = waiting.pop()
+        if file in found or not (folder / file).is_file():
+            continue
+        found.add(file)
+        for part, path in USED.findall((folder / file).read_text()):
+            steps = path.split(".")[1:]
+            waiting += [f"{part}/{'/'.join(steps) or 'Lib'}.antt", f"{part}/{'/'.join(steps[:-1])}/Proof.antt"]
+    return found
+
+
 def names(name, text):
     return re.search(rf"\b{name}\b", text) is not None
 
@@ -109,6 +126,34 @@ class Source:
                 return set()
             found |= named
         return found
+
+    def changed(self, edit):
+        """The functions whose bodies the edit changes."""
+        found, texts = set(), dict(self.texts)
+        for file, old, new in edit.pairs():
+            text = texts.get(file, "")
+            at = text.find(old)
+            inside = {f.name for f in functions_of(file, text) if f.start <= at and at + len(old) <= f.end}
+            found |= {f for f in self.functions if f.file == file and f.name in inside}
+            texts[file] = text.replace(old, new)
+        return found
+
+    def uncited(self, edit):
+        """The files of laws and proofs that the file which refuses the edit does not rest on. For a file of the source, where the
+        edit makes a function of its own, they are the proofs of those that call it."""
+        if edit.by.startswith("src/"):
+            changed = self.changed(edit)
+            return [f"{f.proof}Proof.antt" for f in changed | self.callers(changed) if self.by_hand(f)]
+        kept, waiting = set(), {f for f in self.functions if edit.by.startswith(f.proof)}
+        kept |= used_by(self.folder, edit.by)
+        while waiting:
+            f = waiting.pop()
+            proof = f"{f.proof}Proof.antt"
+            kept |= used_by(self.folder, proof)
+            waiting |= {g for g in self.calls[f] if f"{g.proof}Proof.antt" not in kept and self.by_hand(g)}
+        found = [*self.folder.glob("specs/*/**/*.antt"), *self.folder.glob("proofs/**/*.antt")]
+        files = [str(path.relative_to(self.folder)) for path in found if not re.search(r"^(pub )?mod ", path.read_text(), re.M)]
+        return [file for file in files if file not in kept]
 
     def together(self, its):
         """The edits in groups. Those of a group rest on different functions, each of which is proved by hand or calls none of the

@@ -15,6 +15,17 @@ def memory():
     return shared if os.access(shared, os.W_OK) and shutil.disk_usage(shared).free > 2 << 30 else None
 
 
+def files(folder):
+    """The files of a folder, each with its size and time."""
+    found = {}
+    for top, _, names in os.walk(folder):
+        for name in names:
+            path = os.path.join(top, name)
+            state = os.stat(path)
+            found[os.path.relpath(path, folder)] = (state.st_size, state.st_mtime_ns)
+    return found
+
+
 class Tree:
     def __init__(self, root, top, room):
         self.root, self.top, self.room, self.child = root, top, room, None
@@ -32,6 +43,23 @@ class Tree:
         if (built / "toolchain/checked").is_dir():
             words = dict(line.split(" ", 1) for line in (built / "format").read_text().split("\n") if " " in line)
             shutil.copytree(built / "toolchain/checked", folder / words["rattle-build"].replace("/", "_"))
+
+    def keep(self, crate):
+        """Keeps the crate's incremental folder as it is now."""
+        self.kept = self.top / "target/kept"
+        shutil.rmtree(self.kept, ignore_errors=True)
+        shutil.copytree(self.top / "target/inc" / crate, self.kept)
+
+    def restore(self, crate):
+        """Makes the crate's incremental folder what was kept of it: a check writes over what it checks again."""
+        folder = self.top / "target/inc" / crate
+        before, now = files(self.kept), files(folder)
+        for name in now.keys() - before.keys():
+            os.remove(folder / name)
+        for name, stamp in before.items():
+            if now.get(name) != stamp:
+                (folder / name).parent.mkdir(parents=True, exist_ok=True)
+                shutil.copy2(self.kept / name, folder / name)
 
     def check(self, crate, log):
         """What the prover says of the crate over its incremental folder: its status and words, and the processor time."""
@@ -62,3 +90,4 @@ class Tree:
         finally:
             for path, text in before.items():
                 path.write_text(text)
+            self.restore(group[0].crate)
