@@ -1,6 +1,7 @@
 // The words of lines: the kinds of lines, their numbers, and why a text is refused.
 use words::word::same;
 ghost use mathlib.Core.Path.{_≡_};
+ghost use mathlib.Core.List.{[]};
 ghost use Rattle.words.specs.Words.{sameBytes};
 ghost use Rattle.plan_text.specs.Grammar.{wordOf, isOwn, absentOf};
 ghost use Rattle.plan_text.specs.Line.{coded};
@@ -82,18 +83,25 @@ pub fn is_own(item: Item) -> bool
     }
 }
 
+// Whether a word has no bytes.
+fn is_nothing(word: &[u8]) -> bool
+    ensures { λ r. ⌜ r ≡ sameBytes (now (word .entry)) [] ⌝ }
+{
+    same(word, b"")
+}
+
 // Whether this is the word before a number.
 pub fn is_word_of(item: Item, word: &[u8]) -> bool
     ensures { λ r. ⌜ r ≡ sameBytes (now (word .entry)) (wordOf item) ⌝ }
 {
     match item {
-        Item::Guard => same(word, b""),
-        Item::Top => same(word, b""),
-        Item::Port => same(word, b""),
+        Item::Guard => is_nothing(word),
+        Item::Top => is_nothing(word),
+        Item::Port => is_nothing(word),
         Item::Rate => same(word, b"rate"),
         Item::Blocker => same(word, b"blocker"),
         Item::Extra => same(word, b"extra"),
-        Item::Flow => same(word, b""),
+        Item::Flow => is_nothing(word),
         Item::Period => same(word, b"period"),
         Item::Count => same(word, b"count"),
         Item::Length => same(word, b"length"),
@@ -101,11 +109,11 @@ pub fn is_word_of(item: Item, word: &[u8]) -> bool
         Item::Drift => same(word, b"drift"),
         Item::Timing => same(word, b"timing"),
         Item::Sync => same(word, b"sync"),
-        Item::Format => same(word, b""),
+        Item::Format => is_nothing(word),
         Item::Route => same(word, b"route"),
-        Item::Hops => same(word, b""),
-        Item::First => same(word, b""),
-        Item::End => same(word, b""),
+        Item::Hops => is_nothing(word),
+        Item::First => is_nothing(word),
+        Item::End => is_nothing(word),
     }
 }
 
