@@ -53,10 +53,10 @@ use Rattle.questions.proofs.spans as spans′
 use Rattle.questions.proofs.spans.Symbol as spans-def
 use Rattle.questions.proofs.spans.Symbol.{name as #spans}
 use Rattle.questions.proofs.spans.Met as spans-thm
-use Rattle.planner.proofs.usable.spans.Key.{name as #call}
-use Rattle.planner.proofs.usable.spans as call
-use Rattle.planner.proofs.usable.spans.Statement as stated
-use Rattle.planner.proofs.usable.spans.Code as code
+use Rattle.value_calls.proofs.usable.spans.Key.{name as #call}
+use Rattle.value_calls.proofs.usable.spans as call
+use Rattle.value_calls.proofs.usable.spans.Statement as stated
+use Rattle.value_calls.proofs.usable.spans.Code as code
 
 abbrev stayed : Stays (call.ended .signature .params) (call.ended .kept)
 stayed = (stay-none (λ _. B.the-row) yes, (gave-slice (0 ∷ []) tt (plain (λ _. S.the-row)), tt))
