@@ -38,11 +38,14 @@ class Tree:
 
     def fill(self, crate):
         """Puts what the crate's build has checked into its incremental folder. The prover takes of it what is up to date."""
-        folder, built = self.top / "target/inc" / crate, self.root / "target/rlib" / f"{crate}.rlib"
+        folder, rlib = self.top / "target/inc" / crate, self.root / "target/rlib"
         shutil.rmtree(folder, ignore_errors=True)
-        if (built / "toolchain/checked").is_dir():
-            words = dict(line.split(" ", 1) for line in (built / "format").read_text().split("\n") if " " in line)
-            shutil.copytree(built / "toolchain/checked", folder / words["rattle-build"].replace("/", "_"))
+        for built in (rlib / f"{crate}.rlib/toolchain/checked", self.root / "target/checked" / crate / "modules"):
+            formats = list(rlib.glob("*/format"))
+            if built.is_dir() and formats:
+                words = dict(line.split(" ", 1) for line in formats[0].read_text().split("\n") if " " in line)
+                shutil.copytree(built, folder / words["rattle-build"].replace("/", "_"))
+                return
 
     def keep(self, crate):
         """Keeps the crate's incremental folder as it is now."""

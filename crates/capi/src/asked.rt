@@ -2,9 +2,9 @@
 use crate::AnswerNumbers;
 use crate::FixedPointAnswerNumbers;
 use crate::SlackAnswerNumbers;
-use crate::answer_numbers::check_in_c;
-use crate::answer_numbers::fixed_point_in_c;
-use crate::answer_numbers::slack_in_c;
+use crate::in_c::check_in_c;
+use crate::in_c::fixed_point_in_c;
+use crate::in_c::slack_in_c;
 use numbers::clock::Clock;
 use tables::columns;
 ghost use mathlib.Core.Path.{_≡_};
@@ -58,7 +58,7 @@ pub extern "C" fn cp_check_columns<'a>(
         timing_jitter: *timing_jitter,
         sync_error: *sync_error,
     };
-    check_in_c(planner::check_columns(
+    check_in_c(column_calls::check_columns(
         *form,
         *guard,
         *top,
@@ -111,7 +111,7 @@ pub extern "C" fn cp_slack_columns<'a>(
         timing_jitter: *timing_jitter,
         sync_error: *sync_error,
     };
-    slack_in_c(planner::slack_columns(
+    slack_in_c(column_calls::slack_columns(
         *form,
         *guard,
         *top,
@@ -175,7 +175,7 @@ pub extern "C" fn cp_fixed_point_columns<'a>(
         timing_jitter: *timing_jitter,
         sync_error: *sync_error,
     };
-    fixed_point_in_c(planner::fixed_point_columns(
+    fixed_point_in_c(column_calls::fixed_point_columns(
         *form,
         *guard,
         *top,

@@ -1,11 +1,11 @@
 // The planner for C and Rust: the calls with their answers as numbers (include/cycle_planner.h).
-use crate::answer_numbers::field_in_c;
-use crate::answer_numbers::form_by_tag;
 use crate::batch_numbers::collect_outcome_in_c;
 use crate::batch_numbers::place_outcome_in_c;
 use crate::batch_numbers::serve_outcome_in_c;
+use crate::in_c::field_in_c;
+use crate::in_c::form_by_tag;
 use crate::written::convert_in_c;
-use planner::Batch;
+use batching::Batch;
 ghost use mathlib.Core.Path.{_≡_};
 ghost use Rattle.plan.specs.Layout.{formBy};
 ghost use Rattle.plan.specs.Field.{fieldAt, repeats};
@@ -14,7 +14,7 @@ ghost use Rattle.batches.specs.Batch.{emptyBatch, placeAnswer, placeLeaves, ser
 ghost use Rattle.batching.specs.Slots.{batchOf};
 ghost use Rattle.capi.specs.Numbers.{loadNumbers, stepsNumbers, writtenNumbers, servedNumber, fieldNumbers, formByTag};
 
-mod answer_numbers; // answer_numbers.rt: each answer as numbers
+mod in_c; // in_c.rt: each answer as numbers
 mod asked; // asked.rt: questions about one duration
 mod batch_numbers; // batch_numbers.rt: those of the calls of a batch
 mod emission; // emission.rt: the bad emission
@@ -128,7 +128,7 @@ pub extern "C" fn cp_upgrade_bytes(plan: &[u8], buffer: &mut [u8]) -> AnswerNumb
         × (now (buffer .exit) ≡ upgradeLeaves (now (plan .entry)) (now (buffer .entry)))
         ⌝ }
 {
-    convert_in_c(planner::upgrade(plan, buffer))
+    convert_in_c(converting::upgrade(plan, buffer))
 }
 
 #[no_mangle]
@@ -138,33 +138,33 @@ pub extern "C" fn cp_downgrade_bytes(plan: &[u8], buffer: &mut [u8]) -> AnswerNu
         × (now (buffer .exit) ≡ downgradeLeaves (now (plan .entry)) (now (buffer .entry)))
         ⌝ }
 {
-    convert_in_c(planner::downgrade(plan, buffer))
+    convert_in_c(converting::downgrade(plan, buffer))
 }
 
 #[no_mangle]
 pub extern "C" fn cp_batch_empty() -> Batch
     ensures { λ r. ⌜ batchOf r ≡ emptyBatch ⌝ }
 {
-    planner::empty_batch()
+    batching::empty_batch()
 }
 
 #[no_mangle]
 pub extern "C" fn cp_batch_place_bytes(batch: Batch, slot: u64, plan: &[u8]) -> PlaceOutcomeNumbers
     ensures { λ r. ⌜ (batchOf (r .batch) ≡ placeLeaves (batchOf batch) slot (now (plan .entry))) × (r .answer ≡ loadNumbers (placeAnswer (batchOf batch) slot (now (plan .entry)))) ⌝ }
 {
-    place_outcome_in_c(planner::place(batch, slot, plan))
+    place_outcome_in_c(batching::place(batch, slot, plan))
 }
 
 #[no_mangle]
 pub extern "C" fn cp_batch_serve(batch: Batch) -> ServeOutcomeNumbers
     ensures { λ r. ⌜ (batchOf (r .batch) ≡ serveLeaves (batchOf batch)) × (r .slot ≡ servedNumber (serveAnswer (batchOf batch))) ⌝ }
 {
-    serve_outcome_in_c(planner::serve(batch))
+    serve_outcome_in_c(batching::serve(batch))
 }
 
 #[no_mangle]
 pub extern "C" fn cp_batch_collect(batch: Batch, slot: u64) -> CollectOutcomeNumbers
     ensures { λ r. ⌜ (batchOf (r .batch) ≡ collectLeaves (batchOf batch) slot) × (r .answer ≡ stepsNumbers (collectAnswer (batchOf batch) slot)) ⌝ }
 {
-    collect_outcome_in_c(planner::collect(batch, slot))
+    collect_outcome_in_c(batching::collect(batch, slot))
 }

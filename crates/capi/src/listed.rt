@@ -1,10 +1,10 @@
 // Spans for C, one or a list of them, and a list of slacks: the planner by its columns, each at a pointer.
 use crate::AnswerNumbers;
-use crate::answer_numbers::reprice_in_c;
+use crate::in_c::reprice_in_c;
 use crate::usable::span_in_c;
 use crate::usable::spans_in_c;
 use numbers::clock::Clock;
-use planner::SpanRecord;
+use questions::SpanRecord;
 use tables::columns;
 ghost use mathlib.Core.Path.{_≡_};
 ghost use lib.ListN.{length};
@@ -58,7 +58,7 @@ pub extern "C" fn cp_reprice_columns<'a>(
         timing_jitter: *timing_jitter,
         sync_error: *sync_error,
     };
-    reprice_in_c(planner::reprice_columns(
+    reprice_in_c(column_calls::reprice_columns(
         *form,
         *guard,
         *top,
@@ -123,7 +123,7 @@ pub extern "C" fn cp_span_columns<'a>(
         timing_jitter: *timing_jitter,
         sync_error: *sync_error,
     };
-    span_in_c(planner::span_columns(
+    span_in_c(column_calls::span_columns(
         *form,
         *guard,
         *top,
@@ -187,7 +187,7 @@ pub extern "C" fn cp_spans_columns<'a>(
         (now (list .entry)) (now (list .exit)) r
         ⌝ }
 {
-    spans_in_c(planner::spans_columns(
+    spans_in_c(questions::spans_columns(
         form,
         guard,
         top,

@@ -1,6 +1,6 @@
 // The loads for C: the planner by its columns, each at a pointer, and what holds no plan.
 use crate::AnswerNumbers;
-use crate::answer_numbers::load_in_c;
+use crate::in_c::load_in_c;
 use tables::FLOWS;
 use tables::PORTS;
 use tables::STRIDE;
@@ -97,7 +97,7 @@ pub extern "C" fn cp_load_columns(
         r
         ⌝ }
 {
-    load_in_c(planner::load_columns(
+    load_in_c(loading::load_columns(
         false,
         form,
         guard,
@@ -151,7 +151,7 @@ pub extern "C" fn cp_load_strict_columns(
         r
         ⌝ }
 {
-    let answer = planner::load_columns(
+    let answer = loading::load_columns(
         true,
         form,
         guard,

@@ -53,7 +53,7 @@ pub extern "C" fn cp_nearest_columns<'a>(
         timing_jitter: *timing_jitter,
         sync_error: *sync_error,
     };
-    nearest_in_c(planner::nearest_columns(
+    nearest_in_c(column_calls::nearest_columns(
         *form,
         *guard,
         *top,

@@ -1,9 +1,9 @@
 // The answer that names the nearest durations as numbers: the refusal, 0 for a result, and two durations, 0 for none.
 use crate::AnswerNumbers;
-use crate::answer_numbers::numbered;
-use planner::NearestAnswer;
-use planner::Neighbour;
-use planner::nearest_number;
+use crate::in_c::numbered;
+use answer_numbers::nearest_number;
+use questions::NearestAnswer;
+use questions::Neighbour;
 ghost use mathlib.Core.Path.{_≡_};
 ghost use Rattle.questions.specs.Nearest.{neighbourOf, nearestOf};
 ghost use Rattle.capi.specs.Numbers.{answerNumbers, durationNumber, nearestNumbers};

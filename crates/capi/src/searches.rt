@@ -1,7 +1,7 @@
 // The searches for C: the planner by its columns, each at a pointer, and a lent scratch.
 use crate::AnswerNumbers;
-use crate::answer_numbers::least_in_c;
-use crate::answer_numbers::margin_safe_in_c;
+use crate::in_c::least_in_c;
+use crate::in_c::margin_safe_in_c;
 use numbers::clock::Clock;
 use tables::columns;
 ghost use mathlib.Core.Path.{_≡_};
@@ -50,7 +50,7 @@ pub extern "C" fn cp_least_columns<'a>(
         timing_jitter: *timing_jitter,
         sync_error: *sync_error,
     };
-    least_in_c(planner::least_columns(
+    least_in_c(column_calls::least_columns(
         *form,
         *guard,
         *top,
@@ -109,7 +109,7 @@ pub extern "C" fn cp_margin_safe_columns<'a>(
         timing_jitter: *timing_jitter,
         sync_error: *sync_error,
     };
-    margin_safe_in_c(planner::margin_safe_columns(
+    margin_safe_in_c(column_calls::margin_safe_columns(
         *form,
         *guard,
         *top,

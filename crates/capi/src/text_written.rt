@@ -1,6 +1,6 @@
 // The held plan as text for C: the planner by its columns, each at a pointer, and a lent buffer.
 use crate::AnswerNumbers;
-use crate::answer_numbers::numbered;
+use crate::in_c::numbered;
 use numbers::clock::Clock;
 use tables::columns;
 use text_writing::TextAnswer;

@@ -1,10 +1,10 @@
 // Each answer that names spans as numbers: the refusal, 0 for a result, and a span's two durations or how many spans there are.
 use crate::AnswerNumbers;
-use crate::answer_numbers::numbered;
-use planner::SpanAnswer;
-use planner::SpansAnswer;
-use planner::span_number;
-use planner::spans_number;
+use crate::in_c::numbered;
+use answer_numbers::span_number;
+use answer_numbers::spans_number;
+use questions::SpanAnswer;
+use questions::SpansAnswer;
 ghost use mathlib.Core.Path.{_≡_};
 ghost use Rattle.questions.specs.SpanAnswer.{spanAnswerOf, spansAnswerOf};
 ghost use Rattle.capi.specs.Numbers.{searchNumbers, spanNumbers};

@@ -53,7 +53,7 @@ pub extern "C" fn cp_save_columns<'a>(
         timing_jitter: *timing_jitter,
         sync_error: *sync_error,
     };
-    save_in_c(planner::save_columns(
+    save_in_c(column_calls::save_columns(
         *form,
         *guard,
         *top,
@@ -125,7 +125,7 @@ pub extern "C" fn cp_gates_columns<'a>(
         timing_jitter: *timing_jitter,
         sync_error: *sync_error,
     };
-    gates_in_c(planner::gates_columns(
+    gates_in_c(column_calls::gates_columns(
         *form,
         *guard,
         *top,

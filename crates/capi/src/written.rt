@@ -1,13 +1,13 @@
 // Each answer of a call that writes bytes as numbers: the refusal, 0 for a result, and the length written or needed.
 use crate::AnswerNumbers;
-use crate::answer_numbers::numbered;
+use crate::in_c::numbered;
+use answer_numbers::convert_number;
+use answer_numbers::gates_number;
+use answer_numbers::save_number;
+use converting::ConvertAnswer;
 use field_writing::WriteAnswer;
-use planner::ConvertAnswer;
-use planner::GatesAnswer;
-use planner::SaveAnswer;
-use planner::convert_number;
-use planner::gates_number;
-use planner::save_number;
+use gate_writing::GatesAnswer;
+use saving::SaveAnswer;
 ghost use mathlib.Core.Path.{_≡_};
 ghost use Rattle.saving.specs.Answer.{saveOf};
 ghost use Rattle.converting.specs.Answer.{convertOf};

@@ -1,9 +1,9 @@
--- `capi::answer_numbers::slack_in_c` meets its contract: each case of the answer as its numbers.
+-- `capi::in_c::slack_in_c` meets its contract: each case of the answer as its numbers.
 use mathlib.Core.Path.{_∙_}
 use borrow.Author.Needs.{needs}
 use Rattle.capi.specs.laws.Numbers.{slack-with-number}
-use Rattle.capi.proofs.answer_numbers.slack_in_c.Statement.{statement}
-use Rattle.capi.proofs.answer_numbers.slack_in_c.Tie as tie
+use Rattle.capi.proofs.in_c.slack_in_c.Statement.{statement}
+use Rattle.capi.proofs.in_c.slack_in_c.Tie as tie
 
 returns : tie.Need-returns
 returns c =

@@ -1,8 +1,8 @@
--- `capi::answer_numbers::fixed_point_in_c` meets its contract: each case of the answer as its numbers.
+-- `capi::in_c::fixed_point_in_c` meets its contract: each case of the answer as its numbers.
 use borrow.Author.Needs.{needs}
 use Rattle.capi.specs.laws.Numbers.{steps-with-number}
-use Rattle.capi.proofs.answer_numbers.fixed_point_in_c.Statement.{statement}
-use Rattle.capi.proofs.answer_numbers.fixed_point_in_c.Tie as tie
+use Rattle.capi.proofs.in_c.fixed_point_in_c.Statement.{statement}
+use Rattle.capi.proofs.in_c.fixed_point_in_c.Tie as tie
 
 returns : tie.Need-returns
 returns c =

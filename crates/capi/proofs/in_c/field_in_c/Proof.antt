@@ -1,7 +1,7 @@
--- `capi::answer_numbers::field_in_c` meets its contract: each case of the reading as its numbers.
+-- `capi::in_c::field_in_c` meets its contract: each case of the reading as its numbers.
 use borrow.Author.Needs.{needs}
-use Rattle.capi.proofs.answer_numbers.field_in_c.Statement.{statement}
-use Rattle.capi.proofs.answer_numbers.field_in_c.Tie as tie
+use Rattle.capi.proofs.in_c.field_in_c.Statement.{statement}
+use Rattle.capi.proofs.in_c.field_in_c.Tie as tie
 
 returns : tie.Need-returns
 returns c = rw (c .before .before .reading .given .1, c .fault-number .ensures)

@@ -1,10 +1,10 @@
--- `capi::answer_numbers::reprice_in_c` meets its contract: each answer is its number alone.
+-- `capi::in_c::reprice_in_c` meets its contract: each answer is its number alone.
 use mathlib.Core.Path.{_∙_}
 use borrow.Author.Needs.{needs}
 use Rattle.capi.specs.laws.Numbers.{with-number}
 use Rattle.capi.specs.laws.Reprice.{reprice-alone}
-use Rattle.capi.proofs.answer_numbers.reprice_in_c.Statement.{statement}
-use Rattle.capi.proofs.answer_numbers.reprice_in_c.Tie as tie
+use Rattle.capi.proofs.in_c.reprice_in_c.Statement.{statement}
+use Rattle.capi.proofs.in_c.reprice_in_c.Tie as tie
 
 reprice-number-requires : tie.Need-reprice-number-requires
 reprice-number-requires c κs = search needs

@@ -1,7 +1,7 @@
--- `capi::answer_numbers::form_by_tag` meets its contract.
+-- `capi::in_c::form_by_tag` meets its contract.
 use borrow.Author.Tests.{eq-eqb, ne-eqb}
-use Rattle.capi.proofs.answer_numbers.form_by_tag.Statement.{statement}
-use Rattle.capi.proofs.answer_numbers.form_by_tag.Tie as tie
+use Rattle.capi.proofs.in_c.form_by_tag.Statement.{statement}
+use Rattle.capi.proofs.in_c.form_by_tag.Tie as tie
 
 returns : tie.Need-returns
 returns c = rw (eq-eqb _ _ (c .if1 .taken))

@@ -1,7 +1,7 @@
--- `capi::answer_numbers::least_in_c` meets its contract: the answer with its number.
+-- `capi::in_c::least_in_c` meets its contract: the answer with its number.
 use borrow.Author.Needs.{needs}
-use Rattle.capi.proofs.answer_numbers.least_in_c.Statement.{statement}
-use Rattle.capi.proofs.answer_numbers.least_in_c.Tie as tie
+use Rattle.capi.proofs.in_c.least_in_c.Statement.{statement}
+use Rattle.capi.proofs.in_c.least_in_c.Tie as tie
 
 returns : tie.Need-returns
 returns c = c .search-in-c .ensures _ (c .before .least-number .ensures)
