@@ -4,3 +4,4 @@ pub mod Load
 pub mod Lent
 pub mod Twice
 pub mod Known
+pub mod Route

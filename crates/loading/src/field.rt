@@ -2,6 +2,7 @@
 
 use crate::first::has_flow;
 use crate::first::has_port;
+use crate::repeat::field_route;
 use crate::repeat::route_ports;
 use crate::store::KEYS;
 use crate::store::Totals;
@@ -11,10 +12,7 @@ use plan::Fault;
 use plan::Field;
 use plan::FieldRead;
 use plan::Form;
-use plan::layout::route_start;
 use plan::read::field_at;
-use plan::route::route_bytes;
-use plan::split::field_value;
 use tables::columns;
 ghost use Prim.Native.Nat.{_≤_};
 ghost use mathlib.Core.Path.{_≡_};
@@ -127,7 +125,7 @@ fn take_field(
             offset: at,
         };
     }
-    let route = route_bytes(field_value(plan, at), route_start(x));
+    let route = field_route(plan, at, x, next);
     let ports = route_ports(route, rates);
     if ports.twice {
         return Progress::Stop {

@@ -1,6 +1,9 @@
-// What the ports of a route are, where they are in range: test 7, and whether each was read before. Each of them is looked at once.
+// The route of a field that was read, its ports in range: test 7, and whether each was read before. Each port is looked at once.
 
+use plan::Field;
+use plan::layout::HEAD_SIZE;
 use plan::layout::HOP_SIZE;
+use plan::layout::route_start;
 use plan::route::route_len;
 use tables::PORTS;
 use tables::columns;
@@ -10,10 +13,22 @@ ghost use mathlib.Core.Bool.{true, not};
 ghost use Rattle.cqf.specs.Bounded.{every, distinct};
 ghost use Rattle.cqf.specs.Limits.{portOk};
 ghost use Rattle.cqf.specs.Plan.{portIn};
-ghost use Rattle.plan.specs.Field.{routeLength, routePorts, routePort};
+ghost use Rattle.cqf.specs.Form.{Form};
+ghost use Rattle.plan.specs.Field.{field, fieldAt, routeLength, routePorts, routePort};
+ghost use Rattle.plan.specs.Answer.{fieldOf};
+ghost use Rattle.plan_reading.specs.Reading.{routeAt};
+
+// The bytes of the route of the field that was read at this offset: those behind its other numbers, none where it has no route.
+pub(crate) fn field_route(plan: &[u8], at: usize, x: Field, next: usize) -> &[u8]
+    requires { ⌜ ((form : Form) × (fieldAt form (now plan) at ≡ field (fieldOf x) next)) ⌝ }
+    ensures { λ r. ⌜ routePorts (now r) ≡ routeAt (fieldOf x .kind) (now (plan .entry)) at ⌝ }
+{
+    let start = at + HEAD_SIZE + route_start(x);
+    &plan[start..next]
+}
 
 // Port i of such a route: its high byte is 0.
-fn low_byte(route: &[u8], i: usize) -> u8
+pub(crate) fn low_byte(route: &[u8], i: usize) -> u8
     requires { ⌜ (i < routeLength (now route)) × (every portOk (routePorts (now route)) ≡ true) ⌝ }
     ensures { λ r. ⌜ r ≡ routePort (now (route .entry)) i ⌝ }
 {

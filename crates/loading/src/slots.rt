@@ -1,12 +1,12 @@
 // The numbers of a field put into the slot of its port or flow.
 
+use crate::repeat::low_byte;
 use plan::Extra;
 use plan::Flow;
 use plan::Flow2;
 use plan::Jitter;
 use plan::Port;
 use plan::Port2;
-use plan::route::route_port;
 use tables::STRIDE;
 use tables::columns;
 ghost use Prim.Native.Nat.{_+_, _-_, _*_, _≤_};
@@ -51,8 +51,7 @@ fn store_route(routes: &mut columns::Routes, base: usize, route: &[u8], hops: us
 {
     let mut i = 0;
     while i < hops {
-        let port = route_port(route, i);
-        routes[base + i] = port as u8;
+        routes[base + i] = low_byte(route, i);
         i += 1;
     }
 }

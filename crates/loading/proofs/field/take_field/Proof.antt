@@ -5,12 +5,10 @@ use mathlib.Core.Bool.{false}
 use native.Mathlib.Omega.{arith}
 use borrow.Author.Tests.{lt-ltb, le-ltb}
 use denote.Ref.{now}
-use Rattle.plan.specs.Field.{routePorts, routeIn}
+use Rattle.plan.specs.Field.{routePorts}
 use Rattle.plan_reading.specs.Draft.{Draft, taken, fieldRepeats, added}
 use Rattle.plan_reading.specs.Reading.{more, routeAt, late}
 use Rattle.plan.specs.Answer.{fieldOf}
-use Rattle.plan.specs.laws.Whole.{part-whole}
-use Rattle.plan_reading.specs.laws.fields.Passes.{field-is-whole}
 use Rattle.plan_reading.specs.laws.fields.Found.{found-numbers, found-route}
 use Rattle.plan_reading.specs.laws.fields.Kinds.{key-below}
 use Rattle.plan_reading.specs.laws.reading.Steps.{step-taken, step-late, step-repeats, step-added}
@@ -51,21 +49,13 @@ in-time : (c : tie.Else2) →
 in-time c = sym (c .before .is-late .ensures) ∙ c .if2 .left
 
 -- the route's bytes that were split off are those of the field that was read
-route-read : (c : tie.After-route-bytes) →
-    let a = entry (past-6 (c .before .before .before)) in
-    routePorts (now (c .route-bytes .result)) ≡ routeAt (fieldOf (a .args .x) .kind) (now (a .args .plan)) (a .args .at)
-unfolding routeIn
-route-read c =
-    let a = entry (past-6 (c .before .before .before)) in
-    rw (
-      c .route-bytes .ensures,
-      c .before .route-start .ensures,
-      c .before .before .field-value .ensures,
-      part-whole _ _ (field-is-whole _ _ _ (fieldOf (a .args .x)) (a .args .next) (a .pre .2)),
-    )
+route-read : (c : tie.After-field-route) →
+    let a = entry (past-6 (c .before)) in
+    routePorts (now (c .field-route .result)) ≡ routeAt (fieldOf (a .args .x) .kind) (now (a .args .plan)) (a .args .at)
+route-read c = c .field-route .ensures
 
 repeats-read : (c : tie.After-route-ports) →
-    let a = entry (past-6 (c .before .before .before .before .before)) in
+    let a = entry (past-6 (c .before .before .before)) in
     c .route-ports .result .twice ≡ fieldRepeats (routeAt (fieldOf (a .args .x) .kind) (now (a .args .plan)) (a .args .at))
 repeats-read c = c .route-ports .ensures .0 ∙ rw (route-read (c .before .before))
 
@@ -90,14 +80,17 @@ returns-2 c =
       tt,
     )
 
+field-route-requires : tie.Need-field-route-requires
+field-route-requires c κs = (_, entry (past-6 c) .pre .2)
+
 route-ports-requires : tie.Need-route-ports-requires
 route-ports-requires c κs =
-    let a = entry (past-6 (c .before .before .before .before)) in
+    let a = entry (past-6 (c .before .before)) in
     rw (route-read (c .before)) (found-route _ _ _ _ _ (a .pre .2) .ports)
 
 returns-3 : tie.Need-returns-3
 returns-3 c =
-    let twelve = c .before .before .before .before .before .before in
+    let twelve = c .before .before .before .before in
     let six = past-6 twelve in
     let a = entry six in (
       sym (step-repeats _ (modeOf (a .args .strict)) _ _ _ (held a) (fieldOf (a .args .x)) (a .args .next) (a .pre .2)
@@ -110,7 +103,7 @@ returns-3 c =
 store-field-requires : tie.Need-store-field-requires
 store-field-requires c κs =
     let route = past-7 c .before .before .before in
-    let a = entry (past-6 (route .before .before .before)) in
+    let a = entry (past-6 (route .before)) in
     let n = found-numbers _ _ _ _ _ (a .pre .2) in
     (a .pre .0, a .pre .1, record { kind = refl; ranges = n .ranges; hops = n .hops }, rw (route-read route) (found-route _ _ _ _ _ (a .pre .2)))
 
@@ -118,7 +111,7 @@ returns-4 : tie.Need-returns-4
 returns-4 c =
     let seven = past-7 (c .before) in
     let route = seven .before .before .before in
-    let twelve = route .before .before .before in
+    let twelve = route .before in
     let six = past-6 twelve in
     let a = entry six in
     let s = now (a .args .plan) in (
@@ -143,9 +136,7 @@ take-field-spec =
     returns
     (λ c κs. search needs)
     returns-2
-    (λ c κs. search needs)
-    (λ c κs. search needs)
-    (λ c κs. search needs)
+    field-route-requires
     route-ports-requires
     returns-3
     (λ c κs. search needs)

@@ -1,15 +1,12 @@
 -- `store_route` meets its contract. The invariant: the first i ports of the route are stored, and nothing else has changed.
 use Prim.Native.Nat.{_-_, _≤_, _<_}
 use mathlib.Core.Path.{_≡_, refl}
-use mathlib.Core.Bool.{true}
 use native.Mathlib.Omega.{arith}
 use lib.ListN.{length, getD, take}
 use lib.Seq.{sets, take-length}
 use denote.Ref.{now}
-use Rattle.cqf.specs.Limits.{portSlots, portOk}
-use Rattle.cqf.specs.laws.Lists.{every-at}
 use Rattle.plan.specs.Field.{routePorts, routePort}
-use Rattle.plan_reading.specs.laws.fields.Within.{within-high}
+use Rattle.plan.specs.laws.Route.{route-length}
 use Rattle.loading.specs.laws.Copy.{sets-take}
 use Rattle.loading.proofs.slots.store_route.Statement.{statement}
 use Rattle.loading.proofs.slots.store_route.Tie as tie
@@ -20,23 +17,22 @@ Inv-loop routes₀ base route hops i₀ routes i = (i ≤ hops) × (routes ≡ s
 abbrev μ-loop : tie.MeasureT-loop
 μ-loop routes₀ base route hops i₀ routes i = hops - i
 
--- the port that is read stands in the route, so its number is in range
-module _ (c : tie.After-route-port Inv-loop μ-loop) where
-  read : c .route-port .result ≡ getD (routePorts (now (c .before .before .before .before .args .route))) (c .before .before .loop .i) 0
+-- the port that is read stands in the route
+module _ (c : tie.After-low-byte Inv-loop μ-loop) where
+  read : c .low-byte .result ≡ getD (routePorts (now (c .before .before .before .before .args .route))) (c .before .before .loop .i) 0
   unfolding routePort
-  read = c .route-port .ensures
+  read = c .low-byte .ensures
 
   inside : c .before .before .loop .i < length (routePorts (now (c .before .before .before .before .args .route)))
   inside = omega (arith, c .before .before .before .before .pre .1 .hops)
 
-  in-range : portOk (c .route-port .result) ≡ true
-  in-range = rw read (every-at portOk _ (c .before .before .before .before .pre .1 .ports) _ inside)
-
 loop-holds : tie.Need-loop-holds Inv-loop μ-loop
 loop-holds c = (omega arith, refl)
 
-cast-routes : tie.Need-cast-routes Inv-loop μ-loop
-cast-routes c = omega (arith, within-high 1 portSlots (c .route-port .result) (in-range c))
+low-byte-requires : tie.Need-low-byte-requires Inv-loop μ-loop
+low-byte-requires c κs =
+    let a = c .before .before .before in
+    (omega (arith, route-length (now (a .args .route)), a .pre .1 .hops), a .pre .1 .ports)
 
 add-routes : tie.Need-add-routes Inv-loop μ-loop
 add-routes c = omega arith
@@ -68,8 +64,7 @@ store-route-spec =
     Inv-loop
     μ-loop
     loop-holds
-    (λ c κs. tt)
-    cast-routes
+    low-byte-requires
     add-routes
     element-write-routes
     add-i
