@@ -1,15 +1,18 @@
 -- The load's working values, as the definitions of the reading have them.
-use Prim.Native.Nat.{ℕ, _≤_}
+use Prim.Native.Nat.{ℕ, _≤_, _<_}
 use mathlib.Core.Path.{_≡_}
-use mathlib.Core.Bool.{Bool, true, false}
+use mathlib.Core.Bool.{Bool, false, _||_}
 use mathlib.Core.List.{List}
-use lib.ListN.{length, getD}
-use Rattle.cqf.specs.Plan.{Plan, portIn}
+use lib.Dec.{ltb}
+use lib.ListN.{length, getD, take, drop}
+use Rattle.cqf.specs.Bounded.{anyTo}
+use Rattle.cqf.specs.Limits.{portSlots, flowSlots}
+use Rattle.cqf.specs.Plan.{Plan}
 use Rattle.numbers.specs.Clock.{clockOf}
 use Rattle.plan.specs.Answer.{faultNumber}
-use Rattle.plan.specs.Layout.{Kind}
+use Rattle.plan_reading.specs.Key.{portKeys, flowKeys, extraKeys, jitterKeys}
 use Rattle.plan_reading.specs.Draft.{Draft}
-use Rattle.plan_reading.specs.Reading.{PlanRead, accepted, rejected, Step, stop, more, namesAbsent, jitterAbsent, extraAbsent, hasFlow, firstAbsent, closing}
+use Rattle.plan_reading.specs.Reading.{PlanRead, accepted, rejected, Step, stop, more, namesAbsent, jitterAbsent, extraAbsent, firstAbsent, closing}
 use Rattle.plan_reading.specs.Overlong.{overlong}
 use Rattle.tables.specs.Columns.{planBy}
 use Rattle.loading.specs.declared.LoadAnswer.{LoadAnswer}
@@ -29,7 +32,7 @@ draftOf t rates blockings extras periods counts lengths jitters hops routes seen
 
 -- one field read
 abbrev pub progressOf : Progress → (rates blockings extras periods counts lengths jitters hops routes seen : List ℕ) → Step
-progressOf (Progress.More next key totals known) rates blockings extras periods counts lengths jitters hops routes seen =
+progressOf (Progress.More next key totals) rates blockings extras periods counts lengths jitters hops routes seen =
     more next key (draftOf totals rates blockings extras periods counts lengths jitters hops routes seen)
 progressOf (Progress.Stop fault offset) rates blockings extras periods counts lengths jitters hops routes seen = stop (faultNumber fault) offset
 
@@ -45,32 +48,40 @@ abbrev pub answerOf : Plan → LoadAnswer → PlanRead
 answerOf p (LoadAnswer.Held ports flows) = accepted p ports flows
 answerOf p (LoadAnswer.Refused fault offset) = rejected (faultNumber fault) offset
 
--- whether what a field of this kind with these numbers names is in a plan with these rates and periods, told saying so of its route
-abbrev pub knownBy : Kind → (numbers : List ℕ) (told : Bool) (rates periods : List ℕ) → Bool
-knownBy Kind.header ns told rates periods = told
-knownBy Kind.port ns told rates periods = told
-knownBy Kind.flow ns told rates periods = told
-knownBy Kind.extra ns told rates periods = portIn rates (getD ns 0 0)
-knownBy Kind.jitter ns told rates periods = hasFlow periods (getD ns 0 0)
-knownBy Kind.clock ns told rates periods = told
-knownBy Kind.header2 ns told rates periods = told
-knownBy Kind.port2 ns told rates periods = told
-knownBy Kind.flow2 ns told rates periods = told
+-- what is above 0 in the one is above 0 in the other
+abbrev pub Covers : (l m : List ℕ) → Type 0
+Covers l m = (q : ℕ) → 0 < getD l q 0 → 0 < getD m q 0
 
--- the field at this offset names nothing that is absent from a plan with these rates and periods
-abbrev pub NamesNone : (rates periods bytes : List ℕ) (at : ℕ) → Type 0
-NamesNone rates periods s at = (namesAbsent rates s at ≡ false) × (jitterAbsent periods s at ≡ false) × (extraAbsent rates s at ≡ false)
+-- of a field that was read: the ports that were marked as named still are, and each port of its route is
+pub record Marks (before after bytes : List ℕ) (at : ℕ) : Type 0 where
+  pub sized : length after ≡ portSlots
+  pub keeps : Covers before after
+  pub routed : namesAbsent after bytes at ≡ false
 
--- so it is of a field that was read, where that is said
-abbrev pub NamesKnown : Progress → (rates periods bytes : List ℕ) (at : ℕ) → Type 0
-NamesKnown (Progress.More next key totals known) rates periods s at = known ≡ true → NamesNone rates periods s at
-NamesKnown (Progress.Stop fault offset) rates periods s at = Unit {0}
+abbrev pub Names : Progress → (before after bytes : List ℕ) (at : ℕ) → Type 0
+Names (Progress.More next key totals) before after s at = Marks before after s at
+Names (Progress.Stop fault offset) before after s at = Unit {0}
 
--- the answer of the tests 8 and 9, for any tables with these rates and periods, where nothing is absent if that is known
-abbrev pub ClosesWith : (known : Bool) (bytes rates periods seen : List ℕ) (ports flows : ℕ) → LoadAnswer → Type 0
-ClosesWith known bytes rates periods seen ports flows answer =
+-- the marks of these many keys from this one on
+abbrev pub marksOf : List ℕ → (key keys : ℕ) → List ℕ
+marksOf seen key keys = take keys (drop key seen)
+
+-- whether something has a mark for which there is no other
+abbrev pub lacking : (marks others : List ℕ) → Bool
+lacking marks others = anyTo (length marks) (λ i. ltb (getD others i 0) (getD marks i 0))
+
+-- whether a port that a route names, one whose extra bytes were read or a flow whose jitter was read was itself not read
+abbrev pub anyAbsent : (named seen : List ℕ) → Bool
+anyAbsent named seen =
+    lacking named (marksOf seen portKeys portSlots)
+    || (lacking (marksOf seen extraKeys portSlots) (marksOf seen portKeys portSlots)
+    || lacking (marksOf seen jitterKeys flowSlots) (marksOf seen flowKeys flowSlots))
+
+-- the answer of the tests 8 and 9, for any tables with these rates and periods, where test 9 finds none unless something is absent
+abbrev pub ClosesWith : (bytes named rates periods seen : List ℕ) (ports flows : ℕ) → LoadAnswer → Type 0
+ClosesWith bytes named rates periods seen ports flows answer =
     (p : Plan)
     → p .rates ≡ rates
     → p .periods ≡ periods
-    → (known ≡ true → length bytes ≤ firstAbsent rates periods bytes)
+    → (anyAbsent named seen ≡ false → length bytes ≤ firstAbsent rates periods bytes)
     → answerOf p answer ≡ closing bytes (record { tables = p; seen = seen; ports = ports; flows = flows })

@@ -1,9 +1,7 @@
 // One field of a plan that is being read: the tests 2 to 7, with 12 between 6 and 7, and the field stored.
 
-use crate::first::has_flow;
-use crate::first::has_port;
 use crate::repeat::field_route;
-use crate::repeat::route_ports;
+use crate::repeat::mark_named;
 use crate::store::KEYS;
 use crate::store::Totals;
 use crate::store::key_of;
@@ -13,14 +11,17 @@ use plan::Field;
 use plan::FieldRead;
 use plan::Form;
 use plan::read::field_at;
+use tables::PORTS;
 use tables::columns;
 ghost use Prim.Native.Nat.{_≤_};
 ghost use mathlib.Core.Path.{_≡_};
+ghost use lib.ListN.{length};
+ghost use Rattle.cqf.specs.Limits.{portSlots};
 ghost use Rattle.plan.specs.Field.{field, fieldAt};
 ghost use Rattle.plan_reading.specs.Reading.{modeIn, late, stepAt, maxBytes};
 ghost use Rattle.plan.specs.Answer.{formOf, fieldOf};
 ghost use Rattle.loading.specs.Answer.{modeOf};
-ghost use Rattle.loading.specs.Loading.{draftOf, progressOf, knownBy, NamesKnown};
+ghost use Rattle.loading.specs.Loading.{draftOf, progressOf, Names};
 
 // Whether the reading goes on after a field.
 pub(crate) enum Progress {
@@ -28,7 +29,6 @@ pub(crate) enum Progress {
         next: usize,
         key: usize,
         totals: Totals,
-        known: bool,
     },
     Stop {
         fault: Fault,
@@ -56,28 +56,6 @@ fn is_late(strict: bool, field: Field, last: usize) -> bool
     key_of(field) < last
 }
 
-// Whether what a field names was read before it; told says so of the ports of its route.
-fn names_known<'a>(
-    x: Field,
-    told: bool,
-    rates: &'a columns::Rates,
-    periods: &'a columns::Periods,
-) -> bool
-    ensures { λ r. ⌜ r ≡ knownBy (fieldOf x .kind) (fieldOf x .numbers) told (now (rates .entry)) (now (periods .entry)) ⌝ }
-{
-    match x {
-        Field::Header(_) => told,
-        Field::Port(_) => told,
-        Field::Flow(_) => told,
-        Field::Extra(e) => has_port(rates, e.number),
-        Field::Jitter(j) => has_flow(periods, j.number),
-        Field::Clock(_) => told,
-        Field::Header2(_) => told,
-        Field::Port2(_) => told,
-        Field::Flow2(_) => told,
-    }
-}
-
 // A field that passed the tests 2 to 5: the tests 6, 12 and 7, and the field stored, in a plan of this form. last is the key of the field in front of it.
 fn take_field(
     form: Form,
@@ -98,9 +76,13 @@ fn take_field(
     hops: &mut columns::Hops,
     routes: &mut columns::Routes,
     seen: &mut [u8; KEYS],
+    named: &mut [u8; PORTS],
 ) -> Progress
     requires { ⌜
-        (totals .ports ≤ maxBytes) × (totals .flows ≤ maxBytes) × (fieldAt (formOf form) (now plan) at ≡ field (fieldOf x) next)
+        (totals .ports ≤ maxBytes)
+        × (totals .flows ≤ maxBytes)
+        × (length (now named) ≡ portSlots)
+        × (fieldAt (formOf form) (now plan) at ≡ field (fieldOf x) next)
         ⌝ }
     ensures steps { λ r. ⌜
         progressOf r (now (rates .exit)) (now (blockings .exit)) (now (extras .exit)) (now (periods .exit))
@@ -110,7 +92,7 @@ fn take_field(
         (now (counts .entry)) (now (lengths .entry)) (now (jitters .entry)) (now (hops .entry))
         (now (routes .entry)) (now (seen .entry)))
         ⌝ }
-    ensures names { λ r. ⌜ NamesKnown r (now (rates .entry)) (now (periods .entry)) (now (plan .entry)) at ⌝ }
+    ensures names { λ r. ⌜ Names r (now (named .entry)) (now (named .exit)) (now (plan .entry)) at ⌝ }
 {
     let key = key_of(x);
     if 0 < seen[key] {
@@ -126,14 +108,12 @@ fn take_field(
         };
     }
     let route = field_route(plan, at, x, next);
-    let ports = route_ports(route, rates);
-    if ports.twice {
+    if mark_named(route, named) {
         return Progress::Stop {
             fault: Fault::RepeatedPort,
             offset: at,
         };
     }
-    let known = names_known(x, ports.known, rates, periods);
     let sums = store_field(
         x,
         route,
@@ -153,7 +133,6 @@ fn take_field(
         next,
         key,
         totals: sums,
-        known,
     }
 }
 
@@ -175,8 +154,9 @@ pub(crate) fn step(
     hops: &mut columns::Hops,
     routes: &mut columns::Routes,
     seen: &mut [u8; KEYS],
+    named: &mut [u8; PORTS],
 ) -> Progress
-    requires { ⌜ (totals .ports ≤ maxBytes) × (totals .flows ≤ maxBytes) ⌝ }
+    requires { ⌜ (totals .ports ≤ maxBytes) × (totals .flows ≤ maxBytes) × (length (now named) ≡ portSlots) ⌝ }
     ensures steps { λ r. ⌜
         progressOf r (now (rates .exit)) (now (blockings .exit)) (now (extras .exit)) (now (periods .exit))
         (now (counts .exit)) (now (lengths .exit)) (now (jitters .exit)) (now (hops .exit)) (now (routes .exit))
@@ -185,7 +165,7 @@ pub(crate) fn step(
         (now (counts .entry)) (now (lengths .entry)) (now (jitters .entry)) (now (hops .entry))
         (now (routes .entry)) (now (seen .entry)))
         ⌝ }
-    ensures names { λ r. ⌜ NamesKnown r (now (rates .entry)) (now (periods .entry)) (now (plan .entry)) at ⌝ }
+    ensures names { λ r. ⌜ Names r (now (named .entry)) (now (named .exit)) (now (plan .entry)) at ⌝ }
 {
     match field_at(form, plan, at) {
         FieldRead::Field { field, next } => take_field(
@@ -207,6 +187,7 @@ pub(crate) fn step(
             hops,
             routes,
             seen,
+            named,
         ),
         FieldRead::Refused { fault, offset } => Progress::Stop { fault, offset },
     }

@@ -38,7 +38,7 @@ pub enum Sought {
 }
 
 // Whether a port of this number is in the plan.
-pub(crate) fn has_port(rates: &columns::Rates, number: u16) -> bool
+fn has_port(rates: &columns::Rates, number: u16) -> bool
     ensures { λ r. ⌜ r ≡ portIn (now (rates .entry)) number ⌝ }
 {
     if !port_ok(number) {
@@ -49,7 +49,7 @@ pub(crate) fn has_port(rates: &columns::Rates, number: u16) -> bool
 }
 
 // Whether a flow of this number is in the plan.
-pub(crate) fn has_flow(periods: &columns::Periods, number: u16) -> bool
+fn has_flow(periods: &columns::Periods, number: u16) -> bool
     ensures { λ r. ⌜ r ≡ hasFlow (now (periods .entry)) number ⌝ }
 {
     if !flow_ok(number) {

@@ -8,7 +8,8 @@ mod lent; // lent.rt: the load into lent columns
 mod one_form; // one_form.rt: bytes read as a plan of one form, into lent columns
 mod reading; // reading.rt: a whole plan read into fresh columns
 mod field; // field.rt: one field, tested and stored
-mod repeat; // repeat.rt: a port twice in a route
+mod repeat; // repeat.rt: a field's route: a port twice in it, and the ports that it names
+mod absent; // absent.rt: whether something is absent that a field names
 mod first; // first.rt: the first field that is sought
 mod store; // store.rt: a field stored into the columns
 mod slots; // slots.rt: the numbers of a port or a flow

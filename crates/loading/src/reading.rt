@@ -3,6 +3,7 @@
 
 use crate::LoadAnswer;
 use crate::MAX_BYTES;
+use crate::absent::any_absent;
 use crate::field::Progress;
 use crate::field::step;
 use crate::field::strict_in;
@@ -13,6 +14,7 @@ use crate::store::Totals;
 use numbers::clock::Clock;
 use plan::Fault;
 use plan::Form;
+use tables::PORTS;
 use tables::columns;
 ghost use mathlib.Core.Path.{_≡_};
 ghost use Rattle.cqf.specs.Bounded.{within};
@@ -30,18 +32,18 @@ pub(crate) struct ColumnsRead {
     pub answer: LoadAnswer,
 }
 
-// All fields are read: the tests 8 and 9. Where it is known that all that the fields name is there, no field is looked at again.
+// All fields are read: the tests 8 and 9. The fields are looked at again only where something is absent that one of them names.
 fn close<'a>(
-    known: bool,
     plan: &[u8],
     ports: u16,
     flows: u16,
+    named: &[u8; PORTS],
     rates: &'a columns::Rates,
     periods: &'a columns::Periods,
     seen: &[u8; KEYS],
 ) -> LoadAnswer
     ensures { λ r. ⌜
-        ClosesWith known (now (plan .entry)) (now (rates .entry)) (now (periods .entry)) (now (seen .entry)) ports flows r
+        ClosesWith (now (plan .entry)) (now (named .entry)) (now (rates .entry)) (now (periods .entry)) (now (seen .entry)) ports flows r
         ⌝ }
 {
     if seen[HEADER_KEY] == 0 {
@@ -56,7 +58,7 @@ fn close<'a>(
             offset: plan.len(),
         };
     }
-    if known {
+    if !any_absent(named, seen) {
         return LoadAnswer::Held { ports, flows };
     }
     let offset = first_absent(plan, rates, periods);
@@ -129,7 +131,7 @@ pub(crate) fn read_columns(
     }
     let strictly = strict_in(form, strict);
     let mut seen = [0u8; KEYS];
-    let mut known = true;
+    let mut named = [0u8; PORTS];
     let mut last = 0;
     let mut at = 0;
     while at < plan.len() {
@@ -150,16 +152,13 @@ pub(crate) fn read_columns(
             hops,
             routes,
             &mut seen,
+            &mut named,
         ) {
             Progress::More {
                 next,
                 key,
                 totals: sums,
-                known: named,
             } => {
-                if !named {
-                    known = false;
-                }
                 totals = sums;
                 last = key;
                 at = next;
@@ -173,10 +172,10 @@ pub(crate) fn read_columns(
         }
     }
     let answer = close(
-        known,
         plan,
         totals.ports,
         totals.flows,
+        &named,
         rates,
         periods,
         &seen,

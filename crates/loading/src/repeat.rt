@@ -1,4 +1,4 @@
-// The route of a field that was read, its ports in range: test 7, and whether each was read before. Each port is looked at once.
+// The route of a field that was read, its ports in range: test 7, and the ports marked that a route names. Each port is looked at once.
 
 use plan::Field;
 use plan::layout::HEAD_SIZE;
@@ -6,17 +6,18 @@ use plan::layout::HOP_SIZE;
 use plan::layout::route_start;
 use plan::route::route_len;
 use tables::PORTS;
-use tables::columns;
 ghost use Prim.Native.Nat.{_<_};
 ghost use mathlib.Core.Path.{_≡_};
-ghost use mathlib.Core.Bool.{true, not};
+ghost use mathlib.Core.Bool.{true, false, not};
+ghost use lib.ListN.{length};
 ghost use Rattle.cqf.specs.Bounded.{every, distinct};
-ghost use Rattle.cqf.specs.Limits.{portOk};
+ghost use Rattle.cqf.specs.Limits.{portSlots, portOk};
 ghost use Rattle.cqf.specs.Plan.{portIn};
 ghost use Rattle.cqf.specs.Form.{Form};
 ghost use Rattle.plan.specs.Field.{field, fieldAt, routeLength, routePorts, routePort};
 ghost use Rattle.plan.specs.Answer.{fieldOf};
 ghost use Rattle.plan_reading.specs.Reading.{routeAt};
+ghost use Rattle.loading.specs.Loading.{Covers};
 
 // The bytes of the route of the field that was read at this offset: those behind its other numbers, none where it has no route.
 pub(crate) fn field_route(plan: &[u8], at: usize, x: Field, next: usize) -> &[u8]
@@ -35,39 +36,27 @@ pub(crate) fn low_byte(route: &[u8], i: usize) -> u8
     route[HOP_SIZE * i + 1]
 }
 
-// Whether a port stands in a route twice; and, where none does, whether each is in the plan as far as it was read.
-pub(crate) struct RoutePorts {
-    pub twice: bool,
-    pub known: bool,
-}
-
-pub(crate) fn route_ports<'a>(route: &[u8], rates: &'a columns::Rates) -> RoutePorts
-    requires { ⌜ every portOk (routePorts (now route)) ≡ true ⌝ }
+// Test 7: whether a port stands in a route twice. Where none does, each of them is marked as named, beside those that were.
+pub(crate) fn mark_named(route: &[u8], named: &mut [u8; PORTS]) -> bool
+    requires { ⌜ (every portOk (routePorts (now route)) ≡ true) × (length (now named) ≡ portSlots) ⌝ }
     ensures { λ r. ⌜
-        (r .twice ≡ not (distinct (routePorts (now (route .entry)))))
-        × (r .known ≡ true → every (portIn (now (rates .entry))) (routePorts (now (route .entry))) ≡ true)
+        (r ≡ not (distinct (routePorts (now (route .entry)))))
+        × (length (now (named .exit)) ≡ portSlots)
+        × Covers (now (named .entry)) (now (named .exit))
+        × (r ≡ false → every (portIn (now (named .exit))) (routePorts (now (route .entry))) ≡ true)
         ⌝ }
 {
     let hops = route_len(route);
     let mut seen = [0u8; PORTS];
-    let mut known = true;
     let mut i = 0;
     while i < hops {
         let slot = (low_byte(route, i) - 1) as usize;
         if seen[slot] != 0 {
-            return RoutePorts {
-                twice: true,
-                known: false,
-            };
+            return true;
         }
         seen[slot] = 1;
-        if rates[slot] == 0 {
-            known = false;
-        }
+        named[slot] = 1;
         i += 1;
     }
-    RoutePorts {
-        twice: false,
-        known,
-    }
+    false
 }

@@ -26,7 +26,16 @@ ghost use Rattle.loading.specs.Loading.{draftOf};
 // The newer form's fields have the keys of the older ones of their names.
 pub(crate) const HEADER_KEY: usize = 0;
 
-const CLOCK_KEY: usize = 1 + PORTS + FLOWS + PORTS + FLOWS;
+// The key of port 1, of flow 1, of port 1's extra bytes, of flow 1's jitter, and of the clock.
+pub(crate) const PORT_KEYS: usize = HEADER_KEY + 1;
+
+pub(crate) const FLOW_KEYS: usize = PORT_KEYS + PORTS;
+
+pub(crate) const EXTRA_KEYS: usize = FLOW_KEYS + FLOWS;
+
+pub(crate) const JITTER_KEYS: usize = EXTRA_KEYS + PORTS;
+
+pub(crate) const CLOCK_KEY: usize = JITTER_KEYS + FLOWS;
 
 pub(crate) const KEYS: usize = CLOCK_KEY + 1;
 

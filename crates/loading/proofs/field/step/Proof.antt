@@ -18,8 +18,9 @@ held c =
 
 take-field-requires : tie.Need-take-field-requires
 take-field-requires c κs =
-    let a = c .before .before .before .before .before .before .before .before .before .before .before .before .before .before .before in
-    (a .pre .0, a .pre .1, sym (c .before .before .before .before .before .before .before .before .before .before .before .before .before .field-at .ensures) ∙ ap fieldReadOf (c .before .before .before .before .before .before .before .before .before .before .before .field .given .1))
+    let told = c .before .before .before .before .before .before .before .before .before .before .before .before in
+    let a = told .before .before .before .before in
+    (a .pre .0, a .pre .1, a .pre .2, sym (told .before .before .field-at .ensures) ∙ ap fieldReadOf (told .field .given .1))
 
 returns-2 : tie.Need-returns-2
 returns-2 c =

@@ -13,7 +13,7 @@ use Rattle.plan_reading.specs.laws.fields.Found.{found-numbers, found-route}
 use Rattle.plan_reading.specs.laws.fields.Kinds.{key-below}
 use Rattle.plan_reading.specs.laws.reading.Steps.{step-taken, step-late, step-repeats, step-added}
 use Rattle.loading.specs.Answer.{modeOf}
-use Rattle.loading.specs.laws.Known.{known-field}
+use Rattle.loading.specs.laws.Marked.{routed}
 use Rattle.loading.specs.Loading.{draftOf}
 use borrow.Author.Needs.{needs}
 use Rattle.loading.proofs.field.take_field.Statement.{statement}
@@ -26,11 +26,8 @@ held c =
     (now (c .args .lengths)) (now (c .args .jitters)) (now (c .args .hops)) (now (c .args .routes)) (now (c .args .seen))
 
 -- the states on the way, each named once: past test 7; past test 6 from past test 12; and the start from past test 6
-abbrev asked : tie.After-store-field-arg10 → tie.After-names-known
-asked c = c .before .before .before .before .before .before .before .before .before .before
-
 abbrev past-7 : tie.After-store-field-arg10 → tie.Else3
-past-7 c = asked c .before .before .before
+past-7 c = c .before .before .before .before .before .before .before .before .before .before
 
 abbrev past-6 : tie.Else2 → tie.Else1
 past-6 c = c .before .before
@@ -54,18 +51,18 @@ route-read : (c : tie.After-field-route) →
     routePorts (now (c .field-route .result)) ≡ routeAt (fieldOf (a .args .x) .kind) (now (a .args .plan)) (a .args .at)
 route-read c = c .field-route .ensures
 
-repeats-read : (c : tie.After-route-ports) →
+repeats-read : (c : tie.After-mark-named) →
     let a = entry (past-6 (c .before .before .before)) in
-    c .route-ports .result .twice ≡ fieldRepeats (routeAt (fieldOf (a .args .x) .kind) (now (a .args .plan)) (a .args .at))
-repeats-read c = c .route-ports .ensures .0 ∙ rw (route-read (c .before .before))
+    c .mark-named .result ≡ fieldRepeats (routeAt (fieldOf (a .args .x) .kind) (now (a .args .plan)) (a .args .at))
+repeats-read c = c .mark-named .ensures .0 ∙ rw (route-read (c .before .before))
 
 element-copy-out-if1 : tie.Need-element-copy-out-if1
-element-copy-out-if1 c = omega (arith, c .key-of .ensures, key-below (fieldOf (c .before .before .args .x)) (found-numbers _ _ _ _ _ (c .before .before .pre .2)))
+element-copy-out-if1 c = omega (arith, c .key-of .ensures, key-below (fieldOf (c .before .before .args .x)) (found-numbers _ _ _ _ _ (c .before .before .pre .3)))
 
 returns : tie.Need-returns
 returns c =
     let a = c .before .before .before .before in (
-      sym (step-taken _ (modeOf (a .args .strict)) _ _ _ (held a) (fieldOf (a .args .x)) (a .args .next) (a .pre .2)
+      sym (step-taken _ (modeOf (a .args .strict)) _ _ _ (held a) (fieldOf (a .args .x)) (a .args .next) (a .pre .3)
           (rw (← c .before .before .key-of .ensures) (lt-ltb _ _ (c .if1 .taken)))),
       tt,
     )
@@ -74,26 +71,26 @@ returns-2 : tie.Need-returns-2
 returns-2 c =
     let six = c .before .before in
     let a = entry six in (
-      sym (step-late _ (modeOf (a .args .strict)) _ _ _ (held a) (fieldOf (a .args .x)) (a .args .next) (a .pre .2)
+      sym (step-late _ (modeOf (a .args .strict)) _ _ _ (held a) (fieldOf (a .args .x)) (a .args .next) (a .pre .3)
           (free six)
           (sym (c .before .is-late .ensures) ∙ c .if2 .taken)),
       tt,
     )
 
 field-route-requires : tie.Need-field-route-requires
-field-route-requires c κs = (_, entry (past-6 c) .pre .2)
+field-route-requires c κs = (_, entry (past-6 c) .pre .3)
 
-route-ports-requires : tie.Need-route-ports-requires
-route-ports-requires c κs =
+mark-named-requires : tie.Need-mark-named-requires
+mark-named-requires c κs =
     let a = entry (past-6 (c .before .before)) in
-    rw (route-read (c .before)) (found-route _ _ _ _ _ (a .pre .2) .ports)
+    (rw (route-read (c .before)) (found-route _ _ _ _ _ (a .pre .3) .ports), a .pre .2)
 
 returns-3 : tie.Need-returns-3
 returns-3 c =
     let twelve = c .before .before .before .before in
     let six = past-6 twelve in
     let a = entry six in (
-      sym (step-repeats _ (modeOf (a .args .strict)) _ _ _ (held a) (fieldOf (a .args .x)) (a .args .next) (a .pre .2)
+      sym (step-repeats _ (modeOf (a .args .strict)) _ _ _ (held a) (fieldOf (a .args .x)) (a .args .next) (a .pre .3)
           (free six)
           (in-time twelve)
           (sym (repeats-read (c .before)) ∙ c .if3 .taken)),
@@ -104,8 +101,8 @@ store-field-requires : tie.Need-store-field-requires
 store-field-requires c κs =
     let route = past-7 c .before .before .before in
     let a = entry (past-6 (route .before)) in
-    let n = found-numbers _ _ _ _ _ (a .pre .2) in
-    (a .pre .0, a .pre .1, record { kind = refl; ranges = n .ranges; hops = n .hops }, rw (route-read route) (found-route _ _ _ _ _ (a .pre .2)))
+    let n = found-numbers _ _ _ _ _ (a .pre .3) in
+    (a .pre .0, a .pre .1, record { kind = refl; ranges = n .ranges; hops = n .hops }, rw (route-read route) (found-route _ _ _ _ _ (a .pre .3)))
 
 returns-4 : tie.Need-returns-4
 returns-4 c =
@@ -117,14 +114,15 @@ returns-4 c =
     let s = now (a .args .plan) in (
       rw (c .store-field .ensures, route-read route)
           (ap (λ (key : ℕ). more (a .args .next) key (added (held a) (fieldOf (a .args .x)) (routeAt (fieldOf (a .args .x) .kind) (now (a .args .plan)) (a .args .at)))) (six .before .before .key-of .ensures)
-          ∙ sym (step-added _ (modeOf (a .args .strict)) _ _ _ (held a) (fieldOf (a .args .x)) (a .args .next) (a .pre .2)
+          ∙ sym (step-added _ (modeOf (a .args .strict)) _ _ _ (held a) (fieldOf (a .args .x)) (a .args .next) (a .pre .3)
           (free six)
           (in-time twelve)
           (sym (repeats-read (seven .before)) ∙ seven .if3 .left))),
-      λ k.
-          known-field (now (a .args .rates)) (now (a .args .periods)) s (a .args .at) (seven .before .route-ports .result .known) _ (fieldOf (a .args .x)) (a .args .next) (a .pre .2)
-          (λ t. rw (route-read route) at (seven .before .route-ports .ensures .1 t))
-          (sym (asked (c .before) .names-known .ensures) ∙ k),
+      record {
+        sized = seven .before .mark-named .ensures .1;
+        keeps = seven .before .mark-named .ensures .2;
+        routed = routed _ s (a .args .at) _ (fieldOf (a .args .x)) (a .args .next) (a .pre .3) (rw (route-read route) at (seven .before .mark-named .ensures .3 (seven .if3 .left)));
+      },
     )
 
 pub take-field-spec : {M : Type 1} → statement M
@@ -137,8 +135,7 @@ take-field-spec =
     (λ c κs. search needs)
     returns-2
     field-route-requires
-    route-ports-requires
+    mark-named-requires
     returns-3
-    (λ c κs. search needs)
     store-field-requires
     returns-4)

@@ -1,8 +1,8 @@
 -- `close` meets its contract: test 8, then test 9.
-use mathlib.Core.Path.{_≡_, sym}
+use mathlib.Core.Path.{_≡_, sym, _∙_}
 use mathlib.Core.Bool.{true}
 use native.Mathlib.Omega.{arith}
-use borrow.Author.Tests.{lt-ltb}
+use borrow.Author.Tests.{lt-ltb, not-true}
 use lib.ListN.{getD}
 use denote.Ref.{now}
 use Rattle.cqf.specs.Plan.{Plan}
@@ -21,40 +21,46 @@ closed c p = record { tables = p; seen = now (c .args .seen); ports = c .args .p
 headed : (c : tie.Else1) (p : Plan) → hasKey (closed (c .before .before .before) p) headerKey ≡ true
 headed c p = lt-ltb 0 (getD (now (c .before .before .before .args .seen)) headerKey 0) (omega (arith, c .if1 .left))
 
+-- the start, from past test 8
+abbrev entry : tie.Else2 → tie.Start
+entry c = c .before .before .before .before
+
 -- what was found is the first field that names a port or a flow not in these tables
-found : (c : tie.After-first-absent) (p : Plan)
-    → p .rates ≡ now (c .before .before .before .before .before .before .args .rates)
-    → p .periods ≡ now (c .before .before .before .before .before .before .args .periods)
-    → c .first-absent .result ≡ firstAbsent (p .rates) (p .periods) (now (c .before .before .before .before .before .before .args .plan))
+found : (c : tie.After-first-absent) (p : Plan) →
+    let a = entry (c .before .before .before) .args in
+    p .rates ≡ now (a .rates)
+    → p .periods ≡ now (a .periods)
+    → c .first-absent .result ≡ firstAbsent (p .rates) (p .periods) (now (a .plan))
 found c p e g = rw (e, g) (c .first-absent .ensures)
 
 returns : tie.Need-returns
-returns c = λ p e g known. sym (close-headless (now (c .before .before .before .args .plan)) (closed (c .before .before .before) p) (rw (c .if1 .taken)))
+returns c = λ p e g none. sym (close-headless (now (c .before .before .before .args .plan)) (closed (c .before .before .before) p) (rw (c .if1 .taken)))
 
 returns-2 : tie.Need-returns-2
-returns-2 c = λ p e g known. sym (close-flowless (now (c .before .before .before .before .args .plan)) (closed (c .before .before .before .before) p) (c .if2 .taken))
+returns-2 c = λ p e g none. sym (close-flowless (now (c .before .before .before .before .args .plan)) (closed (c .before .before .before .before) p) (c .if2 .taken))
 
 returns-3 : tie.Need-returns-3
-returns-3 c = λ p e g known.
-    let two = c .before in
-    let s = two .before .before .before .before in
-    sym (close-accepted (now (s .args .plan)) (closed s p) (headed (two .before) p) (two .if2 .left) (rw (e, g) (known (c .if3 .taken))))
+returns-3 c = λ p e g none.
+    let two = c .before .before in
+    let s = entry two in
+    let all = none (sym (c .before .any-absent .ensures) ∙ not-true (c .before .any-absent .result) (c .if3 .taken)) in
+    sym (close-accepted (now (s .args .plan)) (closed s p) (headed (two .before) p) (two .if2 .left) (rw (e, g) all))
 
 returns-4 : tie.Need-returns-4
-returns-4 c = λ p e g known.
+returns-4 c = λ p e g none.
     let f = found (c .before) p e g in
-    let two = c .before .before .before in
-    let s = two .before .before .before .before in
+    let two = c .before .before .before .before in
+    let s = entry two in
     rw f (sym (close-absent (now (s .args .plan)) (closed s p) (headed (two .before) p) (two .if2 .left) (rw f at (c .if4 .taken))))
 
 returns-5 : tie.Need-returns-5
-returns-5 c = λ p e g known.
+returns-5 c = λ p e g none.
     let f = found (c .before) p e g in
-    let two = c .before .before .before in
-    let s = two .before .before .before .before in
+    let two = c .before .before .before .before in
+    let s = entry two in
     sym (close-accepted (now (s .args .plan)) (closed s p) (headed (two .before) p) (two .if2 .left) (rw f at (c .if4 .left)))
 
 pub close-spec : {M : Type 1} → statement M
 close-spec =
     tie.close
-    (tie.spec (λ c. search needs) returns returns-2 returns-3 (λ c κs. search needs) returns-4 returns-5)
+    (tie.spec (λ c. search needs) returns returns-2 (λ c κs. search needs) returns-3 (λ c κs. search needs) returns-4 returns-5)

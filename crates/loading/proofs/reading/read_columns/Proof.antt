@@ -1,14 +1,15 @@
 -- `read_columns` meets its contract: test 1, then the fields. The invariant: the reading from this offset on gives what the reading from the start gives.
 use Prim.Native.Nat.{ℕ, _-_, _≤_}
 use mathlib.Core.Path.{_≡_, refl, sym, ap, _∙_, subst}
-use mathlib.Core.Bool.{Bool, true, false, true≢false}
+use mathlib.Core.Bool.{true}
 use mathlib.Core.List.{List}
 use borrow.Author.Needs.{needs}
 use borrow.Author.Tests.{not-true, not-false}
 use native.Mathlib.Omega.{arith}
-use lib.ListN.{length, replicate}
+use lib.ListN.{length, replicate, length-replicate}
 use denote.Ref.{now}
 use Rattle.cqf.specs.Bounded.{within}
+use Rattle.cqf.specs.Limits.{portSlots}
 use Rattle.cqf.specs.Plan.{Plan, noPlan}
 use Rattle.cqf.specs.Form.{Form}
 use Rattle.plan.specs.Answer.{formOf}
@@ -17,36 +18,43 @@ use Rattle.plan_reading.specs.Draft.{Draft, blank}
 use Rattle.plan_reading.specs.Reading.{Mode, Step, more, stepAt, readFrom, readForm, maxBytes}
 use Rattle.plan_reading.specs.laws.reading.PlanLength.{form-sized, form-unsized}
 use Rattle.plan_reading.specs.laws.fields.Within.{within-high}
+use Rattle.plan_reading.specs.Sized.{Sized}
+use Rattle.plan_reading.specs.laws.stores.Stored.{Flagged}
+use Rattle.plan_reading.specs.laws.stores.Tables.{sized-none}
 use Rattle.plan_reading.specs.laws.reading.Onward.{Onward, onward, read-end, read-stop, read-more}
 use Rattle.loading.specs.Answer.{modeOf}
-use Rattle.loading.specs.Loading.{draftOf, progressOf, answerOf, NamesNone, NamesKnown}
-use Rattle.loading.specs.laws.Known.{Behind, behind-next, behind-end}
+use Rattle.loading.specs.Loading.{draftOf, progressOf, answerOf, Marks, Names}
+use Rattle.loading.specs.laws.Filled.{Filled, filled-none, filled-next}
+use Rattle.loading.specs.laws.Behind.{Behind, flagged-next, behind-next, behind-end}
 use Rattle.loading.specs.declared.field.Progress.{Progress}
 use Rattle.loading.proofs.reading.read_columns.Statement.{statement}
 use Rattle.loading.proofs.reading.read_columns.Tie as tie
 
--- the fields before this offset are read, into this draft
-record Reached (form : Form) (mode : Mode) (s : List ℕ) (d : Draft) (at last : ℕ) (known : Bool) : Type 0 where
+-- the fields before this offset are read, into this draft, and the ports that their routes name are marked
+record Reached (form : Form) (mode : Mode) (s : List ℕ) (d : Draft) (named : List ℕ) (at last : ℕ) : Type 0 where
   inside : at ≤ length s
   ports : d .ports ≤ at
   flows : d .flows ≤ at
   rest : readFrom form mode (length s) s 0 0 blank ≡ readFrom form mode (length s) s at last d
-  behind : known ≡ true → Behind s d at
+  flagged : Flagged d
+  filled : Filled d
+  sized : length named ≡ portSlots
+  behind : Behind s named d at
 
 abbrev Inv-loop : tie.InvT-loop
-Inv-loop form strict plan rates₀ blockings₀ extras₀ periods₀ counts₀ lengths₀ jitters₀ hops₀ routes₀ totals₀ strictly seen₀ known₀ last₀ at₀ rates blockings extras periods counts lengths jitters hops routes totals seen known last at =
-    Reached (formOf form) (modeOf strictly) plan (draftOf totals rates blockings extras periods counts lengths jitters hops routes seen) at last known
+Inv-loop form strict plan rates₀ blockings₀ extras₀ periods₀ counts₀ lengths₀ jitters₀ hops₀ routes₀ totals₀ strictly seen₀ named₀ last₀ at₀ rates blockings extras periods counts lengths jitters hops routes totals seen named last at =
+    Reached (formOf form) (modeOf strictly) plan (draftOf totals rates blockings extras periods counts lengths jitters hops routes seen) named at last
 
 abbrev μ-loop : tie.MeasureT-loop
-μ-loop form strict plan rates₀ blockings₀ extras₀ periods₀ counts₀ lengths₀ jitters₀ hops₀ routes₀ totals₀ strictly seen₀ known₀ last₀ at₀ rates blockings extras periods counts lengths jitters hops routes totals seen known last at =
+μ-loop form strict plan rates₀ blockings₀ extras₀ periods₀ counts₀ lengths₀ jitters₀ hops₀ routes₀ totals₀ strictly seen₀ named₀ last₀ at₀ rates blockings extras periods counts lengths jitters hops routes totals seen named last at =
     length plan - at
 
 -- the states on the way, each named once: in a turn from where its columns are lent, the loop's from its end, and the start
-abbrev in-turn : tie.After-seen Inv-loop μ-loop → tie.In-loop Inv-loop μ-loop
-in-turn c = c .before .before .before .before .before .before .before .before .before .before
+abbrev in-turn : tie.After-named Inv-loop μ-loop → tie.In-loop Inv-loop μ-loop
+in-turn c = c .before .before .before .before .before .before .before .before .before .before .before
 
 abbrev at-last : tie.After-close Inv-loop μ-loop → tie.At-loop Inv-loop μ-loop
-at-last c = c .before .before .before .before .before
+at-last c = c .before .before .before .before .before .before
 
 abbrev entry : tie.At-loop Inv-loop μ-loop → tie.Start Inv-loop μ-loop
 entry c = c .before .before .before .before .before
@@ -117,9 +125,13 @@ module _ (c : tie.After-known-told Inv-loop μ-loop) where
   stepped : stepAt (form turn) (mode turn) (bytes turn) (here turn) (last turn) (held turn) ≡ more next key read
   stepped = sym (c .before .before .before .step .ensures .0) ∙ ap (stepped-as (c .before .before .before)) (c .before .next .given .1)
 
-  names-none : c .before .next .given .0 .1 .1 .1 .0 ≡ true → NamesNone (held turn .tables .rates) (held turn .tables .periods) (bytes turn) (here turn)
-  names-none =
-      subst (λ (p : Progress). NamesKnown p (held turn .tables .rates) (held turn .tables .periods) (bytes turn) (here turn)) (c .before .next .given .1)
+  -- the marks of the ports that were named, as the turn left them
+  abbrev marked : List ℕ
+  marked = c .before .before .before .step .last .1 .1 .1 .1 .1 .1 .1 .1 .1 .1 .1 .1 .1 .1 .1 .1 .0
+
+  names : Marks (turn .loop .named) marked (bytes turn) (here turn)
+  names =
+      subst (λ (p : Progress). Names p (turn .loop .named) marked (bytes turn) (here turn)) (c .before .next .given .1)
       (c .before .before .before .step .ensures .1)
 
   goes-on : Onward (bytes turn) (here turn) (held turn) next read
@@ -131,9 +143,10 @@ at-end : (c : tie.After-close Inv-loop μ-loop) →
     readForm (form l) (reading l) (bytes l) ≡ answerOf (held l .tables) (c .close .result)
 at-end c =
     let l = at-last c in
+    let end = c .before .before .before .before .before .loop-test .left in
     rest-read l
-    ∙ read-end (form l) (mode l) (bytes l) (here l) (last l) (held l) _ (c .before .before .before .before .loop-test .left)
-    ∙ sym (c .close .ensures (held l .tables) refl refl (λ k. behind-end (bytes l) (held l) (here l) (c .before .before .before .before .loop-test .left) (l .loop .inv .behind k)))
+    ∙ read-end (form l) (mode l) (bytes l) (here l) (last l) (held l) _ end
+    ∙ sym (c .close .ensures (held l .tables) refl refl (behind-end (bytes l) (l .loop .named) (held l) (here l) end (l .loop .inv .filled) (l .loop .inv .behind)))
 
 returns : tie.Need-returns Inv-loop μ-loop
 returns c =
@@ -155,7 +168,10 @@ loop-holds c =
       rest =
           ap (λ (p : Plan). readFrom (formOf (s .args .form)) (modeOf (c .strict-in .result)) (length (now (s .args .plan))) (now (s .args .plan)) 0 0 (fresh p))
           (sym (s .pre));
-      behind = λ k rates periods a b all. all;
+      flagged = length-replicate {A = ℕ} keySlots 0;
+      sized = length-replicate {A = ℕ} portSlots 0;
+      filled = filled-none _ keySlots refl (subst Sized (sym (s .pre)) sized-none);
+      behind = λ rates periods named all. all;
     }
 
 step-requires : tie.Need-step-requires Inv-loop μ-loop
@@ -163,14 +179,14 @@ step-requires c κs =
     let l = in-turn c .before in
     let i = l .loop .inv in
     let most = within-high 1 maxBytes (length (bytes l)) (sized l) in
-    (omega (arith, i .inside, i .ports, most), omega (arith, i .inside, i .flows, most))
+    (omega (arith, i .inside, i .ports, most), omega (arith, i .inside, i .flows, most), i .sized)
+
+loop-less : tie.Need-loop-less Inv-loop μ-loop
+loop-less c = omega (arith, goes-on c .forward, goes-on c .inside)
 
 -- a turn that goes on reaches the next offset
-again
-    : (c : tie.After-known-told Inv-loop μ-loop) (known : Bool)
-    → (known ≡ true → Behind (bytes (turn c)) (read c) (next c))
-    → Reached (form (turn c)) (mode (turn c)) (bytes (turn c)) (read c) (next c) (key c) known
-again c known behind =
+loop-again : tie.Need-loop-again Inv-loop μ-loop
+loop-again c =
     let l = turn c in
     let i = l .loop .inv in
     record {
@@ -178,26 +194,13 @@ again c known behind =
       ports = omega (arith, i .ports, goes-on c .ports, goes-on c .forward);
       flows = omega (arith, i .flows, goes-on c .flows, goes-on c .forward);
       rest = i .rest ∙ read-more (form l) (mode l) (bytes l) (here l) (last l) (held l) (tested c .loop-test .taken) (next c) (key c) (read c) (stepped c);
-      behind = behind;
+      flagged = flagged-next (form l) (mode l) (bytes l) (here l) (last l) (held l) (next c) (key c) (read c) (stepped c) (i .flagged);
+      filled = filled-next (form l) (mode l) (bytes l) (here l) (last l) (held l) (next c) (key c) (read c) (stepped c) (i .filled);
+      sized = names c .sized;
+      behind =
+          behind-next (form l) (mode l) (bytes l) (here l) (last l) (held l) (next c) (key c) (read c) (l .loop .named) (marked c) (stepped c) (i .flagged)
+          (names c) (i .behind);
     }
-
-loop-less : tie.Need-loop-less Inv-loop μ-loop
-loop-less c = omega (arith, goes-on (c .before) .forward, goes-on (c .before) .inside)
-
-loop-again : tie.Need-loop-again Inv-loop μ-loop
-loop-again c = again (c .before) false (λ k. absurd (true≢false (sym k)))
-
-loop-less-2 : tie.Need-loop-less-2 Inv-loop μ-loop
-loop-less-2 c = omega (arith, goes-on (c .before) .forward, goes-on (c .before) .inside)
-
-loop-again-2 : tie.Need-loop-again-2 Inv-loop μ-loop
-loop-again-2 c =
-    let t = c .before in
-    let l = turn t in
-    again t (l .loop .known)
-    (λ k.
-    behind-next (form l) (mode l) (bytes l) (here l) (last l) (held l) (next t) (key t) (read t) (stepped t) (names-none t (not-false _ (c .if2 .left)))
-    (l .loop .inv .behind k))
 
 returns-2 : tie.Need-returns-2 Inv-loop μ-loop
 returns-2 c =
@@ -225,8 +228,6 @@ read-columns-spec =
     (λ c. search needs)
     loop-less
     loop-again
-    loop-less-2
-    loop-again-2
     (λ c. search needs)
     returns-2
     (λ c κs. tt)

@@ -1,9 +1,7 @@
--- `route_ports` meets its contract. The loop's invariant: every port passed is new, `seen` has 1 for each of them, and each is in the plan
--- where that is said.
+-- `mark_named` meets its contract. The loop's invariant: every port passed is new, `seen` has 1 for each of them, and each is marked as named.
 use mathlib.Core.Path.{_≡_, refl, sym, ap, _∙_}
 use mathlib.Core.Bool.{true, false, not, true≢false}
 use mathlib.Core.List.{List, []}
-use mathlib.Core.Logic.{⊎-elim}
 use Prim.Native.Nat.{ℕ, _+_, _-_, _≤_, _<_}
 use native.Mathlib.Omega.{arith}
 use native.Mathlib.Nat.{zero-add}
@@ -20,21 +18,24 @@ use Rattle.plan.specs.laws.Route.{route-length}
 use Rattle.plan_reading.specs.laws.fields.Within.{within-low, within-high}
 use Rattle.tables.specs.Columns.{Marked}
 use Rattle.tables.specs.laws.Marks.{mark-next, marked-new, marked-again}
-use Rattle.loading.specs.laws.Known.{every-next}
+use Rattle.loading.specs.Loading.{Covers}
+use Rattle.loading.specs.laws.Covers.{covers-set, every-marked}
 use Rattle.loading.specs.laws.Twice.{passes, sublist-all, distinct-by, repeats-at}
-use Rattle.loading.proofs.repeat.route_ports.Statement.{statement}
-use Rattle.loading.proofs.repeat.route_ports.Tie as tie
+use Rattle.loading.proofs.repeat.mark_named.Statement.{statement}
+use Rattle.loading.proofs.repeat.mark_named.Tie as tie
 
 abbrev Inv-loop : tie.InvT-loop
-Inv-loop route rates hops seen₀ known₀ i₀ seen known i =
+Inv-loop route named₀ hops seen₀ i₀ named seen i =
     (i ≤ hops)
     × (length seen ≡ portSlots)
     × (allTo i (passes (routePorts route)) ≡ true)
     × Marked [] seen (sublist (routePorts route) 0 i) (λ _. 1)
-    × (known ≡ true → every (portIn rates) (sublist (routePorts route) 0 i) ≡ true)
+    × (length named ≡ portSlots)
+    × Covers named₀ named
+    × (every (portIn named) (sublist (routePorts route) 0 i) ≡ true)
 
 abbrev μ-loop : tie.MeasureT-loop
-μ-loop route rates hops seen₀ known₀ i₀ seen known i = hops - i
+μ-loop route named₀ hops seen₀ i₀ named seen i = hops - i
 
 -- the port of a turn: its place in the route, its number and its range
 module _ (c : tie.After-low-byte Inv-loop μ-loop) where
@@ -52,7 +53,7 @@ module _ (c : tie.After-low-byte Inv-loop μ-loop) where
   inside = omega (arith, route-length bytes, c .before .before .before .route-len .ensures)
 
   in-range : portOk (getD (routePorts bytes) (0 + at) 0) ≡ true
-  in-range = every-at portOk (routePorts bytes) (c .before .before .before .before .before .pre) (0 + at) (omega (arith, inside))
+  in-range = every-at portOk (routePorts bytes) (c .before .before .before .before .before .pre .0) (0 + at) (omega (arith, inside))
 
   low : 1 ≤ getD (routePorts bytes) (0 + at) 0
   low = within-low 1 portSlots _ in-range
@@ -62,10 +63,10 @@ module _ (c : tie.After-low-byte Inv-loop μ-loop) where
 
 loop-holds : tie.Need-loop-holds Inv-loop μ-loop
 unfolding allTo elem sublist every
-loop-holds c = (omega arith, refl, refl, λ q h. getD-replicate 64 q 0 0 h, λ h. refl)
+loop-holds c = (omega arith, refl, refl, λ q h. getD-replicate 64 q 0 0 h, c .before .before .pre .1, λ q h. h, refl)
 
 low-byte-requires : tie.Need-low-byte-requires Inv-loop μ-loop
-low-byte-requires c κs = (omega (arith, c .before .before .route-len .ensures, c .loop-test .taken), c .before .before .before .before .pre)
+low-byte-requires c κs = (omega (arith, c .before .before .route-len .ensures, c .loop-test .taken), c .before .before .before .before .pre .0)
 
 sub-slot : tie.Need-sub-slot Inv-loop μ-loop
 sub-slot c = omega (arith, told c, low c)
@@ -80,34 +81,34 @@ returns : tie.Need-returns Inv-loop μ-loop
 returns c =
     let t = c .before in
     let a = t .before .before in (
-      sym (ap not (repeats-at _ (a .before .before .before .pre) (at t) (inside t)
+      sym (ap not (repeats-at _ (a .before .before .before .pre .0) (at t) (inside t)
           (marked-again (a .loop .seen) _ _ (a .loop .inv .3) (low t) (high t) (rw (told t) at (c .if1 .taken))))),
-      λ e. absurd (true≢false (sym e)),
+      a .loop .inv .4,
+      a .loop .inv .5,
+      λ e. absurd (true≢false e),
     )
 
 array-write-seen : tie.Need-array-write-seen Inv-loop μ-loop
 array-write-seen c = omega (arith, told (c .before), low (c .before), high (c .before))
 
-element-copy-out-if2 : tie.Need-element-copy-out-if2 Inv-loop μ-loop
-element-copy-out-if2 c = omega (arith, told (c .before), low (c .before), high (c .before))
+element-write-named : tie.Need-element-write-named Inv-loop μ-loop
+element-write-named c = omega (arith, told (c .before), low (c .before), high (c .before))
 
 loop-again : tie.Need-loop-again Inv-loop μ-loop
 loop-again c =
-    let past = c .before .before in
-    let t = past .before in
+    let t = c .before in
     let a = t .before .before in
-    let rates = now (a .before .before .before .args .rates) in
+    let i = a .loop .inv in
     let r = routePorts (bytes t) in
-    let new : elem (getD r (0 + at t) 0) (sublist r 0 (at t)) ≡ false = marked-new (a .loop .seen) _ _ (a .loop .inv .3) (low t) (high t) (rw (told t) at (past .if1 .left)) in (
+    let n = getD r (0 + at t) 0 in
+    let new : elem n (sublist r 0 (at t)) ≡ false = marked-new (a .loop .seen) _ _ (i .3) (low t) (high t) (rw (told t) at (c .if1 .left)) in (
       omega arith,
-      simp length-set (a .loop .inv .1),
-      allTo-next (at t) (passes r) (a .loop .inv .2) (rw (in-range t, new)),
-      rw (told t) (mark-next [] (a .loop .seen) r 0 (at t) (λ _. 1) 1 (a .loop .inv .3) (low t) (omega (arith, high t, a .loop .inv .1)) new refl),
-      λ k.
-          ⊎-elim
-          (λ w. absurd (true≢false (sym k ∙ w .1)))
-          (λ w. every-next rates r (at t) (a .loop .inv .4 (sym (w .1) ∙ k)) (in-range t) (omega (arith, rw (told t) at (w .0 .left))))
-          (c .if2 .came),
+      simp length-set (i .1),
+      allTo-next (at t) (passes r) (i .2) (rw (in-range t, new)),
+      rw (told t) (mark-next [] (a .loop .seen) r 0 (at t) (λ _. 1) 1 (i .3) (low t) (omega (arith, high t, i .1)) new refl),
+      simp length-set (i .4),
+      λ q h. covers-set (a .loop .named) _ 1 (omega arith) q (i .5 q h),
+      rw (told t) (every-marked (a .loop .named) r (at t) (i .6) (in-range t) (i .4)),
     )
 
 returns-2 : tie.Need-returns-2 Inv-loop μ-loop
@@ -115,11 +116,15 @@ returns-2 c =
     let a = c .before in
     let s = a .before .before .before in
     let r = routePorts (now (s .args .route)) in
-    let all : a .loop .i ≡ length r = omega (arith, route-length (now (s .args .route)), a .before .route-len .ensures, a .loop .inv .0) in
-    (sym (ap not (distinct-by _ (s .pre) ∙ (rw all at (a .loop .inv .2)))), λ h. sym (ap (every (portIn (now (s .args .rates)))) (sublist-all r)) ∙ (rw all at (a .loop .inv .4 h)))
+    let all : a .loop .i ≡ length r = omega (arith, route-length (now (s .args .route)), a .before .route-len .ensures, a .loop .inv .0) in (
+      sym (ap not (distinct-by _ (s .pre .0) ∙ (rw all at (a .loop .inv .2)))),
+      a .loop .inv .4,
+      a .loop .inv .5,
+      λ e. sym (ap (every (portIn (a .loop .named))) (sublist-all r)) ∙ (rw all at (a .loop .inv .6)),
+    )
 
-pub route-ports-spec : {M : Type 1} → statement M
-route-ports-spec =
+pub mark-named-spec : {M : Type 1} → statement M
+mark-named-spec =
     tie.close
     (tie.spec
     Inv-loop
@@ -132,8 +137,7 @@ route-ports-spec =
     array-read-if1
     returns
     array-write-seen
-    (λ c. search needs)
-    element-copy-out-if2
+    element-write-named
     (λ c. search needs)
     (λ c. search needs)
     loop-again
