@@ -220,21 +220,22 @@ pub fn usable() -> Vec<Case> {
     cases
 }
 
-/// The plans whose load is measured. The second and third differ in the field of port 64, which the third lacks (refusal 9); the
-/// last has jitter for every flow, extra bytes for every port and clocks too.
+/// The plans whose load is measured. The third is the second without the field of port 64 (refusal 9), the fourth the second with its
+/// ports behind its flows; the last has jitter for every flow, extra bytes for every port and clocks too.
 pub fn loads() -> Vec<(&'static str, Vec<u8>)> {
     let longest = large(0.6);
     let port_64 = 11 + 63 * 11;
     let lacking = [&longest[..port_64], &longest[port_64 + 11..]].concat();
+    let ports_last = [&longest[..11], &longest[port_64 + 11..], &longest[11..port_64 + 11]].concat();
     let mut every_field = late_clocks(0.6);
     (1..=64).for_each(|number| extra(&mut every_field, number, number));
-    vec![("K", k()), ("longest", longest), ("longest-lacking", lacking), ("every-field", every_field)]
+    vec![("K", k()), ("longest", longest), ("longest-lacking", lacking), ("ports-last", ports_last), ("every-field", every_field)]
 }
 
 /// The plans whose text is measured: K, one with many short routes, and the longest of either form.
 pub fn texts() -> Vec<(&'static str, Vec<u8>)> {
     let mut plans = loads();
-    plans.retain(|plan| plan.0 != "longest-lacking");
+    plans.retain(|plan| !matches!(plan.0, "longest-lacking" | "ports-last"));
     plans.insert(1, ("149-flows", spread()));
     plans.push(("newer-longest", newer::longest()));
     plans

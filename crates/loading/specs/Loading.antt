@@ -1,13 +1,13 @@
 -- The load's working values, as the definitions of the reading have them.
 use Prim.Native.Nat.{ℕ, _≤_, _<_}
 use mathlib.Core.Path.{_≡_}
-use mathlib.Core.Bool.{Bool, false, _||_}
+use mathlib.Core.Bool.{Bool, true, false, _||_}
 use mathlib.Core.List.{List}
 use lib.Dec.{ltb}
 use lib.ListN.{length, getD, take, drop}
-use Rattle.cqf.specs.Bounded.{anyTo}
+use Rattle.cqf.specs.Bounded.{anyTo, every}
 use Rattle.cqf.specs.Limits.{portSlots, flowSlots}
-use Rattle.cqf.specs.Plan.{Plan}
+use Rattle.cqf.specs.Plan.{Plan, portIn}
 use Rattle.numbers.specs.Clock.{clockOf}
 use Rattle.plan.specs.Answer.{faultNumber}
 use Rattle.plan_reading.specs.Key.{portKeys, flowKeys, extraKeys, jitterKeys}
@@ -52,11 +52,21 @@ answerOf p (LoadAnswer.Refused fault offset) = rejected (faultNumber fault) offs
 abbrev pub Covers : (l m : List ℕ) → Type 0
 Covers l m = (q : ℕ) → 0 < getD l q 0 → 0 < getD m q 0
 
--- of a field that was read: the ports that were marked as named still are, and each port of its route is
+-- no number of the one is above that of the other
+abbrev pub AtMost : (l m : List ℕ) → Type 0
+AtMost l m = (q : ℕ) → getD l q 0 ≤ getD m q 0
+
+-- nothing is marked but what was and the ports of this route: a list that is no less than what was, and has some number for each of these
+-- ports, is no less than what is
+abbrev pub MarksOnly : (before after route : List ℕ) → Type 0
+MarksOnly before after route = (m : List ℕ) → AtMost before m → every (portIn m) route ≡ true → AtMost after m
+
+-- of a field that was read: the ports that were marked as named still are, and so are those of its route, and no other
 pub record Marks (before after bytes : List ℕ) (at : ℕ) : Type 0 where
   pub sized : length after ≡ portSlots
   pub keeps : Covers before after
   pub routed : namesAbsent after bytes at ≡ false
+  pub only : (m : List ℕ) → AtMost before m → namesAbsent m bytes at ≡ false → AtMost after m
 
 abbrev pub Names : Progress → (before after bytes : List ℕ) (at : ℕ) → Type 0
 Names (Progress.More next key totals) before after s at = Marks before after s at
@@ -77,11 +87,11 @@ anyAbsent named seen =
     || (lacking (marksOf seen extraKeys portSlots) (marksOf seen portKeys portSlots)
     || lacking (marksOf seen jitterKeys flowSlots) (marksOf seen flowKeys flowSlots))
 
--- the answer of the tests 8 and 9, for any tables with these rates and periods, where test 9 finds none unless something is absent
+-- the answer of the tests 8 and 9, for any tables with these rates and periods, where test 9 finds a field exactly if something is absent
 abbrev pub ClosesWith : (bytes named rates periods seen : List ℕ) (ports flows : ℕ) → LoadAnswer → Type 0
 ClosesWith bytes named rates periods seen ports flows answer =
     (p : Plan)
     → p .rates ≡ rates
     → p .periods ≡ periods
-    → (anyAbsent named seen ≡ false → length bytes ≤ firstAbsent rates periods bytes)
+    → anyAbsent named seen ≡ ltb (firstAbsent rates periods bytes) (length bytes)
     → answerOf p answer ≡ closing bytes (record { tables = p; seen = seen; ports = ports; flows = flows })

@@ -58,14 +58,10 @@ fn close<'a>(
             offset: plan.len(),
         };
     }
-    if !any_absent(named, seen) {
-        return LoadAnswer::Held { ports, flows };
-    }
-    let offset = first_absent(plan, rates, periods);
-    if offset < plan.len() {
+    if any_absent(named, seen) {
         return LoadAnswer::Refused {
             fault: Fault::NotInPlan,
-            offset,
+            offset: first_absent(plan, rates, periods),
         };
     }
     LoadAnswer::Held { ports, flows }

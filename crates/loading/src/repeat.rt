@@ -17,7 +17,7 @@ ghost use Rattle.cqf.specs.Form.{Form};
 ghost use Rattle.plan.specs.Field.{field, fieldAt, routeLength, routePorts, routePort};
 ghost use Rattle.plan.specs.Answer.{fieldOf};
 ghost use Rattle.plan_reading.specs.Reading.{routeAt};
-ghost use Rattle.loading.specs.Loading.{Covers};
+ghost use Rattle.loading.specs.Loading.{Covers, MarksOnly};
 
 // The bytes of the route of the field that was read at this offset: those behind its other numbers, none where it has no route.
 pub(crate) fn field_route(plan: &[u8], at: usize, x: Field, next: usize) -> &[u8]
@@ -44,6 +44,7 @@ pub(crate) fn mark_named(route: &[u8], named: &mut [u8; PORTS]) -> bool
         × (length (now (named .exit)) ≡ portSlots)
         × Covers (now (named .entry)) (now (named .exit))
         × (r ≡ false → every (portIn (now (named .exit))) (routePorts (now (route .entry))) ≡ true)
+        × MarksOnly (now (named .entry)) (now (named .exit)) (routePorts (now (route .entry)))
         ⌝ }
 {
     let hops = route_len(route);

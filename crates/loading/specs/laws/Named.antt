@@ -1,6 +1,6 @@
 -- What the fields read so far name, by what is marked for them.
-use Prim.Native.Nat.{ℕ, _<_}
-use mathlib.Core.Path.{_≡_, refl, sym, subst}
+use Prim.Native.Nat.{ℕ, _+_, _<_}
+use mathlib.Core.Path.{_≡_, refl, sym, ap, _∙_, subst}
 use mathlib.Core.List.{List}
 use mathlib.Core.Bool.{Bool, true, false, _||_, true≢false}
 use native.Mathlib.Omega.{arith}
@@ -18,10 +18,10 @@ use Rattle.plan_reading.specs.laws.fields.Passes.{field-passes}
 use Rattle.plan_reading.specs.laws.fields.Ranged.{InRange, in-range}
 use Rattle.plan_reading.specs.laws.reading.Absent.{NamedThere}
 use Rattle.plan_reading.specs.laws.stores.Stored.{Flagged}
-use Rattle.loading.specs.Loading.{Covers, Marks, marksOf, lacking, anyAbsent}
-use Rattle.loading.specs.laws.Covers.{covers-set, covers-marks, covers-all}
+use Rattle.loading.specs.Loading.{Covers, AtMost, Marks, marksOf, lacking, anyAbsent}
+use Rattle.loading.specs.laws.Covers.{covers-set, covers-marks, covers-all, most-mark, lacking-none}
 use Rattle.loading.specs.laws.Filled.{Filled}
-use Rattle.loading.specs.laws.Marked.{covers-flow, marked-kind}
+use Rattle.loading.specs.laws.Marked.{covers-flow, marked-kind, Keyed, extra-there, jitter-there}
 
 -- what was named is in a plan with these rates and periods
 pub record NamedIn (named seen rates periods : List ℕ) : Type 0 where
@@ -46,6 +46,24 @@ named-in named d f e =
     none-of : (a b : Bool) → a || b ≡ false → (a ≡ false) × (b ≡ false)
     none-of true b e = absurd (true≢false e)
     none-of false b e = (refl, e)
+
+-- what is marked is at most what is in these lists
+pub record MarkedIn (named seen ports flows : List ℕ) : Type 0 where
+  pub named-most : AtMost named ports
+  pub extras : AtMost (marksOf seen extraKeys portSlots) ports
+  pub jitters : AtMost (marksOf seen jitterKeys flowSlots) flows
+
+-- where that is so of the flags of the ports and flows that were read, nothing is absent
+pub none-absent
+    : (named seen : List ℕ)
+    → MarkedIn named seen (marksOf seen portKeys portSlots) (marksOf seen flowKeys flowSlots)
+    → anyAbsent named seen ≡ false
+none-absent named seen c =
+    rw (
+      lacking-none named (marksOf seen portKeys portSlots) (c .named-most),
+      lacking-none (marksOf seen extraKeys portSlots) (marksOf seen portKeys portSlots) (c .extras),
+      lacking-none (marksOf seen jitterKeys flowSlots) (marksOf seen flowKeys flowSlots) (c .jitters),
+    )
 
 -- one field more
 module _
@@ -81,4 +99,25 @@ module _
         ports = λ q h. c .ports q (marks .keeps q h);
         extras = λ q h. c .extras q (covers-marks (d .seen) said extraKeys portSlots back q h);
         jitters = λ q h. c .jitters q (covers-marks (d .seen) said jitterKeys flowSlots back q h);
+      }
+
+  -- all that is marked is there where what it names is
+  pub marked-after
+      : (ports flows : List ℕ)
+      → Covers rates ports
+      → Covers periods flows
+      → NamedThere rates periods s at
+      → MarkedIn named (d .seen) ports flows
+      → MarkedIn wider said ports flows
+  marked-after ports flows c g t m =
+      let f = field-passes form s at x next stands .passes in
+      let keyed : (key q : ℕ) → key + q ≡ keyOf x → Keyed rates periods s at key q (x .kind) = λ key q e. (f .kind, ranged, e ∙ sym (ap keyOf (f .numbers))) in
+      record {
+        named-most = marks .only ports (m .named-most) (covers-flow rates ports s at c (t .routes));
+        extras =
+            most-mark (d .seen) (keyOf x) extraKeys portSlots ports (m .extras)
+            (λ q l e. c q (extra-there rates periods s at q (x .kind) l (keyed extraKeys q e) (t .extras)));
+        jitters =
+            most-mark (d .seen) (keyOf x) jitterKeys flowSlots flows (m .jitters)
+            (λ q l e. g q (jitter-there rates periods s at q (x .kind) l (keyed jitterKeys q e) (t .jitters)));
       }

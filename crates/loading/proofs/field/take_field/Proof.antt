@@ -13,7 +13,7 @@ use Rattle.plan_reading.specs.laws.fields.Found.{found-numbers, found-route}
 use Rattle.plan_reading.specs.laws.fields.Kinds.{key-below}
 use Rattle.plan_reading.specs.laws.reading.Steps.{step-taken, step-late, step-repeats, step-added}
 use Rattle.loading.specs.Answer.{modeOf}
-use Rattle.loading.specs.laws.Marked.{routed}
+use Rattle.loading.specs.laws.Marked.{routed, names-there}
 use Rattle.loading.specs.Loading.{draftOf}
 use borrow.Author.Needs.{needs}
 use Rattle.loading.proofs.field.take_field.Statement.{statement}
@@ -122,6 +122,9 @@ returns-4 c =
         sized = seven .before .mark-named .ensures .1;
         keeps = seven .before .mark-named .ensures .2;
         routed = routed _ s (a .args .at) _ (fieldOf (a .args .x)) (a .args .next) (a .pre .3) (rw (route-read route) at (seven .before .mark-named .ensures .3 (seven .if3 .left)));
+        only = λ m before named.
+            seven .before .mark-named .ensures .4 m before
+            (rw (route-read route) (names-there m s (a .args .at) _ (fieldOf (a .args .x)) (a .args .next) (a .pre .3) named));
       },
     )
 

@@ -1,9 +1,10 @@
 -- `close` meets its contract: test 8, then test 9.
+use Prim.Native.Nat.{_≤_, _<_}
 use mathlib.Core.Path.{_≡_, sym, _∙_}
 use mathlib.Core.Bool.{true}
 use native.Mathlib.Omega.{arith}
-use borrow.Author.Tests.{lt-ltb, not-true}
-use lib.ListN.{getD}
+use borrow.Author.Tests.{lt-ltb, ltb-true, ltb-false}
+use lib.ListN.{length, getD}
 use denote.Ref.{now}
 use Rattle.cqf.specs.Plan.{Plan}
 use Rattle.plan_reading.specs.Key.{headerKey}
@@ -34,33 +35,30 @@ found : (c : tie.After-first-absent) (p : Plan) →
 found c p e g = rw (e, g) (c .first-absent .ensures)
 
 returns : tie.Need-returns
-returns c = λ p e g none. sym (close-headless (now (c .before .before .before .args .plan)) (closed (c .before .before .before) p) (rw (c .if1 .taken)))
+returns c = λ p e g decides. sym (close-headless (now (c .before .before .before .args .plan)) (closed (c .before .before .before) p) (rw (c .if1 .taken)))
 
 returns-2 : tie.Need-returns-2
-returns-2 c = λ p e g none. sym (close-flowless (now (c .before .before .before .before .args .plan)) (closed (c .before .before .before .before) p) (c .if2 .taken))
+returns-2 c = λ p e g decides. sym (close-flowless (now (c .before .before .before .before .args .plan)) (closed (c .before .before .before .before) p) (c .if2 .taken))
 
 returns-3 : tie.Need-returns-3
-returns-3 c = λ p e g none.
-    let two = c .before .before in
+returns-3 c = λ p e g decides.
+    let f = found c p e g in
+    let past = c .before in
+    let two = past .before .before in
     let s = entry two in
-    let all = none (sym (c .before .any-absent .ensures) ∙ not-true (c .before .any-absent .result) (c .if3 .taken)) in
-    sym (close-accepted (now (s .args .plan)) (closed s p) (headed (two .before) p) (two .if2 .left) (rw (e, g) all))
+    let some : firstAbsent (p .rates) (p .periods) (now (s .args .plan)) < length (now (s .args .plan)) =
+    rw (e, g) (ltb-true _ _ (sym decides ∙ sym (past .before .any-absent .ensures) ∙ past .if3 .taken)) in
+    rw f (sym (close-absent (now (s .args .plan)) (closed s p) (headed (two .before) p) (two .if2 .left) some))
 
 returns-4 : tie.Need-returns-4
-returns-4 c = λ p e g none.
-    let f = found (c .before) p e g in
-    let two = c .before .before .before .before in
+returns-4 c = λ p e g decides.
+    let two = c .before .before in
     let s = entry two in
-    rw f (sym (close-absent (now (s .args .plan)) (closed s p) (headed (two .before) p) (two .if2 .left) (rw f at (c .if4 .taken))))
-
-returns-5 : tie.Need-returns-5
-returns-5 c = λ p e g none.
-    let f = found (c .before) p e g in
-    let two = c .before .before .before .before in
-    let s = entry two in
-    sym (close-accepted (now (s .args .plan)) (closed s p) (headed (two .before) p) (two .if2 .left) (rw f at (c .if4 .left)))
+    let none : length (now (s .args .plan)) ≤ firstAbsent (p .rates) (p .periods) (now (s .args .plan)) =
+    rw (e, g) (ltb-false _ _ (sym decides ∙ sym (c .before .any-absent .ensures) ∙ c .if3 .left)) in
+    sym (close-accepted (now (s .args .plan)) (closed s p) (headed (two .before) p) (two .if2 .left) none)
 
 pub close-spec : {M : Type 1} → statement M
 close-spec =
     tie.close
-    (tie.spec (λ c. search needs) returns returns-2 (λ c κs. search needs) returns-3 (λ c κs. search needs) returns-4 returns-5)
+    (tie.spec (λ c. search needs) returns returns-2 (λ c κs. search needs) (λ c κs. search needs) returns-3 returns-4)

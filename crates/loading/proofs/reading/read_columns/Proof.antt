@@ -6,7 +6,7 @@ use mathlib.Core.List.{List}
 use borrow.Author.Needs.{needs}
 use borrow.Author.Tests.{not-true, not-false}
 use native.Mathlib.Omega.{arith}
-use lib.ListN.{length, replicate, length-replicate}
+use lib.ListN.{length, getD, replicate, length-replicate}
 use denote.Ref.{now}
 use Rattle.cqf.specs.Bounded.{within}
 use Rattle.cqf.specs.Limits.{portSlots}
@@ -21,11 +21,12 @@ use Rattle.plan_reading.specs.laws.fields.Within.{within-high}
 use Rattle.plan_reading.specs.Sized.{Sized}
 use Rattle.plan_reading.specs.laws.stores.Stored.{Flagged}
 use Rattle.plan_reading.specs.laws.stores.Tables.{sized-none}
+use Rattle.plan_reading.specs.laws.stores.Columns.{rate-column, period-column}
 use Rattle.plan_reading.specs.laws.reading.Onward.{Onward, onward, read-end, read-stop, read-more}
 use Rattle.loading.specs.Answer.{modeOf}
 use Rattle.loading.specs.Loading.{draftOf, progressOf, answerOf, Marks, Names}
 use Rattle.loading.specs.laws.Filled.{Filled, filled-none, filled-next}
-use Rattle.loading.specs.laws.Behind.{Behind, flagged-next, behind-next, behind-end}
+use Rattle.loading.specs.laws.Behind.{Behind, flagged-next, behind-none, behind-next, behind-end}
 use Rattle.loading.specs.declared.field.Progress.{Progress}
 use Rattle.loading.proofs.reading.read_columns.Statement.{statement}
 use Rattle.loading.proofs.reading.read_columns.Tie as tie
@@ -170,8 +171,9 @@ loop-holds c =
           (sym (s .pre));
       flagged = length-replicate {A = ℕ} keySlots 0;
       sized = length-replicate {A = ℕ} portSlots 0;
-      filled = filled-none _ keySlots refl (subst Sized (sym (s .pre)) sized-none);
-      behind = λ rates periods named all. all;
+      filled = filled-none _ keySlots refl (subst Sized (sym (s .pre)) sized-none)
+          (λ q. ap (λ (p : Plan). getD (p .rates) q 0) (s .pre) ∙ rate-column .empty q) (λ f. ap (λ (p : Plan). getD (p .periods) f 0) (s .pre) ∙ period-column .empty f);
+      behind = behind-none (now (s .args .plan)) _ portSlots keySlots refl;
     }
 
 step-requires : tie.Need-step-requires Inv-loop μ-loop
@@ -195,7 +197,7 @@ loop-again c =
       flows = omega (arith, i .flows, goes-on c .flows, goes-on c .forward);
       rest = i .rest ∙ read-more (form l) (mode l) (bytes l) (here l) (last l) (held l) (tested c .loop-test .taken) (next c) (key c) (read c) (stepped c);
       flagged = flagged-next (form l) (mode l) (bytes l) (here l) (last l) (held l) (next c) (key c) (read c) (stepped c) (i .flagged);
-      filled = filled-next (form l) (mode l) (bytes l) (here l) (last l) (held l) (next c) (key c) (read c) (stepped c) (i .filled);
+      filled = filled-next (form l) (mode l) (bytes l) (here l) (last l) (held l) (next c) (key c) (read c) (stepped c) (i .flagged) (i .filled);
       sized = names c .sized;
       behind =
           behind-next (form l) (mode l) (bytes l) (here l) (last l) (held l) (next c) (key c) (read c) (l .loop .named) (marked c) (stepped c) (i .flagged)

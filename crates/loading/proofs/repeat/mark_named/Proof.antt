@@ -18,8 +18,8 @@ use Rattle.plan.specs.laws.Route.{route-length}
 use Rattle.plan_reading.specs.laws.fields.Within.{within-low, within-high}
 use Rattle.tables.specs.Columns.{Marked}
 use Rattle.tables.specs.laws.Marks.{mark-next, marked-new, marked-again}
-use Rattle.loading.specs.Loading.{Covers}
-use Rattle.loading.specs.laws.Covers.{covers-set, every-marked}
+use Rattle.loading.specs.Loading.{Covers, MarksOnly}
+use Rattle.loading.specs.laws.Covers.{covers-set, set-most, port-there, every-marked}
 use Rattle.loading.specs.laws.Twice.{passes, sublist-all, distinct-by, repeats-at}
 use Rattle.loading.proofs.repeat.mark_named.Statement.{statement}
 use Rattle.loading.proofs.repeat.mark_named.Tie as tie
@@ -33,6 +33,7 @@ Inv-loop route named₀ hops seen₀ i₀ named seen i =
     × (length named ≡ portSlots)
     × Covers named₀ named
     × (every (portIn named) (sublist (routePorts route) 0 i) ≡ true)
+    × MarksOnly named₀ named (routePorts route)
 
 abbrev μ-loop : tie.MeasureT-loop
 μ-loop route named₀ hops seen₀ i₀ named seen i = hops - i
@@ -63,7 +64,7 @@ module _ (c : tie.After-low-byte Inv-loop μ-loop) where
 
 loop-holds : tie.Need-loop-holds Inv-loop μ-loop
 unfolding allTo elem sublist every
-loop-holds c = (omega arith, refl, refl, λ q h. getD-replicate 64 q 0 0 h, c .before .before .pre .1, λ q h. h, refl)
+loop-holds c = (omega arith, refl, refl, λ q h. getD-replicate 64 q 0 0 h, c .before .before .pre .1, λ q h. h, refl, λ m before there. before)
 
 low-byte-requires : tie.Need-low-byte-requires Inv-loop μ-loop
 low-byte-requires c κs = (omega (arith, c .before .before .route-len .ensures, c .loop-test .taken), c .before .before .before .before .pre .0)
@@ -86,6 +87,7 @@ returns c =
       a .loop .inv .4,
       a .loop .inv .5,
       λ e. absurd (true≢false e),
+      a .loop .inv .7,
     )
 
 array-write-seen : tie.Need-array-write-seen Inv-loop μ-loop
@@ -109,6 +111,9 @@ loop-again c =
       simp length-set (i .4),
       λ q h. covers-set (a .loop .named) _ 1 (omega arith) q (i .5 q h),
       rw (told t) (every-marked (a .loop .named) r (at t) (i .6) (in-range t) (i .4)),
+      λ m before there.
+          rw (told t)
+          (set-most (a .loop .named) m (n - 1) (i .7 m before there) (port-there m n (every-at (portIn m) r there (0 + at t) (omega (arith, inside t))))),
     )
 
 returns-2 : tie.Need-returns-2 Inv-loop μ-loop
@@ -121,6 +126,7 @@ returns-2 c =
       a .loop .inv .4,
       a .loop .inv .5,
       λ e. sym (ap (every (portIn (a .loop .named))) (sublist-all r)) ∙ (rw all at (a .loop .inv .6)),
+      a .loop .inv .7,
     )
 
 pub mark-named-spec : {M : Type 1} → statement M
