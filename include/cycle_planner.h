@@ -13,7 +13,7 @@
  * demands in bits on the wire, spares in thousandths of a bit.
  *
  * Stack of a call, with what the functions of this header take: a load 11.6 KB (1.2 planners), a question up
- * to 1.5 KB, cp_upgrade and cp_downgrade 11.2 KB, cp_encode 26 KB. No heap. The library keeps nothing between calls and has no data of its own:
+ * to 1.5 KB, cp_upgrade and cp_downgrade 11.3 KB, cp_encode 26 KB. No heap. The library keeps nothing between calls and has no data of its own:
  * calls are re-entrant, and may be made from several tasks at once, also about one planner as long as none of them loads or clears it. */
 #ifndef CYCLE_PLANNER_H
 #define CYCLE_PLANNER_H

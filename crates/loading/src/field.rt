@@ -56,7 +56,8 @@ fn is_late(strict: bool, field: Field, last: usize) -> bool
     key_of(field) < last
 }
 
-// A field that passed the tests 2 to 5: the tests 6, 12 and 7, and the field stored, in a plan of this form. last is the key of the field in front of it.
+// A field that passed the tests 2 to 5: the tests 6, 12 and 7, and the field stored, in a plan of this form. last is the key of the field in front of it;
+// named has a mark for each port that a route names.
 fn take_field(
     form: Form,
     strict: bool,

@@ -10,7 +10,7 @@ use lib.ListN.{length, getD, replicate, length-replicate}
 use denote.Ref.{now}
 use Rattle.cqf.specs.Bounded.{within}
 use Rattle.cqf.specs.Limits.{portSlots}
-use Rattle.cqf.specs.Plan.{Plan, noPlan}
+use Rattle.cqf.specs.Plan.{Plan}
 use Rattle.cqf.specs.Form.{Form}
 use Rattle.plan.specs.Answer.{formOf}
 use Rattle.plan_reading.specs.Key.{keySlots}

@@ -8,7 +8,7 @@ use native.Mathlib.Nat.{zero-add}
 use lib.ListN.{length, getD, length-set, getD-replicate}
 use borrow.Author.Needs.{needs}
 use denote.Ref.{now}
-use Rattle.cqf.specs.Bounded.{allTo, elem, every, distinct, sublist}
+use Rattle.cqf.specs.Bounded.{allTo, elem, every, sublist}
 use Rattle.cqf.specs.Limits.{portSlots, portOk}
 use Rattle.cqf.specs.Plan.{portIn}
 use Rattle.cqf.specs.laws.Bounds.{allTo-next}
