@@ -1,4 +1,6 @@
 // The number of each answer.
+#![tactic(auto)]
+
 mod number;
 
 pub use number::{

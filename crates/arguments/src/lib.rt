@@ -1,4 +1,6 @@
 // The arguments that a program is started with: words, and numbers in decimal digits. The program's own name is the one at 0.
+#![tactic(auto)]
+
 mod digits; // digits.rt: a number written in decimal digits
 mod word; // word.rt: whether a text is a word
 

@@ -9,7 +9,7 @@ use tables::PORTS;
 const MOST_SLACK: i64 = 9_223_372_036_854_775_807;
 
 // The smallest slack of the ports seen, and the slot of the lowest port that has it; behind all slots before the first.
-#[derive(Drop)]
+#[derive(Clone, Copy)]
 struct Smallest {
     slot: usize,
     slack: i64,

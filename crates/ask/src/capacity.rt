@@ -5,7 +5,7 @@ use numbers::port::window;
 use std::num::wrapping_add_u64;
 
 // A port's numbers.
-#[derive(Drop)]
+#[derive(Clone, Copy)]
 pub(crate) struct Port {
     pub number: u64,
     pub rate: u32,

@@ -9,7 +9,7 @@ use streams::{Output, say, say_with, say_with_four, say_with_three, say_with_two
 use tables::FLOWS;
 
 // A flow's number and contract.
-#[derive(Drop)]
+#[derive(Clone, Copy)]
 struct Flow {
     number: u64,
     period: u32,

@@ -47,7 +47,7 @@ pub(crate) fn burst(planner: Planner, duration: u64, port: u64, flow: u64, k: u6
 }
 
 // The cycle of a flow's part, its frames, 0 where it has none, and the instant of frame k, 0 where there is no such frame.
-#[derive(Drop)]
+#[derive(Clone, Copy)]
 pub(crate) struct Part {
     pub cycle: u64,
     pub frames: u64,

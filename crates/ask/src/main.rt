@@ -1,6 +1,8 @@
 // Reads a plan from standard input, as bytes or as text, and says of the duration given as argument whether it is admissible: where it is, how much is to
 // spare and how far the durations around it are admissible too; where it is not, which ports fail by how much and for which flows, the
 // nearest durations that are, and a bad emission. A refusal stands on standard error.
+#![tactic(auto)]
+
 mod accepted; // accepted.rt: of an admissible duration
 mod bits; // bits.rt: products, quotients and differences
 mod capacity; // capacity.rt: what a port can send, and the cycle that it needs

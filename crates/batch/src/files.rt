@@ -7,7 +7,7 @@ use planner::{Batch, PlaceAnswer};
 use streams::{Input, read_input};
 
 // The batch as it is left, and what became of the file: whether it could be read, and the refusal of its plan with the offset.
-#[derive(Drop)]
+#[derive(Clone, Copy)]
 pub(crate) struct Placed {
     pub(crate) batch: Batch,
     pub(crate) readable: bool,

@@ -1,5 +1,7 @@
 // Searches the least durations of up to eight plans in turn, and prints them in the order of the arguments, which name the plans'
 // files. Standard error shows how far each has come.
+#![tactic(auto)]
+
 mod files; // files.rt: a plan's file, read into a slot
 mod turns; // turns.rt: turns until no plan is pending
 

@@ -1,1 +1,2 @@
 // Batches of plans, as definitions, in specs/.
+#![tactic(auto)]

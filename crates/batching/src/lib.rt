@@ -1,4 +1,6 @@
 // A batch of eight plans, searched in turn. It goes into each call by value and comes back as the call leaves it.
+#![tactic(auto)]
+
 ghost use Rattle.std.specs.Prelude.{◌≡◌};
 ghost use Rattle.batches.specs.Batch.{empty_batch};
 ghost use Rattle.batching.specs.Slots.{batch_of};
@@ -34,7 +36,7 @@ pub const OUTSIDE: u32 = 5;
 // A plan that is pending has come to the duration in so many steps. A final answer has the duration found or the ports that fail at
 // top, and the steps.
 #[repr(C)]
-#[derive(Drop)]
+#[derive(Clone, Copy)]
 pub struct Slot {
     pub duration: u64,
     pub steps: u64,
@@ -46,13 +48,13 @@ pub struct Slot {
 
 // The slots, and the one after the last that was served.
 #[repr(C)]
-#[derive(Drop)]
+#[derive(Clone, Copy)]
 pub struct Batch {
     pub slots: [Slot; 8],
     pub next: u64,
 }
 
-#[derive(Drop)]
+#[derive(Clone, Copy)]
 pub enum PlaceAnswer {
     Placed { ports: u16, flows: u16 },
     NoSlot,
@@ -60,25 +62,25 @@ pub enum PlaceAnswer {
     Refused { fault: Fault, offset: usize },
 }
 
-#[derive(Drop)]
+#[derive(Clone, Copy)]
 pub struct PlaceOutcome {
     pub batch: Batch,
     pub answer: PlaceAnswer,
 }
 
-#[derive(Drop)]
+#[derive(Clone, Copy)]
 pub enum ServeAnswer {
     Served(u64),
     Idle,
 }
 
-#[derive(Drop)]
+#[derive(Clone, Copy)]
 pub struct ServeOutcome {
     pub batch: Batch,
     pub answer: ServeAnswer,
 }
 
-#[derive(Drop)]
+#[derive(Clone, Copy)]
 pub enum CollectAnswer {
     Duration { duration: u64, steps: u64 },
     Failing { port: u32, count: u32, steps: u64 },
@@ -88,7 +90,7 @@ pub enum CollectAnswer {
     Unanswered,
 }
 
-#[derive(Drop)]
+#[derive(Clone, Copy)]
 pub struct CollectOutcome {
     pub batch: Batch,
     pub answer: CollectAnswer,

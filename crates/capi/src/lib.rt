@@ -1,4 +1,6 @@
 // The planner for C and Rust: the calls with their answers as numbers (include/cycle_planner.h).
+#![tactic(auto)]
+
 ghost use Rattle.std.specs.Prelude.{◌≡◌};
 ghost use Rattle.plan.specs.Layout.{form_by};
 ghost use Rattle.plan.specs.Field.{field_at, repeats};
@@ -33,7 +35,7 @@ mod writes; // writes.rt: calls that write fields
 mod written; // written.rt: those of the calls that write bytes
 
 #[repr(C)]
-#[derive(Drop)]
+#[derive(Clone, Copy)]
 pub struct AnswerNumbers {
     pub refusal: u32,
     pub first: u64,
@@ -41,14 +43,14 @@ pub struct AnswerNumbers {
 }
 
 #[repr(C)]
-#[derive(Drop)]
+#[derive(Clone, Copy)]
 pub struct SlackAnswerNumbers {
     pub refusal: u32,
     pub slack: i64,
 }
 
 #[repr(C)]
-#[derive(Drop)]
+#[derive(Clone, Copy)]
 pub struct FixedPointAnswerNumbers {
     pub refusal: u32,
     pub first: u64,
@@ -57,7 +59,7 @@ pub struct FixedPointAnswerNumbers {
 }
 
 #[repr(C)]
-#[derive(Drop)]
+#[derive(Clone, Copy)]
 pub struct BurstAnswerNumbers {
     pub refusal: u32,
     pub cycle: u64,
@@ -66,7 +68,7 @@ pub struct BurstAnswerNumbers {
 }
 
 #[repr(C)]
-#[derive(Drop)]
+#[derive(Clone, Copy)]
 pub struct UnsentAnswerNumbers {
     pub refusal: u32,
     pub failing: u32,
@@ -77,7 +79,7 @@ pub struct UnsentAnswerNumbers {
 }
 
 #[repr(C)]
-#[derive(Drop)]
+#[derive(Clone, Copy)]
 pub struct EncodeAnswerNumbers {
     pub refusal: u32,
     pub line: u32,
@@ -87,7 +89,7 @@ pub struct EncodeAnswerNumbers {
 }
 
 #[repr(C)]
-#[derive(Drop)]
+#[derive(Clone, Copy)]
 pub struct FieldReadNumbers {
     pub refusal: u32,
     pub tag: u32,
@@ -96,7 +98,7 @@ pub struct FieldReadNumbers {
 }
 
 #[repr(C)]
-#[derive(Drop)]
+#[derive(Clone, Copy)]
 pub struct PlaceOutcomeNumbers {
     pub batch: Batch,
     pub answer: AnswerNumbers,
@@ -104,14 +106,14 @@ pub struct PlaceOutcomeNumbers {
 
 // The slot that was served; 8 for none.
 #[repr(C)]
-#[derive(Drop)]
+#[derive(Clone, Copy)]
 pub struct ServeOutcomeNumbers {
     pub batch: Batch,
     pub slot: u64,
 }
 
 #[repr(C)]
-#[derive(Drop)]
+#[derive(Clone, Copy)]
 pub struct CollectOutcomeNumbers {
     pub batch: Batch,
     pub answer: FixedPointAnswerNumbers,

@@ -1,4 +1,6 @@
 // The calls over tables that are lent column by column: the questions, the searches, and what is written of a plan.
+#![tactic(auto)]
+
 mod asked;
 mod forms;
 mod lean;

@@ -1,4 +1,6 @@
 // The programs' input: the plan on standard input, loaded into the empty planner; and what the converters print.
+#![tactic(auto)]
+
 ghost use Rattle.std.specs.Prelude.{◌≤◌, length};
 ghost use Rattle.console.specs.{LoadedAs, LoadedFrom, LoadedInput, Inside};
 
@@ -10,7 +12,7 @@ use streams::{Input, finish, read_input, say, say_refused_plan, standard_error, 
 pub const ROOM: usize = loading::MAX_BYTES + 1;
 
 // Whether the input could be read, and what a load of it gave; where it could not, that of no bytes.
-#[derive(Drop)]
+#[derive(Clone, Copy)]
 pub struct Given {
     pub readable: bool,
     pub outcome: LoadOutcome,

@@ -1,4 +1,6 @@
 // Conversion of a plan's bytes from one form to the other.
+#![tactic(auto)]
+
 use plan::Fault;
 
 mod convert; // convert.rt: to the newer form, and back
@@ -6,7 +8,7 @@ mod written; // written.rt: the plan that was read, written in one form
 
 pub use convert::{downgrade, upgrade};
 
-#[derive(Drop)]
+#[derive(Clone, Copy)]
 pub enum ConvertAnswer {
     // The length written.
     Written(usize),

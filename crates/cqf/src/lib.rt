@@ -1,1 +1,2 @@
 // Cyclic queuing and forwarding: definitions and the large-enough-cycle theorem, in specs/.
+#![tactic(auto)]

@@ -1,4 +1,6 @@
 // Reads a plan from standard input and prints its counts, its header's numbers, and the least and the margin-safe duration.
+#![tactic(auto)]
+
 use planner::{LoadAnswer, Planner, SearchAnswer};
 use streams::{
     Output, say, say_number, say_refused, say_refused_plan, say_with_four, say_with_two,

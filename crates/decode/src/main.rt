@@ -1,4 +1,6 @@
 // Reads a plan of either form from standard input and writes it as text to standard output.
+#![tactic(auto)]
+
 ghost use Rattle.std.specs.Prelude.{◌≡◌, true, ◌≤◌, length};
 ghost use Rattle.cqf.specs.Form.{form_from};
 ghost use Rattle.cqf.specs.Plan.{valid_plan};

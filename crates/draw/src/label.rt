@@ -3,7 +3,7 @@ use planner::{Planner, SearchAnswer};
 use streams::{Output, say, say_choice, say_number, say_with_three};
 
 // The least, the margin-safe and the given duration, 0 where there is none, and whether the given one is admissible.
-#[derive(Drop)]
+#[derive(Clone, Copy)]
 pub(crate) struct Marks {
     pub least: u64,
     pub safe: u64,

@@ -1,5 +1,7 @@
 // Reads a plan from standard input and draws its admissible durations from 1 to top, and the gaps between them: as a picture (SVG), or
 // with the argument text in 80 columns. A duration as argument is marked too. What is no drawing stands on standard error.
+#![tactic(auto)]
+
 mod axis; // axis.rt: the marks of the axis and their unit
 mod label; // label.rt: the least, the margin-safe and the given duration in words
 mod picture; // picture.rt: the drawing as SVG

@@ -3,7 +3,7 @@
 use crate::scale::{Scale, left};
 use streams::{Output, say_choice, say_with_two};
 
-#[derive(Drop)]
+#[derive(Clone, Copy)]
 pub(crate) enum Kind {
     Admissible,
     Refused,

@@ -2,7 +2,7 @@
 // fewer. A column stands for the durations behind those of the columns before it, up to its own share of top.
 ghost use Rattle.std.specs.Prelude.{◌≤◌};
 
-#[derive(Drop)]
+#[derive(Clone, Copy)]
 pub(crate) struct Scale {
     pub top: u32,
     pub width: u32,

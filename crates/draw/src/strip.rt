@@ -6,7 +6,7 @@ use planner::{Planner, SpanAnswer};
 use streams::Output;
 
 // The span asked for last; one behind all durations where there was none.
-#[derive(Drop)]
+#[derive(Clone, Copy)]
 struct Seen {
     first: u64,
     last: u64,

@@ -104,7 +104,7 @@ fn say_given_mark(out: Output, scale: Scale, duration: u64, admissible: bool) ->
 }
 
 // A line up to a column.
-#[derive(Drop)]
+#[derive(Clone, Copy)]
 struct Line {
     out: Output,
     at: u64,

@@ -17,13 +17,13 @@ use numbers::limits::between;
 use tables::{FLOWS, PORTS, STRIDE, columns, valid_tables};
 
 // The instant of a frame, or that the burst has no such frame.
-#[derive(Drop)]
+#[derive(Clone, Copy)]
 pub enum Instant {
     At(u64),
     NoFrame,
 }
 
-#[derive(Drop)]
+#[derive(Clone, Copy)]
 pub enum BurstAnswer {
     Burst {
         cycle: u64,

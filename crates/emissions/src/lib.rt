@@ -1,4 +1,6 @@
 // The bad emission of a port that fails: what each flow sends in it, over the tables lent column by column.
+#![tactic(auto)]
+
 mod burst;
 mod first;
 mod frames;

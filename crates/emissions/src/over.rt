@@ -73,7 +73,7 @@ fn lowest_over<'a>(
 }
 
 // The slot of the lowest port that leaves a frame unsent in a cycle, 64 where none does, and the bits that it must send.
-#[derive(Drop)]
+#[derive(Clone, Copy)]
 pub(crate) struct Overrun {
     pub slot: usize,
     pub bits: u64,

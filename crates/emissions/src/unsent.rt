@@ -19,7 +19,7 @@ use questions::{CheckAnswer, check_tables};
 use tables::columns;
 
 // The port that fails, the cycle, the port that leaves a frame unsent in it, the bits that this one must send and those that it can.
-#[derive(Drop)]
+#[derive(Clone, Copy)]
 pub enum UnsentAnswer {
     Unsent {
         failing: u32,

@@ -1,4 +1,6 @@
 // Reads a plan's text from standard input and writes the plan's strict bytes to standard output.
+#![tactic(auto)]
+
 ghost use Rattle.std.specs.Prelude.{length};
 ghost use Rattle.text_coding.specs.Answer.{Inside};
 

@@ -1,5 +1,7 @@
 // Single fields written from their numbers, each into what remains of a lent buffer. A field that a plan's reader would refuse is
 // refused, and nothing is written of it.
+#![tactic(auto)]
+
 use plan::Fault;
 
 mod field; // field.rt: a field's bytes, tested as they are read, into a buffer
@@ -12,7 +14,7 @@ pub use flow::{write_flow, write_flow2};
 pub use newer::{write_header2, write_port2};
 pub use older::{write_clocks, write_extra, write_header, write_jitter, write_port};
 
-#[derive(Drop)]
+#[derive(Clone, Copy)]
 pub enum WriteAnswer {
     // The length written.
     Written(usize),

@@ -1,4 +1,6 @@
 // The first calls: the planner that holds no plan, the load, and the four questions.
+#![tactic(auto)]
+
 pub use loading::{LoadAnswer, LoadOutcome, load};
 pub use plan::Fault;
 pub use questions::{CheckAnswer, SearchAnswer, SlackAnswer};

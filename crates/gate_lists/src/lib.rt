@@ -1,1 +1,2 @@
 // Gate control lists, as definitions, in specs/.
+#![tactic(auto)]

@@ -1,4 +1,6 @@
 // Gate control lists: the question over the tables, and the list written into a lent buffer.
+#![tactic(auto)]
+
 mod states; // states.rt: queues, and the gate states of two of them
 mod gate; // gate.rt: a field of the list
 mod list; // list.rt: a cycle, and the list of two
@@ -8,7 +10,7 @@ mod gates; // gates.rt: the question
 pub use gate::{FIELD_SIZE, INTERVAL_AT, MOST_BYTES, STATES_AT};
 pub use gates::gates_tables;
 
-#[derive(Drop)]
+#[derive(Clone, Copy)]
 pub enum GatesAnswer {
     // The length written.
     Written(usize),

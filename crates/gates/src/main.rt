@@ -1,5 +1,7 @@
 // Reads a plan from standard input and prints the gate control list of a duration for two queues, as lines in the form that Linux's
 // tc takes; duration, even queue and odd queue are the arguments. What is no list stands on standard error.
+#![tactic(auto)]
+
 mod entry; // entry.rt: the fields of a written list
 mod shortest; // shortest.rt: whether taprio may refuse it
 

@@ -15,7 +15,7 @@ use plan::{Fault, Field, FieldRead, Form};
 use tables::{PORTS, columns};
 
 // Whether the reading goes on after a field.
-#[derive(Drop)]
+#[derive(Clone, Copy)]
 pub(crate) enum Progress {
     More {
         next: usize,

@@ -21,7 +21,7 @@ use tables::columns;
 
 // What is sought: a flow whose route names a port that is not in the plan, the jitter of a flow that is not in it, extra bytes
 // of such a port, or a flow over more ports than the older form allows.
-#[derive(Drop)]
+#[derive(Clone, Copy)]
 pub enum Sought {
     AbsentPort,
     AbsentJitterFlow,

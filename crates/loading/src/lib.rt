@@ -1,4 +1,6 @@
 // The load: a plan's bytes read into fresh columns, held where the rules find no refusal.
+#![tactic(auto)]
+
 use numbers::clock::Clock;
 use plan::Fault;
 use tables::Planner;
@@ -19,21 +21,21 @@ pub use held::{load, load_strict, read_plan};
 pub use lent::load_columns;
 pub use one_form::read_form_columns;
 
-#[derive(Drop)]
+#[derive(Clone, Copy)]
 pub enum LoadAnswer {
     Held { ports: u16, flows: u16 },
     Refused { fault: Fault, offset: usize },
 }
 
 // A load's answer beside the planner that it leaves.
-#[derive(Drop)]
+#[derive(Clone, Copy)]
 pub struct LoadOutcome {
     pub planner: Planner,
     pub answer: LoadAnswer,
 }
 
 // What was read beside the columns: the header's and the clock's numbers, 0 where the reading refused.
-#[derive(Drop)]
+#[derive(Clone, Copy)]
 pub struct FormRead {
     pub guard: u32,
     pub top: u32,

@@ -21,7 +21,7 @@ use plan::{Fault, Form};
 use tables::{PORTS, columns};
 
 // What was read of a plan beside its columns: the header's and the clock's numbers, and what the rules answer.
-#[derive(Drop)]
+#[derive(Clone, Copy)]
 pub(crate) struct ColumnsRead {
     pub totals: Totals,
     pub answer: LoadAnswer,

@@ -33,7 +33,7 @@ pub(crate) const CLOCK_KEY: usize = JITTER_KEYS + FLOWS;
 pub(crate) const KEYS: usize = CLOCK_KEY + 1;
 
 // The header's and the clock's numbers, and how many port and flow fields were read.
-#[derive(Drop)]
+#[derive(Clone, Copy)]
 pub(crate) struct Totals {
     pub guard: u32,
     pub top: u32,

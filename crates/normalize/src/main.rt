@@ -1,4 +1,6 @@
 // Reads a plan of any spelling from standard input and writes its strict bytes, those as which it is saved in its form, to standard output.
+#![tactic(auto)]
+
 ghost use Rattle.std.specs.Prelude.{◌≤◌, length};
 ghost use Rattle.cqf.specs.Form.{form_from};
 ghost use Rattle.plan_reading.specs.Reading.{max_bytes};

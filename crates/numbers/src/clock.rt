@@ -10,7 +10,7 @@ use crate::limits::between;
 
 // Drift in parts per million, timing jitter and synchronization error in ns.
 #[repr(C)]
-#[derive(Drop)]
+#[derive(Clone, Copy)]
 pub struct Clock {
     pub drift: u32,
     pub timing_jitter: u32,

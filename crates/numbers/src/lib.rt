@@ -1,4 +1,6 @@
 // Functions on numbers alone: each takes any.
+#![tactic(auto)]
+
 pub mod limits; // limits.rt: the ranges of a plan's numbers
 pub mod frame; // frame.rt: a frame's bits on the wire
 pub mod port; // port.rt: a port's window, and sets of ports

@@ -15,7 +15,7 @@ pub fn window(guard: u32, duration: u64) -> u64
 }
 
 // The number of the lowest port of a set, and how many there are.
-#[derive(Drop)]
+#[derive(Clone, Copy)]
 pub struct FailingPorts {
     pub port: u32,
     pub count: u32,

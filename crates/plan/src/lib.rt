@@ -1,4 +1,5 @@
 // The plan's bytes: a field's head and value, the fields, and the tests of one field.
+#![tactic(auto)]
 
 ghost use Rattle.std.specs.Prelude.{◌≡◌};
 ghost use Rattle.plan.specs.Answer.{fault_number};
@@ -23,7 +24,7 @@ pub use route::{repeats_port, route_bytes, route_len, route_port, route_repeats}
 pub use split::{field_value, split_head};
 
 // What a plan can be refused for: the refusals 1 to 9, and the strict reading's 12.
-#[derive(Drop)]
+#[derive(Clone, Copy)]
 pub enum Fault {
     Size,
     Truncated,
@@ -38,25 +39,25 @@ pub enum Fault {
 }
 
 // The form of a plan (document 02: the old and the new one): the kinds of field that it may have.
-#[derive(Drop)]
+#[derive(Clone, Copy)]
 pub enum Form {
     Older,
     Newer,
 }
 
-#[derive(Drop)]
+#[derive(Clone, Copy)]
 pub enum Head {
     Whole { tag: u8, size: usize },
     Cut,
 }
 
-#[derive(Drop)]
+#[derive(Clone, Copy)]
 pub struct Header {
     pub guard: u32,
     pub top: u32,
 }
 
-#[derive(Drop)]
+#[derive(Clone, Copy)]
 pub struct Port {
     pub number: u16,
     pub rate: u32,
@@ -64,7 +65,7 @@ pub struct Port {
 }
 
 // The route stays in the field's value.
-#[derive(Drop)]
+#[derive(Clone, Copy)]
 pub struct Flow {
     pub number: u16,
     pub period: u32,
@@ -74,21 +75,21 @@ pub struct Flow {
 }
 
 // A port's number and the bytes that it adds to each frame.
-#[derive(Drop)]
+#[derive(Clone, Copy)]
 pub struct Extra {
     pub number: u16,
     pub extra: u16,
 }
 
 // A flow's number and the most ns that its frames are released after their nominal instants.
-#[derive(Drop)]
+#[derive(Clone, Copy)]
 pub struct Jitter {
     pub number: u16,
     pub jitter: u32,
 }
 
 // The newer form's header: the clocks' numbers stand in it.
-#[derive(Drop)]
+#[derive(Clone, Copy)]
 pub struct Header2 {
     pub guard: u32,
     pub top: u32,
@@ -98,7 +99,7 @@ pub struct Header2 {
 }
 
 // The newer form's port, with its extra bytes.
-#[derive(Drop)]
+#[derive(Clone, Copy)]
 pub struct Port2 {
     pub number: u16,
     pub rate: u32,
@@ -107,7 +108,7 @@ pub struct Port2 {
 }
 
 // The newer form's flow, with its jitter. The route stays in the field's value.
-#[derive(Drop)]
+#[derive(Clone, Copy)]
 pub struct Flow2 {
     pub number: u16,
     pub period: u32,
@@ -117,7 +118,7 @@ pub struct Flow2 {
     pub hops: u8,
 }
 
-#[derive(Drop)]
+#[derive(Clone, Copy)]
 pub enum Field {
     Header(Header),
     Port(Port),
@@ -130,7 +131,7 @@ pub enum Field {
     Flow2(Flow2),
 }
 
-#[derive(Drop)]
+#[derive(Clone, Copy)]
 pub enum FieldRead {
     Field { field: Field, next: usize },
     Refused { fault: Fault, offset: usize },

@@ -1,1 +1,2 @@
 // Plan K of document 01, worked out by the definitions, in specs/.
+#![tactic(auto)]

@@ -1,1 +1,2 @@
 // The reading of a whole plan, as definitions, in specs/.
+#![tactic(auto)]

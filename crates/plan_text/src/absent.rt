@@ -11,7 +11,7 @@ use numbers::limits::port_ok;
 use tables::{FLOWS, STRIDE, columns};
 
 // Its line, and the port; the port is 0 where there is no such flow.
-#[derive(Drop)]
+#[derive(Clone, Copy)]
 pub(crate) struct Absent {
     pub line: u32,
     pub named: u8,

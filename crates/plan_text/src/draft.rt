@@ -14,7 +14,7 @@ use tables::{FLOWS, columns};
 
 // What has been read beside the columns: whether the newer form was asked for, whether a line was read, which things were said, and
 // the numbers that belong to no port and no flow.
-#[derive(Drop)]
+#[derive(Clone, Copy)]
 pub(crate) struct Heading {
     pub newer: bool,
     pub begun: bool,
@@ -28,7 +28,7 @@ pub(crate) struct Heading {
 }
 
 // Whether the reading goes on after a line.
-#[derive(Drop)]
+#[derive(Clone, Copy)]
 pub(crate) enum Progress {
     More(Heading),
     Stop {

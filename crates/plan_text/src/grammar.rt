@@ -7,7 +7,7 @@ ghost use Rattle.plan_text.specs.Line.{coded};
 use words::word::same;
 
 // A line by its first word.
-#[derive(Drop)]
+#[derive(Clone, Copy)]
 pub enum Kind {
     Guard,
     Top,
@@ -19,7 +19,7 @@ pub enum Kind {
 }
 
 // A number of a line; of a route its ports and how many they are; the first word of a line; what stands past its end.
-#[derive(Drop)]
+#[derive(Clone, Copy)]
 pub enum Item {
     Guard,
     Top,
@@ -44,7 +44,7 @@ pub enum Item {
 
 // Why a text is refused: a word, a number or a range that is wrong, a thing said again, a port twice in a route; guard band, top or flow missing; a port that
 // is not in the plan; too many bytes.
-#[derive(Drop)]
+#[derive(Clone, Copy)]
 pub enum Fault {
     Word,
     Number,

@@ -9,7 +9,7 @@ use crate::text::TextAnswer;
 use tables::{FLOWS, PORTS, Planner, STRIDE, empty};
 
 // The planner is empty where the text is refused.
-#[derive(Drop)]
+#[derive(Clone, Copy)]
 pub struct TextOutcome {
     pub planner: Planner,
     pub answer: TextAnswer,

@@ -1,4 +1,6 @@
 // A plan's text: what its lines say, and the plan that they make.
+#![tactic(auto)]
+
 pub mod grammar; // grammar.rt: the words of lines, and why a text is refused
 mod kinds; // kinds.rt: the kinds of lines, and their numbers
 pub mod ranges; // ranges.rt: the range of each number

@@ -26,7 +26,7 @@ pub(crate) fn number_of(word: &[u8]) -> u64
 }
 
 // The first word from a position on as a number, and where the words behind it begin.
-#[derive(Drop)]
+#[derive(Clone, Copy)]
 pub(crate) struct Number {
     pub value: u64,
     pub next: usize,
@@ -47,7 +47,7 @@ pub(crate) fn number_at(line: &[u8], at: usize) -> Number
 }
 
 // A number of a line, where its word stands at a position.
-#[derive(Drop)]
+#[derive(Clone, Copy)]
 pub(crate) struct Taken {
     pub found: bool,
     pub value: u64,
@@ -118,7 +118,7 @@ fn item_number(item: Item, line: &[u8], at: usize) -> Taken
 }
 
 // The numbers of a line, and where the words behind them begin; or the one whose word is missing.
-#[derive(Drop)]
+#[derive(Clone, Copy)]
 pub(crate) enum Matching {
     Wrong(Item),
     Behind(usize),

@@ -10,7 +10,7 @@ use crate::line::number_of;
 use words::word::word_at;
 
 // How many they are, and whether one of them is no number.
-#[derive(Drop)]
+#[derive(Clone, Copy)]
 pub(crate) struct Ports {
     pub count: usize,
     pub bad: bool,

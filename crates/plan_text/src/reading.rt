@@ -15,7 +15,7 @@ use tables::{FLOWS, columns};
 use words::lines::line_at;
 
 // What was read of a text: the answer, and the numbers that are in no column.
-#[derive(Drop)]
+#[derive(Clone, Copy)]
 pub(crate) struct TextRead {
     pub heading: Heading,
     pub answer: TextAnswer,

@@ -13,7 +13,7 @@ use crate::tested::test_numbers;
 use words::word::word_at;
 
 // Nothing; a kind, with its numbers in an array and so many ports of a route in another; or why the line is refused.
-#[derive(Drop)]
+#[derive(Clone, Copy)]
 pub(crate) enum LineRead {
     Nothing,
     Says {

@@ -8,7 +8,7 @@ use crate::kinds::item_at;
 use crate::ranges::in_range;
 
 // What a number is tested for: that it is one, that it is in the range of its place in a line, or in that of a port.
-#[derive(Drop)]
+#[derive(Clone, Copy)]
 pub(crate) enum Test {
     Number,
     Range(Kind),

@@ -10,7 +10,7 @@ use tables::columns;
 pub const MAX_TEXT: usize = 65_536;
 
 // A plan, of the newer form or not; or the line at which the text is refused, why, and what is named with it.
-#[derive(Drop)]
+#[derive(Clone, Copy)]
 pub enum TextAnswer {
     Plan {
         newer: bool,

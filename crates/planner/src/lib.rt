@@ -1,4 +1,6 @@
 // The cycle planner: the held plan, the load, and the questions; batches of plans; and the converters of plans.
+#![tactic(auto)]
+
 pub use answer_numbers::{
     check_number, collect_number, convert_number, fixed_point_number, gates_number, least_number,
     load_number, margin_safe_number, nearest_number, place_number, reprice_number, save_number,

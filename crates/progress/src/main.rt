@@ -1,5 +1,7 @@
 // Reads a plan from standard input and looks for its least duration in portions of steps; prints after each portion the duration
 // reached, and at the end the least duration, or 22 with the ports that fail at top, and the steps used.
+#![tactic(auto)]
+
 ghost use Rattle.std.specs.Prelude.{◌≡◌, true, ◌+◌};
 ghost use Rattle.cqf.specs.Plan.{valid_plan};
 ghost use Rattle.tables.specs.Tables.{plan_of};

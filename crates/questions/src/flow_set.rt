@@ -7,7 +7,7 @@ use super::port_demand::route_holds;
 use tables::{STRIDE, columns};
 
 // Bit i of the first number is for the flow in slot i, of the second for that in slot 64 + i, and so on.
-#[derive(Drop)]
+#[derive(Clone, Copy)]
 pub(crate) struct FlowSet {
     pub(crate) first: u64,
     pub(crate) second: u64,

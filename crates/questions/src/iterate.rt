@@ -14,7 +14,7 @@ use numbers::port::window;
 use tables::{PORTS, columns};
 
 // What a number of steps gives: the duration found, or that there is none up to top, with the steps used; or the duration reached.
-#[derive(Drop)]
+#[derive(Clone, Copy)]
 pub(crate) enum Iterated {
     Found { duration: u64, steps: u64 },
     None { steps: u64 },

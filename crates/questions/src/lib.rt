@@ -1,4 +1,6 @@
 // The questions, over the tables lent column by column.
+#![tactic(auto)]
+
 mod ascend;
 mod check;
 mod demand;
@@ -43,7 +45,7 @@ pub use seek::Goal;
 pub use span_columns::spans_columns;
 pub use span_list::{SpansAnswer, spans};
 
-#[derive(Drop)]
+#[derive(Clone, Copy)]
 pub enum CheckAnswer {
     Admissible,
     NoPlan,
@@ -51,7 +53,7 @@ pub enum CheckAnswer {
     Failing { port: u32, count: u32 },
 }
 
-#[derive(Drop)]
+#[derive(Clone, Copy)]
 pub enum SlackAnswer {
     Slack(i64),
     NoPlan,
@@ -59,7 +61,7 @@ pub enum SlackAnswer {
     NotCrossed,
 }
 
-#[derive(Drop)]
+#[derive(Clone, Copy)]
 pub enum SearchAnswer {
     Duration(u64),
     NoPlan,
@@ -67,7 +69,7 @@ pub enum SearchAnswer {
     Failing { port: u32, count: u32 },
 }
 
-#[derive(Drop)]
+#[derive(Clone, Copy)]
 pub enum FixedPointAnswer {
     Duration { duration: u64, steps: u64 },
     NoPlan,
@@ -76,7 +78,7 @@ pub enum FixedPointAnswer {
     Unfinished { duration: u64, steps: u64 },
 }
 
-#[derive(Drop)]
+#[derive(Clone, Copy)]
 pub enum RepriceAnswer {
     Repriced,
     NoPlan,

@@ -11,13 +11,13 @@ use numbers::limits::between;
 use tables::{PORTS, columns, valid_tables};
 
 // An admissible duration, or that there is none.
-#[derive(Drop)]
+#[derive(Clone, Copy)]
 pub enum Neighbour {
     Duration(u64),
     Nothing,
 }
 
-#[derive(Drop)]
+#[derive(Clone, Copy)]
 pub enum NearestAnswer {
     Nearest { below: Neighbour, above: Neighbour },
     NoPlan,

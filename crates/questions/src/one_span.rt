@@ -18,13 +18,13 @@ use tables::{PORTS, columns, valid_tables};
 
 // A run of admissible durations from 1 to top that can grow at neither end: its first and its last.
 #[repr(C)]
-#[derive(Drop)]
+#[derive(Clone, Copy)]
 pub struct SpanRecord {
     pub first: u64,
     pub last: u64,
 }
 
-#[derive(Drop)]
+#[derive(Clone, Copy)]
 pub enum SpanAnswer {
     Span(SpanRecord),
     NoPlan,

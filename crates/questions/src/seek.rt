@@ -12,7 +12,7 @@ use numbers::clock::Clock;
 use tables::columns;
 
 // What a search looks for.
-#[derive(Drop)]
+#[derive(Clone, Copy)]
 pub enum Goal {
     Least,
     MarginSafe,

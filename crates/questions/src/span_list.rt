@@ -10,7 +10,7 @@ use super::one_span::{SpanRecord, no_span};
 use super::span_count::{count_spans, span_after};
 use tables::{Planner, held_top, valid_tables};
 
-#[derive(Drop)]
+#[derive(Clone, Copy)]
 pub enum SpansAnswer {
     Count(u64),
     NoPlan,
@@ -18,7 +18,7 @@ pub enum SpansAnswer {
 }
 
 // How many spans there are, and of how many a list is given the records: all, or none where the list is shorter or no plan is held.
-#[derive(Drop)]
+#[derive(Clone, Copy)]
 pub(crate) struct SpanCount {
     pub held: bool,
     pub count: u64,

@@ -7,7 +7,7 @@ ghost use Rattle.saving.specs.Slots.{slots_of, kinds_in, kind_at};
 use plan::Form;
 use tables::{FLOWS, PORTS};
 
-#[derive(Drop)]
+#[derive(Clone, Copy)]
 pub(crate) enum Kind {
     Header,
     Port,

@@ -1,4 +1,6 @@
 // Saving: the plan in the tables, written field by field into what remains of a lent buffer.
+#![tactic(auto)]
+
 mod kind; // kind.rt: the kinds of field of each form, and their slots
 mod slot; // slot.rt: the field of one slot in the older form
 mod newer; // newer.rt: in the newer form
@@ -10,7 +12,7 @@ mod held; // held.rt: the plan in the tables
 
 pub use held::save_tables;
 
-#[derive(Drop)]
+#[derive(Clone, Copy)]
 pub enum SaveAnswer {
     // The length written.
     Written(usize),

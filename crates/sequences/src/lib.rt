@@ -1,1 +1,2 @@
 // Sequences of calls, as definitions, and the theorems over them, in specs/.
+#![tactic(auto)]

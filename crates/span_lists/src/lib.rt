@@ -1,1 +1,2 @@
 // The spans of a plan, as definitions, in specs/.
+#![tactic(auto)]

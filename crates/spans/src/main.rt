@@ -1,5 +1,7 @@
 // Reads a plan from standard input and prints its spans, one a line and rising: the runs of admissible durations that can grow at
 // neither end. With a duration as argument it prints the first that ends there or later. What is no span stands on standard error.
+#![tactic(auto)]
+
 ghost use Rattle.std.specs.Prelude.{◌≡◌, true};
 ghost use Rattle.cqf.specs.Plan.{valid_plan};
 ghost use Rattle.tables.specs.Tables.{plan_of};

@@ -1,4 +1,6 @@
 // The programs' input and output.
+#![tactic(auto)]
+
 mod choice; // choice.rt: one of several texts
 mod input; // input.rt: an input read to its end
 mod output; // output.rt: what a program prints

@@ -1,4 +1,6 @@
 // The tables of a held plan, and whether they hold a plan that the rules accept.
+#![tactic(auto)]
+
 ghost use Rattle.std.specs.Prelude.{◌≡◌};
 ghost use Rattle.cqf.specs.Plan.{no_plan};
 ghost use Rattle.tables.specs.Tables.{plan_of};
@@ -24,7 +26,7 @@ pub use valid::valid_tables;
 // The held plan: port n in slot n - 1, flow n in slot n - 1, a flow's route at its slot times the stride. An absent port has rate 0,
 // an absent flow period 0; top is 0 where no plan is held. The form's number is that of the bytes that the plan was read from.
 #[repr(C)]
-#[derive(Drop)]
+#[derive(Clone, Copy)]
 pub struct Planner {
     pub form: u32,
     pub guard: u32,

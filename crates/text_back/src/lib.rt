@@ -1,1 +1,2 @@
 // The text of a plan read back, as theorems, in specs/.
+#![tactic(auto)]

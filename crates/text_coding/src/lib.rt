@@ -1,11 +1,13 @@
 // A plan's text as the plan's strict bytes.
+#![tactic(auto)]
+
 use plan_text::grammar::{Fault, Item};
 
 mod encode; // encode.rt: a text read, and the plan written in its form
 
 pub use encode::encode_text;
 
-#[derive(Drop)]
+#[derive(Clone, Copy)]
 pub enum EncodeAnswer {
     // The length written.
     Written(usize),

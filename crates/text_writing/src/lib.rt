@@ -1,5 +1,7 @@
 // The text of a plan, written into a lent buffer line by line. What the buffer has no room for is left out, so that the same functions
 // write a text and only count its bytes.
+#![tactic(auto)]
+
 mod number; // number.rt: bytes, words and numbers
 mod word; // word.rt: the words of a line
 mod port; // port.rt: the lines of the ports
@@ -14,7 +16,7 @@ pub use planned::{write_columns, write_plan};
 // The most bytes of a text.
 pub const MAX_TEXT: usize = 65_536;
 
-#[derive(Drop)]
+#[derive(Clone, Copy)]
 pub enum TextAnswer {
     // The length written.
     Written(usize),

@@ -1,4 +1,6 @@
 // Reads a plan of the older form from standard input and writes it in the newer one to standard output.
+#![tactic(auto)]
+
 use console::say_converted;
 use libc::STDIN_FILENO;
 use streams::{Input, say};

@@ -1,4 +1,6 @@
 // The calls that take the planner by value: the questions, the searches, and what is written of a plan.
+#![tactic(auto)]
+
 mod calls;
 mod lean;
 mod neighbours;

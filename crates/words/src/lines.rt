@@ -25,7 +25,7 @@ pub fn said_end(text: &[u8], at: usize) -> usize
 }
 
 // A line: where what it says ends, and where the next one begins.
-#[derive(Drop)]
+#[derive(Clone, Copy)]
 pub struct Line {
     pub end: usize,
     pub next: usize,

@@ -6,7 +6,7 @@ ghost use Rattle.words.specs.Sizes.{WordAt};
 use crate::runs::{blank_end, word_end};
 
 // Where a word stands; it begins and ends at the line's end where there is none.
-#[derive(Drop)]
+#[derive(Clone, Copy)]
 pub struct Word {
     pub start: usize,
     pub end: usize,

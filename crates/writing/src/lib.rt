@@ -1,4 +1,6 @@
 // The bytes of numbers and fields, written into what remains of a lent buffer.
+#![tactic(auto)]
+
 pub mod number; // number.rt: numbers of several bytes, high byte first
 pub mod field; // field.rt: the older form's fields without a route
 pub mod newer; // newer.rt: the newer form's

@@ -2,7 +2,7 @@
 use Rattle.std.specs.Prelude.{ℕ, ◌+◌, ◌-◌, ◌*◌, ◌≤◌, ◌<◌, ◌≡◌, refl, Bool, true, false, cond, leb, length, get_or, drop}
 use Rattle.std.proofs.Common.{sym, ◌∙◌, add-one, arith, leb-true, leb-false, le-leb, drop_of_length-le, drop-cons}
 use Rattle.std.proofs.Math.Path.{ap}
-use Rattle.std.proofs.Math.Bool.{and_false}
+use Rattle.std.proofs.Math.Bool.{and-false}
 use mathlib.Core.List.{List, [], ◌∷◌}
 use Rattle.std.proofs.Math.Option.{some, none}
 use Rattle.std.proofs.lemmas.Bool.{lt-leb}
@@ -97,7 +97,7 @@ pub low_byte : (d : ℕ) → d < zero_digit → is_digit d ≡ false
 low_byte d less = rw (lt-leb zero_digit d less)
 
 pub high_byte : (d : ℕ) → zero_digit + 9 < d → is_digit d ≡ false
-high_byte d more = rw (lt-leb d (zero_digit + 9) more) (and_false (leb zero_digit d))
+high_byte d more = rw (lt-leb d (zero_digit + 9) more) (and-false (leb zero_digit d))
 
 pub digit_byte : (d : ℕ) → zero_digit ≤ d → d ≤ zero_digit + 9 → is_digit d ≡ true
 digit_byte d low high = rw (le-leb zero_digit d low, le-leb d (zero_digit + 9) high)

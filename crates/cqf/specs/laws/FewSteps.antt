@@ -2,7 +2,7 @@
 use Rattle.std.specs.Prelude.{◌≡◌, ◌||◌, eqb, leb}
 use Rattle.std.proofs.Math.Path.{refl, ap, ap₂}
 use Rattle.std.proofs.Common.{subst, ◌∙◌}
-use Rattle.std.proofs.Math.Bool.{true, false, and_false}
+use Rattle.std.proofs.Math.Bool.{true, false, and-false}
 use mathlib.Core.List.{List, [], ◌∷◌}
 use Prim.Native.Nat.{ℕ, zero, suc, ◌+◌, ◌≤◌, ◌<◌}
 use Rattle.std.proofs.Math.ListN.{length}
@@ -58,7 +58,7 @@ module _ {m n : ℕ} {p : Plan} (small : Few m n p) where
 
   pub most_steps_few : most_steps p ≡ 2 + sum_to n (λ f. later p f p.top)
   unfolding most_steps later
-  most_steps_few = ap (λ k. 2 + k) (sum_to_prefix small.flows (λ f. later p f p.top) (λ f l. rw ((small.flow f l).0, and_false (ltb f flow_slots))))
+  most_steps_few = ap (λ k. 2 + k) (sum_to_prefix small.flows (λ f. later p f p.top) (λ f l. rw ((small.flow f l).0, and-false (ltb f flow_slots))))
 
   module _ (valid : valid_plan p ≡ true) where
     -- up to what is needed, and from there the least duration

@@ -1,7 +1,7 @@
 -- A plan with few ports and flows is valid where those are.
 use Rattle.std.specs.Prelude.{◌≡◌, Bool, true, false, ℕ, ◌≤◌, ltb}
 use Rattle.std.proofs.Math.Path.{ap₂}
-use Rattle.std.proofs.Math.Bool.{◌&&◌, and_false}
+use Rattle.std.proofs.Math.Bool.{◌&&◌, and-false}
 use Rattle.cqf.specs.Bounded.{any_to, all_to}
 use Rattle.cqf.specs.Limits.{flow_slots, guard_ok, top_ok}
 use Rattle.cqf.specs.Plan.{Plan, present, clock_ok, valid_port, valid_flow, valid_plan}
@@ -29,7 +29,7 @@ module _ {m n : ℕ} {p : Plan} (small : Few m n p) where
   flow_empty f l = let e = small.flow f l in rw (e.0, e.1, e.2, e.3, e.4)
 
   none-present : (f : ℕ) → n ≤ f → present p f ≡ false
-  none-present f l = rw (small.flow f l).0 (and_false (ltb f flow_slots))
+  none-present f l = rw (small.flow f l).0 (and-false (ltb f flow_slots))
 
   pub valid_few : valid_plan p ≡ valid_in m n p
   unfolding valid_plan valid_in

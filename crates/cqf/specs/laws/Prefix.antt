@@ -1,7 +1,7 @@
 -- Sums, largest numbers, counts and tests over the numbers below k, where those from n on add nothing: the ones below n are enough.
 use Rattle.std.specs.Prelude.{◌≡◌, refl, Bool, true, false, ◌&&◌, List, [], ◌∷◌, ℕ, zero, suc, ◌+◌, ◌-◌, ◌≤◌, get_or, eqb}
 use Rattle.std.proofs.Common.{ap, ◌∙◌, add-zero, add-suc, le_of_suc-le-suc, not-suc-le-zero, arith, eqb-true}
-use Rattle.std.proofs.Math.Bool.{or-false, and_true, and-eq-true_iff}
+use Rattle.std.proofs.Math.Bool.{or-false, and-true, and-eq-true_iff}
 use Rattle.cqf.specs.Bounded.{sum_to, max_to, count_to, any_to, all_to}
 
 -- a value that does not change from n on
@@ -31,7 +31,7 @@ module _ {n k : ℕ} (l : n ≤ k) where
 
   pub all_to_prefix : (b : ℕ → Bool) → ((i : ℕ) → n ≤ i → b i ≡ true) → all_to k b ≡ all_to n b
   unfolding all_to
-  all_to_prefix b all = steady (λ i. all_to i b) l (λ i m. rw (all i m) (and_true (all_to i b)))
+  all_to_prefix b all = steady (λ i. all_to i b) l (λ i m. rw (all i m) (and-true (all_to i b)))
 
 -- whether a list has only 0 from position n on
 unfoldable pub blank_from : ℕ → List ℕ → Bool

@@ -2,7 +2,7 @@
 use Rattle.std.specs.Prelude.{◌≡◌, Bool, true, false, not, ◌&&◌, ◌||◌, List, [], ◌∷◌, ◌++◌, ℕ, zero, suc, ◌+◌, ◌-◌, ◌≤◌, ◌<◌, get_or, eqb, leb}
 use Rattle.std.proofs.Math.Path.{refl}
 use Rattle.std.proofs.Common.{sym, ap, ◌∙◌, add-zero, not-suc-le-zero, arith, ne_eqb, le-leb, lt-ltb, leb-true}
-use Rattle.std.proofs.Math.Bool.{or-false, and_false, and-eq-true_iff}
+use Rattle.std.proofs.Math.Bool.{or-false, and-false, and-eq-true_iff}
 use Rattle.std.proofs.Math.Decide.{ℕ_discrete}
 use Rattle.std.proofs.lemmas.Bool.{lt-leb, not-true}
 use Rattle.cqf.specs.Bounded.{all_to, elem, distinct, every, sublist}
@@ -96,10 +96,10 @@ module _ (rates : List ℕ) (n : ℕ) where
   port_in_low h = rw (lt-leb 1 n h)
 
   pub port_in_high : port_slots < n → port_in rates n ≡ false
-  port_in_high h = rw (lt-leb n port_slots h, and_false (leb 1 n))
+  port_in_high h = rw (lt-leb n port_slots h, and-false (leb 1 n))
 
   pub port_in_absent : 0 < n → get_or rates (n - 1) 0 ≡ 0 → port_in rates n ≡ false
-  port_in_absent some e = rw (rate_at some, e) (and_false (port_ok n))
+  port_in_absent some e = rw (rate_at some, e) (and-false (port_ok n))
 
   pub port_in_there : 0 < n → n ≤ port_slots → (get_or rates (n - 1) 0 ≡ 0 → ⊥) → port_in rates n ≡ true
   port_in_there some fits e =

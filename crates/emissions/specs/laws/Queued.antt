@@ -2,7 +2,7 @@
 use Rattle.std.specs.Prelude.{◌≡◌, refl, Bool, true, false, ◌&&◌, List, length, get_or, set, eqb, ltb}
 use Rattle.std.proofs.Common.{sym, ◌∙◌, add-zero, zero-mul, le_trans, mul-le-mul_right, add-one, arith, get_or-set_same, get_or-set_other, eq-eqb, ne_eqb}
 use Rattle.std.proofs.Math.Path.{ap, ap₂}
-use Rattle.std.proofs.Math.Bool.{cond, and_false, and-eq-true_iff}
+use Rattle.std.proofs.Math.Bool.{cond, and-false, and-eq-true_iff}
 use Prim.Native.Nat.{ℕ, suc, ◌+◌, ◌-◌, ◌*◌, ◌≤◌, ◌<◌, zero-le}
 use Rattle.std.proofs.Math.Nat.{le_antisymm, le_of_eq}
 use Rattle.std.proofs.Math.Decide.{ℕ_discrete}
@@ -144,7 +144,7 @@ module _ (p : Plan) (valid : valid_plan p ≡ true) (T q c : ℕ) where
     where
       go : (b : Bool) → crosses p f q ≡ b → present p f && b ≡ b
       go true h = ap (λ (a : Bool). a && true) (held_present p f l (crosses_held p valid f q l h))
-      go false h = and_false (present p f)
+      go false h = and-false (present p f)
 
   pub flow_is : (r f : ℕ) → f < flow_slots → cond (burst_at p q f c r) (burst_frames p T q f) 0 * wire_bits p f r ≡ queued_flow p (widened p T) q (latest_hop p q) c r f
   unfolding burst_at burst_frames burst_cycle hop wire_bits

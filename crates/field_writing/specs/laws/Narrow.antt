@@ -1,7 +1,7 @@
 -- A number that is too wide for its 2 bytes may be written as the widest: either is out of range, and nothing else differs.
 use Rattle.std.specs.Prelude.{ℕ, ◌+◌, ◌*◌, ◌≤◌, ◌≡◌, refl, ◌⊎◌, List, [], ◌∷◌, Bool, true, false, cond, ◌&&◌, leb, length}
 use Rattle.std.proofs.Common.{sym, ap, ap₂, ◌∙◌, subst, inl, inr, true≢false, arith, leb-false, ne_eqb}
-use Rattle.std.proofs.Math.Bool.{and_false, and-eq-true_iff}
+use Rattle.std.proofs.Math.Bool.{and-false, and-eq-true_iff}
 use Rattle.std.proofs.lemmas.Bool.{lt-leb}
 use Rattle.answers.specs.Answer.{Answer}
 use Rattle.answers.specs.Refusals.{wrong_length, out_of_range}
@@ -94,7 +94,7 @@ narrow_writes k ns ms r buffer {answer} {exit} h w = go (in_ranges (layout k).nu
 -- the numbers of 2 bytes: no range reaches the widest
 module _ (n : ℕ) (high : widest ≤ n) where
   past : (lo hi : ℕ) → hi ≤ 65534 → within lo hi n ≡ false
-  past lo hi low = rw (lt-leb n hi (omega arith)) (and_false (leb lo n))
+  past lo hi low = rw (lt-leb n hi (omega arith)) (and-false (leb lo n))
 
   pub port_short : port_ok n ≡ false
   port_short = past 1 64 (omega arith)

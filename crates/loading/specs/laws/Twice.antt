@@ -1,7 +1,7 @@
 -- Whether a route whose ports are in range holds one twice, port by port.
 use Rattle.std.specs.Prelude.{ℕ, suc, zero, ◌+◌, ◌≤◌, ◌<◌, ◌≡◌, refl, Bool, true, false, not, ◌&&◌, List, [], ◌∷◌, length, get_or}
 use Rattle.std.proofs.Common.{sym, ap, ◌∙◌}
-use Rattle.std.proofs.Math.Bool.{and_false}
+use Rattle.std.proofs.Math.Bool.{and-false}
 use Rattle.cqf.specs.Bounded.{all_to, elem, every, distinct, sublist}
 use Rattle.cqf.specs.Limits.{port_ok}
 use Rattle.cqf.specs.laws.Bounds.{all_to_false}
@@ -31,4 +31,4 @@ module _ (r : List ℕ) (ok : every port_ok r ≡ true) where
 
   -- a port that stands before
   pub repeats-at : (i : ℕ) → i < length r → elem (get_or r (0 + i) 0) (sublist r 0 i) ≡ true → distinct r ≡ false
-  repeats-at i less e = distinct_by ∙ all_to_false (length r) (passes r) i less (rw e (and_false (port_ok (get_or r (0 + i) 0))))
+  repeats-at i less e = distinct_by ∙ all_to_false (length r) (passes r) i less (rw e (and-false (port_ok (get_or r (0 + i) 0))))

@@ -3,7 +3,7 @@ use Rattle.std.specs.Prelude.{ℕ, ◌+◌, ◌*◌, ◌≡◌, refl, List, [], 
 use Rattle.std.proofs.Common.{sym, ◌∙◌, arith, eq-eqb, ne_eqb, eqb-true, drop_of_length-le}
 use Rattle.std.proofs.Math.Path.{ap}
 use Rattle.std.proofs.Math.Option.{some, none}
-use Rattle.std.proofs.Math.Bool.{and_true, and_assoc, and-eq-true_iff}
+use Rattle.std.proofs.Math.Bool.{and-true, and_assoc, and-eq-true_iff}
 use mathlib.Mathlib.Data.Bool.Basic.{eq-false_of_not-eq-true}
 use Rattle.cqf.specs.Bounded.{every}
 use Rattle.plan.specs.Bytes.{head_size, tag_at, size_at, whole_at, value_at}
@@ -145,7 +145,7 @@ module _ (v : List ℕ) (at next : ℕ) where
 
         plain_ranges : ranges_ok k v ≡ in_ranges (layout k).numbers (numbers_at (layout k).numbers v 0)
         unfolding every
-        plain_ranges = rw routeless (and_true _)
+        plain_ranges = rw routeless (and-true _)
 
         pub plain_range : in_ranges (layout k).numbers (numbers_at (layout k).numbers v 0) ≡ false → value_in k v at next ≡ refused 5 at
         plain_range f = value_range plain_sized (plain_ranges ∙ f)

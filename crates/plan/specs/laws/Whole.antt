@@ -1,7 +1,7 @@
 -- Laws of a field that the plan holds whole: its head, its value, and what of the plan they are.
 use Rattle.std.specs.Prelude.{ℕ, ◌+◌, ◌≤◌, ◌<◌, ◌≡◌, refl, List, [], Bool, true, false, leb}
 use Rattle.std.proofs.Common.{◌∙◌}
-use Rattle.std.proofs.Math.Bool.{and_false, and-eq-true_iff}
+use Rattle.std.proofs.Math.Bool.{and-false, and-eq-true_iff}
 use native.Mathlib.Omega.{arith}
 use borrow.Author.Tests.{le-leb, lt-leb, leb-true}
 use Rattle.std.proofs.Math.ListN.{length}
@@ -22,7 +22,7 @@ module _ (s : List ℕ) (at : ℕ) where
 
   pub not_whole : length s < at + head_size + size_at s at → whole_at s at ≡ false
   unfolding whole_at
-  not_whole h = rw (lt-leb _ _ h) (and_false (leb (at + head_size) (length s)))
+  not_whole h = rw (lt-leb _ _ h) (and-false (leb (at + head_size) (length s)))
 
   -- the head that is read of a whole field, and of any other
   pub head_whole : whole_at s at ≡ true → head_at s at ≡ head (tag_at s at) (size_at s at)

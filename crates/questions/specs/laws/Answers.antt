@@ -2,7 +2,7 @@
 use Rattle.std.specs.Prelude.{◌≡◌, Bool, true, false, cond, ◌&&◌, [], ◌∷◌, ℕ, ◌-◌, ℤ}
 use Rattle.std.proofs.Math.Path.{refl}
 use Rattle.std.proofs.Common.{sym, ap, ◌∙◌, arith}
-use Rattle.std.proofs.Math.Bool.{and_false}
+use Rattle.std.proofs.Math.Bool.{and-false}
 use borrow.Author.Tests.{eq-eqb, ne_eqb}
 use Rattle.cqf.specs.Bounded.{within}
 use Rattle.cqf.specs.Limits.{port_ok}
@@ -122,7 +122,7 @@ module _ (p : Plan) (n T : ℕ) where
     slack_no_port none = slack_answer_is ∙ asked-within p T spare valid ranged ∙ (rw none)
 
     pub slack_uncrossed : crossed p (n - 1) ≡ false → slack_answer p n T ≡ refusal not_crossed (0 ∷ [])
-    slack_uncrossed e = slack_answer_is ∙ asked-within p T spare valid ranged ∙ (rw (e, and_false (port_ok n)))
+    slack_uncrossed e = slack_answer_is ∙ asked-within p T spare valid ranged ∙ (rw (e, and-false (port_ok n)))
 
     pub slack-crossed
         : {z : ℤ}

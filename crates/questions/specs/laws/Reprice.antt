@@ -2,7 +2,7 @@
 use Rattle.std.specs.Prelude.{◌≡◌, Bool, true, false, cond, ◌&&◌, List, [], ◌∷◌, ℕ, ◌-◌, ◌≤◌, ◌<◌, leb, ltb, ℤ, length}
 use Rattle.std.proofs.Math.Path.{refl}
 use Rattle.std.proofs.Common.{sym, ap, ◌∙◌, arith, le-leb, leb-true, lt-ltb}
-use Rattle.std.proofs.Math.Bool.{and_false, and-eq-true_iff}
+use Rattle.std.proofs.Math.Bool.{and-false, and-eq-true_iff}
 use Rattle.std.proofs.lemmas.Bool.{lt-leb}
 use Rattle.cqf.specs.Bounded.{within}
 use Rattle.cqf.specs.Limits.{port_slots, flow_slots, length_ok, flow_ok}
@@ -23,7 +23,7 @@ granted true x k v r e = (refl, e)
 granted false x k v r e = let z : ◌≡◌ {A = ℕ} 0 1 = cc in absurd (omega arith)
 
 none : (a b c : Bool) → a && c ≡ false → a && (b && c) ≡ false
-none true b c e = rw e (and_false b)
+none true b c e = rw e (and-false b)
 none false b c e = refl
 
 -- the question was answered by a result: none of the refusals applies

@@ -1,7 +1,7 @@
 -- Laws of the words of a line.
 use Rattle.std.specs.Prelude.{ℕ, zero, suc, ◌+◌, ◌-◌, ◌≤◌, ◌<◌, ◌≡◌, refl, Bool, true, false, not, cond, ◌&&◌, ◌||◌, List, [], ◌∷◌, eqb, length, get_or, take, drop}
 use Rattle.std.proofs.Common.{sym, ap, ap₂, ◌∙◌, arith, add-one, length-drop, drop_of_length-le, drop-drop}
-use Rattle.std.proofs.Math.Bool.{and_false}
+use Rattle.std.proofs.Math.Bool.{and-false}
 use borrow.Author.Tests.{eq-eqb, ne_eqb}
 use Rattle.std.proofs.Math.Seq.{drop-cons}
 use Rattle.words.specs.Run.{run, begins, on_first}
@@ -71,7 +71,7 @@ unfolding same_bytes
 same_length [] [] h = absurd (h refl)
 same_length [] (d ∷ t) h = refl
 same_length (c ∷ s) [] h = refl
-same_length (c ∷ s) (d ∷ t) h = rw (same_length s t (λ e. h (ap suc e))) (and_false (eqb c d))
+same_length (c ∷ s) (d ∷ t) h = rw (same_length s t (λ e. h (ap suc e))) (and-false (eqb c d))
 
 -- a text whose first byte, if it has one, begins a word
 front_word : (s : List ℕ) → begins is_blank s ≡ false → 0 < length s → Front s × (0 < run is_in_word s)

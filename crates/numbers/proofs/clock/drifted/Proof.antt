@@ -14,10 +14,10 @@ product_most c =
     let drift : c.args.drift ≤ 2 ^ 32 - 1 = omega arith in
     mul-le-mul duration drift
 
-mul-result : tie.Need-overflow-mul-result
+mul-result : tie.Need-overflow_mul-result
 mul-result c = omega (arith, product_most c)
 
-add-result : tie.Need-overflow-add-result
+add-result : tie.Need-overflow_add-result
 add-result c = omega (arith, product_most c)
 
 returns : tie.Need-returns
@@ -25,4 +25,8 @@ unfolding ceil_div
 returns c = refl
 
 pub drifted_spec : {M : Type 1} → statement M
-drifted_spec = tie.close (tie.spec mul-result (λ c. search rules) add-result returns)
+drifted_spec = tie.close (tie.spec
+    mul-result
+    (search rules)
+    add-result
+    returns)

@@ -16,22 +16,22 @@ drifted_most c =
     let product : a.duration * a.clock.drift ≤ 2 ^ 62 * million = le_trans (mul-le-mul duration drift) (omega arith) in
     rw c.drifted.ensures (ceil_least (a.duration * a.clock.drift) (2 ^ 62) (omega arith) product)
 
-add_apart : tie.Need-overflow-add-apart
+add_apart : tie.Need-overflow_add-apart
 add_apart c = omega (arith, drifted_most c)
 
-add-apart-2 : tie.Need-overflow-add-apart-2
+add-apart-2 : tie.Need-overflow_add-apart-2
 add-apart-2 c = omega (arith, drifted_most c.before)
 
 pub widened_spec : {M : Type 1} → statement M
 widened_spec =
     tie.close
     (tie.spec
-    (λ c κs. search rules)
+    (search rules)
     add_apart
-    (λ c. search rules)
+    (search rules)
     add-apart-2
-    (λ c. search rules)
-    (λ c. search rules)
-    (λ c. search rules)
-    (λ c. search rules)
-    (λ c. search rules))
+    (search rules)
+    (search rules)
+    (search rules)
+    (search rules)
+    (search rules))

@@ -9,34 +9,34 @@ use Rattle.plan.proofs.optional.clock_of.Statement.{statement}
 use Rattle.plan.proofs.optional.clock_of.Tie as tie
 
 -- the numbers that were tested are those in the value
-tested : (c : tie.After-clock-in-range) →
-    let v = c.before.before.before.before.before.before.args.value.now in
-    c.clock-in-range.result ≡ in_ranges (layout Kind.clock).numbers (numbers_at (layout Kind.clock).numbers v 0)
+tested : (c : tie.After-clock_in_range) →
+    let v = c.args.value.now in
+    c.clock_in_range.result ≡ in_ranges (layout Kind.clock).numbers (numbers_at (layout Kind.clock).numbers v 0)
 tested c =
     let b = c.before in
-    rw (b.before.before.be32.ensures, b.before.be322.ensures, b.be323.ensures) at c.clock-in-range.ensures
+    rw (b.be32.ensures, b.be32-2.ensures, b.be32-3.ensures) at c.clock_in_range.ensures
 
-returns : tie.Need-returns
-returns c = sym (plain_length _ _ _ Kind.clock refl c.if1.true)
+returns : tie.Need-returns-then-value-ne-CLOCK_SIZE
+returns c = sym (plain_length _ _ _ Kind.clock refl c.if-value-ne-CLOCK_SIZE.true)
 
-returns_2 : tie.Need-returns-2
+returns_2 : tie.Need-returns-then-not-clock_in_range
 returns_2 c =
-    sym (plain_range _ _ _ Kind.clock refl c.before.before.before.before.before.if1.false (sym (tested c.before) ∙ not-true _ c.if2.true))
+    sym (plain_range _ _ _ Kind.clock refl c.if-value-ne-CLOCK_SIZE.false (sym (tested c.before) ∙ c.if-not-clock_in_range.true))
 
-returns_3 : tie.Need-returns-3
+returns_3 : tie.Need-returns
 returns_3 c =
     let b = c.before.before in
-    rw (b.before.before.be32.ensures, b.before.be322.ensures, b.be323.ensures)
-    (sym (plain_read _ _ _ Kind.clock refl b.before.before.before.if1.false (sym (tested c.before) ∙ not-false _ c.if2.false)))
+    rw (b.be32.ensures, b.be32-2.ensures, b.be32-3.ensures)
+    (sym (plain_read _ _ _ Kind.clock refl b.if-value-ne-CLOCK_SIZE.false (sym (tested c.before) ∙ c.if-not-clock_in_range.false)))
 
 pub clock_of_spec : {M : Type 1} → statement M
 clock_of_spec =
     tie.close
     (tie.spec
     returns
-    (λ c κs. search rules)
-    (λ c κs. search rules)
-    (λ c κs. search rules)
-    (λ c κs. search rules)
+    (search rules)
+    (search rules)
+    (search rules)
+    (search rules)
     returns_2
     returns_3)

@@ -9,27 +9,33 @@ use Rattle.plan.proofs.optional.extra_of.Statement.{statement}
 use Rattle.plan.proofs.optional.extra_of.Tie as tie
 
 -- the numbers that were tested are those in the value
-tested : (c : tie.After-extra-in-range) →
-    let v = c.before.before.before.before.before.args.value.now in
-    c.extra-in-range.result ≡ in_ranges (layout Kind.extra).numbers (numbers_at (layout Kind.extra).numbers v 0)
+tested : (c : tie.After-extra_in_range) →
+    let v = c.args.value.now in
+    c.extra_in_range.result ≡ in_ranges (layout Kind.extra).numbers (numbers_at (layout Kind.extra).numbers v 0)
 tested c =
     let b = c.before in
-    rw (b.before.be16.ensures, b.be162.ensures) at c.extra-in-range.ensures
+    rw (b.be16.ensures, b.be16-2.ensures) at c.extra_in_range.ensures
 
-returns : tie.Need-returns
-returns c = sym (plain_length _ _ _ Kind.extra refl c.if1.true)
+returns : tie.Need-returns-then-value-ne-EXTRA_SIZE
+returns c = sym (plain_length _ _ _ Kind.extra refl c.if-value-ne-EXTRA_SIZE.true)
 
-returns_2 : tie.Need-returns-2
+returns_2 : tie.Need-returns-then-not-extra_in_range
 returns_2 c =
-    sym (plain_range _ _ _ Kind.extra refl c.before.before.before.before.if1.false (sym (tested c.before) ∙ not-true _ c.if2.true))
+    sym (plain_range _ _ _ Kind.extra refl c.if-value-ne-EXTRA_SIZE.false (sym (tested c.before) ∙ c.if-not-extra_in_range.true))
 
-returns_3 : tie.Need-returns-3
+returns_3 : tie.Need-returns
 returns_3 c =
     let b = c.before.before in
-    rw (b.before.be16.ensures, b.be162.ensures)
-    (sym (plain_read _ _ _ Kind.extra refl b.before.before.if1.false (sym (tested c.before) ∙ not-false _ c.if2.false)))
+    rw (b.be16.ensures, b.be16-2.ensures)
+    (sym (plain_read _ _ _ Kind.extra refl b.if-value-ne-EXTRA_SIZE.false (sym (tested c.before) ∙ c.if-not-extra_in_range.false)))
 
 pub extra_of_spec : {M : Type 1} → statement M
 extra_of_spec =
     tie.close
-    (tie.spec returns (λ c κs. search rules) (λ c κs. search rules) (λ c κs. search rules) returns_2 returns_3)
+    (tie.spec
+    returns
+    (search rules)
+    (search rules)
+    (search rules)
+    returns_2
+    returns_3)

@@ -9,27 +9,33 @@ use Rattle.plan.proofs.optional.jitter_of.Statement.{statement}
 use Rattle.plan.proofs.optional.jitter_of.Tie as tie
 
 -- the numbers that were tested are those in the value
-tested : (c : tie.After-jitter-in-range) →
-    let v = c.before.before.before.before.before.args.value.now in
-    c.jitter-in-range.result ≡ in_ranges (layout Kind.jitter).numbers (numbers_at (layout Kind.jitter).numbers v 0)
+tested : (c : tie.After-jitter_in_range) →
+    let v = c.args.value.now in
+    c.jitter_in_range.result ≡ in_ranges (layout Kind.jitter).numbers (numbers_at (layout Kind.jitter).numbers v 0)
 tested c =
     let b = c.before in
-    rw (b.before.be16.ensures, b.be32.ensures) at c.jitter-in-range.ensures
+    rw (b.be16.ensures, b.be32.ensures) at c.jitter_in_range.ensures
 
-returns : tie.Need-returns
-returns c = sym (plain_length _ _ _ Kind.jitter refl c.if1.true)
+returns : tie.Need-returns-then-value-ne-JITTER_SIZE
+returns c = sym (plain_length _ _ _ Kind.jitter refl c.if-value-ne-JITTER_SIZE.true)
 
-returns_2 : tie.Need-returns-2
+returns_2 : tie.Need-returns-then-not-jitter_in_range
 returns_2 c =
-    sym (plain_range _ _ _ Kind.jitter refl c.before.before.before.before.if1.false (sym (tested c.before) ∙ not-true _ c.if2.true))
+    sym (plain_range _ _ _ Kind.jitter refl c.if-value-ne-JITTER_SIZE.false (sym (tested c.before) ∙ c.if-not-jitter_in_range.true))
 
-returns_3 : tie.Need-returns-3
+returns_3 : tie.Need-returns
 returns_3 c =
     let b = c.before.before in
-    rw (b.before.be16.ensures, b.be32.ensures)
-    (sym (plain_read _ _ _ Kind.jitter refl b.before.before.if1.false (sym (tested c.before) ∙ not-false _ c.if2.false)))
+    rw (b.be16.ensures, b.be32.ensures)
+    (sym (plain_read _ _ _ Kind.jitter refl b.if-value-ne-JITTER_SIZE.false (sym (tested c.before) ∙ c.if-not-jitter_in_range.false)))
 
 pub jitter_of_spec : {M : Type 1} → statement M
 jitter_of_spec =
     tie.close
-    (tie.spec returns (λ c κs. search rules) (λ c κs. search rules) (λ c κs. search rules) returns_2 returns_3)
+    (tie.spec
+    returns
+    (search rules)
+    (search rules)
+    (search rules)
+    returns_2
+    returns_3)

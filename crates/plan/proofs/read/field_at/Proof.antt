@@ -12,49 +12,45 @@ use Rattle.plan.proofs.read.field_at.Statement.{statement}
 use Rattle.plan.proofs.read.field_at.Tie as tie
 
 -- the head that the splitter found is the one in the plan's bytes
-read_head : (c : tie.After-known-told) →
-    head c.before.tag.given.0.0 c.before.tag.given.0.1.0
-    ≡ head_at c.before.before.before.before.before.args.plan.now c.before.before.before.before.before.args.at
-read_head c = sym (ap head_of c.before.tag.given.1) ∙ c.before.before.before.split-head.ensures
+read_head : (c : tie.In-Whole) → head c.in-Whole.tag c.in-Whole.size ≡ head_at c.args.plan.now c.args.at
+read_head c = c.in-Whole.ensures
 
 -- so the field ends within the plan
-ends : (c : tie.After-known-told) →
-    c.before.before.before.before.before.args.at + 3 + c.before.tag.given.0.1.0
-    ≤ length c.before.before.before.before.before.args.plan.now
-ends c = read_fits _ _ c.before.tag.given.0.0 c.before.tag.given.0.1.0 (read_head c)
+ends : (c : tie.In-Whole) → c.args.at + 3 + c.in-Whole.size ≤ length c.args.plan.now
+ends c = read_fits _ _ c.in-Whole.tag c.in-Whole.size (read_head c)
 
-add-next : tie.Need-overflow-add-next
+add-next : tie.Need-overflow_add-next
 add-next c = omega (arith, ends c)
 
-add-next-2 : tie.Need-overflow-add-next-2
+add-next-2 : tie.Need-overflow_add-next-in-Whole
 add-next-2 c = omega (arith, ends c)
 
-returns : tie.Need-returns
+returns : tie.Need-returns-in-Whole
 returns c =
-    let p = c.before.before.before.before.before.before.before.args.plan.now in
-    let at = c.before.before.before.before.before.before.before.args.at in
-    let x = c.before.before.before.tag.given.0 in
-    let h = read_head c.before.before in
-    let w = read_whole p at x.0 x.1.0 h in
+    let p = c.args.plan.now in
+    let at = c.args.at in
+    let x = c.in-Whole in
+    let h = x.ensures in
+    let w = read_whole p at x.tag x.size h in
     c.field_of.ensures
-    ∙ rw (read_tag p at x.0 x.1.0 h, read_size p at x.0 x.1.0 h, c.before.field-value.ensures, part_whole p at w)
+    ∙ rw (read_tag p at x.tag x.size h, read_size p at x.tag x.size h, c.field_value-value.ensures, part_whole p at w)
     (sym (field_whole _ p at w))
 
-returns_2 : tie.Need-returns-2
+returns_2 : tie.Need-returns-in-Cut
 returns_2 c =
-    let h = sym (ap head_of c.enum_told.given.1) ∙ c.before.before.split-head.ensures in
+    let h = c.in-Cut.ensures in
     sym (field_cut _ _ _ (read_cut _ _ h))
 
 pub field_at_spec : {M : Type 1} → statement M
 field_at_spec =
     tie.close
     (tie.spec
-    (λ c κs. search rules)
-    (λ c. search rules)
+    (search rules)
+    (search rules)
     add-next
     add-next-2
-    (λ c κs. search rules)
-    (λ c κs. search rules)
-    (λ c. search rules)
+    (search rules)
+    (search rules)
+    (search rules)
     returns
     returns_2)

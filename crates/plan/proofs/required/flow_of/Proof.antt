@@ -16,31 +16,31 @@ use Rattle.plan.proofs.required.flow_of.Statement.{statement}
 use Rattle.plan.proofs.required.flow_of.Tie as tie
 
 -- the length is that of a route, and this is how many ports it has
-sized : (c : tie.Else1) →
-    let n = length c.before.before.before.args.value.now in
+sized : (c : tie.Else-hops-eq0) →
+    let n = length c.args.value.now in
     size_ok Kind.flow n ≡ true
-sized c = allowed_length Kind.flow (length c.before.before.before.args.value.now) c.before.hops-by-length.result c.before.hops-by-length.ensures c.if1.false
+sized c = allowed_length Kind.flow (length c.args.value.now) c.hops_by_length-hops.result c.hops_by_length-hops.ensures c.if-hops-eq0.false
 
-counted : (c : tie.Else1) → c.before.hops-by-length.result ≡ hops_in Kind.flow (length c.before.before.before.args.value.now)
-counted c = rw (sized c) at c.before.hops-by-length.ensures
+counted : (c : tie.Else-hops-eq0) → c.hops_by_length-hops.result ≡ hops_in Kind.flow (length c.args.value.now)
+counted c = rw (sized c) at c.hops_by_length-hops.ensures
 
 -- so the numbers before the route are there
-long : (c : tie.Else1) → numbers_size Kind.flow ≤ length c.before.before.before.args.value.now
+long : (c : tie.Else-hops-eq0) → numbers_size Kind.flow ≤ length c.args.value.now
 long c = allowed_long Kind.flow _ (sized c)
 
 -- the numbers that were tested are those in the value
-tested : (c : tie.After-flow-in-range) →
-    let v = c.before.before.before.before.before.before.before.before.args.value.now in
-    c.flow-in-range.result ≡ in_ranges (layout Kind.flow).numbers (numbers_at (layout Kind.flow).numbers v 0)
+tested : (c : tie.After-flow_in_range) →
+    let v = c.args.value.now in
+    c.flow_in_range.result ≡ in_ranges (layout Kind.flow).numbers (numbers_at (layout Kind.flow).numbers v 0)
 tested c =
     let b = c.before in
-    rw (b.before.before.before.be16.ensures, b.before.before.be32.ensures, b.before.be162.ensures, b.be163.ensures)
-    at c.flow-in-range.ensures
+    rw (b.be16.ensures, b.be32.ensures, b.be16-2.ensures, b.be16-3.ensures)
+    at c.flow_in_range.ensures
 
-returns : tie.Need-returns
+returns : tie.Need-returns-then-hops-eq0
 returns c =
-    let n = length c.before.before.before.args.value.now in
-    sym (value_length _ _ _ Kind.flow (refused_length Kind.flow 15 refl n (sym c.before.hops-by-length.ensures ∙ c.if1.true)))
+    let n = length c.args.value.now in
+    sym (value_length _ _ _ Kind.flow (refused_length Kind.flow 15 refl n (sym c.hops_by_length-hops.ensures ∙ c.if-hops-eq0.true)))
 
 be16-requires : tie.Need-be16-requires
 be16-requires c κs = omega (arith, long c)
@@ -54,36 +54,36 @@ be16-requires-2 c κs = omega (arith, long c.before.before)
 be16-requires-3 : tie.Need-be16-requires-3
 be16-requires-3 c κs = omega (arith, long c.before.before.before)
 
-returns_2 : tie.Need-returns-2
+returns_2 : tie.Need-returns-then-not-flow_in_range
 returns_2 c =
-    let f = sym (tested c.before) ∙ not-true _ c.if2.true in
+    let f = sym (tested c.before) ∙ c.if-not-flow_in_range.true in
     sym (value_range _ _ _ Kind.flow (sized c.before.before.before.before.before.before) (rw f))
 
 -- the route that was tested is the one in the value
-route_tested : (c : tie.After-route-in-range) →
-    c.route-in-range.result
-    ≡ every port_ok (route_in Kind.flow c.before.before.before.before.before.before.before.before.before.before.before.args.value.now)
+route_tested : (c : tie.After-route_in_range) →
+    c.route_in_range.result
+    ≡ every port_ok (route_in Kind.flow c.args.value.now)
 unfolding route_in
-route_tested c = c.route-in-range.ensures ∙ rw c.before.route_bytes.ensures
+route_tested c = c.route_in_range.ensures ∙ rw c.route_bytes.ensures
 
-returns_3 : tie.Need-returns-3
+returns_3 : tie.Need-returns-then-not-route_in_range
 returns_3 c =
     let b = c.before.before.before in
-    let f = sym (tested b.before) ∙ not-false _ b.if2.false in
-    let g = sym (route_tested c.before) ∙ not-true _ c.if3.true in
+    let f = sym (tested b.before) ∙ b.if-not-flow_in_range.false in
+    let g = sym (route_tested c.before) ∙ c.if-not-route_in_range.true in
     sym (value_range _ _ _ Kind.flow (sized b.before.before.before.before.before.before) (rw (f, g)))
 
-returns-4 : tie.Need-returns-4
+returns-4 : tie.Need-returns
 returns-4 c =
     let b = c.before.before.before in
-    let f = sym (tested b.before) ∙ not-false _ b.if2.false in
-    let g = sym (route_tested c.before) ∙ not-false _ c.if3.false in
+    let f = sym (tested b.before) ∙ b.if-not-flow_in_range.false in
+    let g = sym (route_tested c.before) ∙ c.if-not-route_in_range.false in
     let e = b.before.before.before.before.before.before in
     rw (
-      b.before.before.before.before.before.be16.ensures,
-      b.before.before.before.before.be32.ensures,
-      b.before.before.before.be162.ensures,
-      b.before.before.be163.ensures,
+      b.be16.ensures,
+      b.be32.ensures,
+      b.be16-2.ensures,
+      b.be16-3.ensures,
       counted e,
     )
     (sym (value_read _ _ _ Kind.flow (sized e) (rw (f, g))))
@@ -92,15 +92,15 @@ pub flow_of_spec : {M : Type 1} → statement M
 flow_of_spec =
     tie.close
     (tie.spec
-    (λ c κs. search rules)
+    (search rules)
     returns
     be16-requires
     be32-requires
     be16-requires-2
     be16-requires-3
-    (λ c κs. search rules)
+    (search rules)
     returns_2
-    (λ c κs. search rules)
-    (λ c κs. search rules)
+    (search rules)
+    (search rules)
     returns_3
     returns-4)

@@ -12,33 +12,33 @@ use Rattle.plan.specs.laws.Route.{names_step, names_past}
 use Rattle.plan.proofs.route.names_from.Statement.{statement}
 use Rattle.plan.proofs.route.names_from.Tie as tie
 
-abbrev invariant-loop : tie.invariant-loop
+abbrev invariant-loop : tie.invariant-loop-k
 invariant-loop route from port hops k₀ k = elem port (drop from (route_ports route)) ≡ elem port (drop k (route_ports route))
 
-abbrev decreases-loop : tie.decreases-loop
+abbrev decreases-loop : tie.decreases-loop-k
 decreases-loop route from port hops k₀ k = hops - k
 
 -- what is left to look at when a turn has read port k
-step : (c : tie.After-route-port invariant-loop decreases-loop) →
-    let a = c.before.before.before.before.before.args in
+step : (c : tie.After-route_port invariant-loop decreases-loop) →
+    let a = c.args in
     let r = route_ports a.route.now in
     elem a.port (drop a.from r)
-    ≡ (eqb a.port c.route-port.result || elem a.port (drop (c.before.before.loop.k + 1) r))
+    ≡ (eqb a.port c.route_port.result || elem a.port (drop (c.loop-k.k + 1) r))
 step c =
-    let a = c.before.before.before.before.before.args in
-    let at = c.before.before.loop in
-    rw c.route-port.ensures (at.invariant ∙ names_step a.route.now a.port at.k (omega arith))
+    let a = c.args in
+    let at = c.loop-k in
+    rw c.route_port.ensures (at.invariant ∙ names_step a.route.now a.port at.k (omega arith))
 
-returns : tie.Need-returns invariant-loop decreases-loop
-returns c = sym (step c.before ∙ rw (eq-eqb _ _ c.if1.true))
+returns : tie.Need-returns-then-port-route_port invariant-loop decreases-loop
+returns c = sym (step c.before ∙ rw (eq-eqb _ _ c.if-port-route_port.true))
 
-loop-again : tie.Need-loop-preserved invariant-loop decreases-loop
-loop-again c = step c.before ∙ rw (ne_eqb _ _ c.if1.false)
+loop-again : tie.Need-loop-k-preserved invariant-loop decreases-loop
+loop-again c = step c.before ∙ rw (ne_eqb _ _ c.if-port-route_port.false)
 
-returns_2 : tie.Need-returns-2 invariant-loop decreases-loop
+returns_2 : tie.Need-returns invariant-loop decreases-loop
 returns_2 c =
-    let a = c.before.before.before.before.args in
-    sym (c.before.loop.invariant ∙ names_past a.route.now a.port c.before.loop.k (omega arith))
+    let a = c.args in
+    sym (c.loop-k.invariant ∙ names_past a.route.now a.port c.loop-k.k (omega arith))
 
 pub names_from_spec : {M : Type 1} → statement M
 names_from_spec =

@@ -12,31 +12,31 @@ use Rattle.plan.specs.laws.Route.{every_step, every-past}
 use Rattle.plan.proofs.route.route_in_range.Statement.{statement}
 use Rattle.plan.proofs.route.route_in_range.Tie as tie
 
-abbrev invariant-loop : tie.invariant-loop
+abbrev invariant-loop : tie.invariant-loop-i
 invariant-loop route hops i₀ i = every port_ok (route_ports route) ≡ every port_ok (drop i (route_ports route))
 
-abbrev decreases-loop : tie.decreases-loop
+abbrev decreases-loop : tie.decreases-loop-i
 decreases-loop route hops i₀ i = hops - i
 
 -- what is left to test when a turn has tested port i
-step : (c : tie.After-port-ok invariant-loop decreases-loop) →
-    let r = route_ports c.before.before.before.before.before.before.args.route.now in
-    every port_ok r ≡ (c.port_ok_lem.result && every port_ok (drop (c.before.before.before.loop.i + 1) r))
+step : (c : tie.After-port_ok invariant-loop decreases-loop) →
+    let r = route_ports c.args.route.now in
+    every port_ok r ≡ (c.port_ok.result && every port_ok (drop (c.loop-i.i + 1) r))
 step c =
-    let v = c.before.before.before.before.before.before.args.route.now in
-    let at = c.before.before.before.loop in
-    rw (c.port_ok_lem.ensures, c.before.route-port.ensures) (at.invariant ∙ every_step v port_ok at.i (omega arith))
+    let v = c.args.route.now in
+    let at = c.loop-i in
+    rw (c.port_ok.ensures, c.route_port.ensures) (at.invariant ∙ every_step v port_ok at.i (omega arith))
 
-returns : tie.Need-returns invariant-loop decreases-loop
-returns c = sym (step c.before ∙ rw (not-true c.before.port_ok_lem.result c.if1.true))
+returns : tie.Need-returns-then-not-port_ok invariant-loop decreases-loop
+returns c = sym (step c.before ∙ rw (c.if-not-port_ok.true))
 
-loop-again : tie.Need-loop-preserved invariant-loop decreases-loop
-loop-again c = step c.before ∙ rw (not-false c.before.port_ok_lem.result c.if1.false)
+loop-again : tie.Need-loop-i-preserved invariant-loop decreases-loop
+loop-again c = step c.before ∙ rw (c.if-not-port_ok.false)
 
-returns_2 : tie.Need-returns-2 invariant-loop decreases-loop
+returns_2 : tie.Need-returns invariant-loop decreases-loop
 returns_2 c =
-    let v = c.before.before.before.before.args.route.now in
-    sym (c.before.loop.invariant ∙ every-past v port_ok c.before.loop.i (omega arith))
+    let v = c.args.route.now in
+    sym (c.loop-i.invariant ∙ every-past v port_ok c.loop-i.i (omega arith))
 
 pub route_in_range_spec : {M : Type 1} → statement M
 route_in_range_spec =

@@ -1,6 +1,6 @@
 -- `tables::valid::valid_tables` meets its contract: each way out has decided the tests before it.
 use mathlib.Core.Path.{refl, sym, ◌∙◌}
-use mathlib.Core.Bool.{and_false}
+use mathlib.Core.Bool.{and-false}
 use borrow.Author.Tests.{not-true, not-false}
 use Rattle.cqf.specs.Plan.{Plan, valid_port, valid_flow}
 use Rattle.cqf.specs.laws.Valid.{valid_by}
@@ -16,51 +16,51 @@ plan s =
     plan_by a.guard a.top (clock_of a.clock) a.rates.now a.blockings.now a.extras.now a.periods.now a.counts.now a.lengths.now a.jitters.now a.hops.now a.routes.now
 
 -- the state after each test
-abbrev past_top : tie.After-guard-ok → tie.After-top-ok
+abbrev past_top : tie.After-guard_ok → tie.After-top_ok
 past_top c = c.before.before
 
-abbrev past-guard : tie.After-clock-ok → tie.After-guard-ok
+abbrev past-guard : tie.After-clock_ok → tie.After-guard_ok
 past-guard c = c.before.before
 
-abbrev past-clock : tie.After-valid-ports → tie.After-clock-ok
+abbrev past-clock : tie.After-valid_ports → tie.After-clock_ok
 past-clock c = c.before.before
 
-abbrev past-ports : tie.After-valid-flows → tie.After-valid-ports
+abbrev past-ports : tie.After-valid_flows → tie.After-valid_ports
 past-ports c = c.before.before
 
-returns : tie.Need-returns
-returns c = sym (valid_by (plan c.before.before) (sym c.before.top-ok.ensures ∙ not-true _ c.if1.true) refl refl refl refl refl)
+returns : tie.Need-returns-then-not-top_ok
+returns c = sym (valid_by (plan c.before.before) (sym c.top_ok.ensures ∙ c.if-not-top_ok.true) refl refl refl refl refl)
 
-returns_2 : tie.Need-returns-2
+returns_2 : tie.Need-returns-then-not-guard_ok
 returns_2 c =
     sym
-    (valid_by (plan (past_top c.before).before) refl (sym c.before.guard_ok.ensures ∙ not-true _ c.if2.true) refl refl refl refl
-    ∙ simp and_false)
+    (valid_by (plan (past_top c.before).before) refl (sym c.guard_ok.ensures ∙ c.if-not-guard_ok.true) refl refl refl refl
+    ∙ simp and-false)
 
-returns_3 : tie.Need-returns-3
+returns_3 : tie.Need-returns-then-not-clock_ok
 returns_3 c =
     let top = past_top (past-guard c.before) in
     sym
-    (valid_by (plan top.before) refl refl (sym c.before.clock-ok.ensures ∙ not-true _ c.if3.true) refl refl refl
-    ∙ simp and_false)
+    (valid_by (plan top.before) refl refl (sym c.clock_ok.ensures ∙ c.if-not-clock_ok.true) refl refl refl
+    ∙ simp and-false)
 
-returns-4 : tie.Need-returns-4
+returns-4 : tie.Need-returns-then-not-valid_ports
 unfolding valid_port
 returns-4 c =
     let top = past_top (past-guard (past-clock c.before)) in
     sym
-    (valid_by (plan top.before) refl refl refl (sym c.before.valid-ports.ensures ∙ not-true _ c.if4.true) refl refl
-    ∙ simp and_false)
+    (valid_by (plan top.before) refl refl refl (sym c.valid_ports.ensures ∙ c.if-not-valid_ports.true) refl refl
+    ∙ simp and-false)
 
-returns-5 : tie.Need-returns-5
+returns-5 : tie.Need-returns-then-not-valid_flows
 unfolding valid_flow
 returns-5 c =
     let top = past_top (past-guard (past-clock (past-ports c.before))) in
     sym
-    (valid_by (plan top.before) refl refl refl refl (sym c.before.valid-flows.ensures ∙ not-true _ c.if5.true) refl
-    ∙ simp and_false)
+    (valid_by (plan top.before) refl refl refl refl (sym c.valid_flows.ensures ∙ c.if-not-valid_flows.true) refl
+    ∙ simp and-false)
 
-returns-6 : tie.Need-returns-6
+returns-6 : tie.Need-returns
 unfolding valid_port valid_flow
 returns-6 c =
     let flows = c.before.before in
@@ -71,12 +71,12 @@ returns-6 c =
     sym
     (valid_by
     (plan top.before)
-    (sym top.top-ok.ensures ∙ not-false _ guard.before.if1.left)
-    (sym guard.guard_ok.ensures ∙ not-false _ clock.before.if2.left)
-    (sym clock.clock-ok.ensures ∙ not-false _ ports.before.if3.left)
-    (sym ports.valid-ports.ensures ∙ not-false _ flows.before.if4.false)
-    (sym flows.valid-flows.ensures ∙ not-false _ c.before.if5.false)
-    (sym c.any-present.ensures))
+    (sym top.top_ok.ensures ∙ guard.if-not-top_ok.false)
+    (sym guard.guard_ok.ensures ∙ clock.if-not-guard_ok.false)
+    (sym clock.clock_ok.ensures ∙ ports.if-not-clock_ok.false)
+    (sym ports.valid_ports.ensures ∙ flows.if-not-valid_ports.false)
+    (sym flows.valid_flows.ensures ∙ c.if-not-valid_flows.false)
+    (sym c.any_present.ensures))
 
 pub valid_tables_spec : {M : Type 1} → statement M
 valid_tables_spec =

@@ -1,0 +1,6 @@
+-- `extra_ok` meets its contract: its ends are those of the range.
+use borrow.Author.Rules.{rules}
+use Rattle.numbers.proofs.limits.extra_ok.Goals as goal
+
+pub returns : goal.returns
+returns c = c.between.ensures

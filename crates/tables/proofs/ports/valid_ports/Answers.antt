@@ -1,0 +1,36 @@
+use mathlib.Core.Path.{◌≡◌, sym, ◌∙◌}
+use mathlib.Core.Bool.{true}
+use mathlib.Core.List.{[]}
+use Prim.Native.Nat.{◌-◌, ◌≤◌}
+use native.Mathlib.Omega.{arith}
+use borrow.Author.Rules.{rules}
+use borrow.Author.Tests.{not-true, not-false}
+use Rattle.cqf.specs.Bounded.{all_to}
+use Rattle.cqf.specs.Limits.{port_slots}
+use Rattle.cqf.specs.Plan.{equal_clocks, valid_port}
+use Rattle.cqf.specs.laws.Bounds.{all_to-next, all_to_false}
+use Rattle.tables.specs.Columns.{columns}
+use Rattle.tables.proofs.ports.valid_ports.Goals as goal
+
+pub loop-q-init : goal.loop-q-init
+unfolding all_to
+loop-q-init c = search rules
+
+pub returns-then-not-valid_port : goal.returns-then-not-valid_port
+unfolding valid_port
+returns-then-not-valid_port c =
+    let q = c.loop-q.q in
+    sym (all_to_false port_slots _ q (omega arith) (sym c.valid_port.ensures ∙ c.if-not-valid_port.true))
+
+pub loop-q-preserved : goal.loop-q-preserved
+unfolding valid_port
+loop-q-preserved c =
+    let at = c.before.before.before.before.before.before in (
+      omega arith,
+      all_to-next at.loop-q.q _ at.loop-q.invariant.1 (sym c.valid_port.ensures ∙ c.if-not-valid_port.false),
+    )
+
+pub returns : goal.returns
+returns c =
+    let all : c.loop-q.q ≡ port_slots = omega arith in
+    sym (rw all at c.loop-q.invariant.1)

@@ -1,0 +1,32 @@
+use Prim.Native.Nat.{◌+◌, ◌-◌, ◌≤◌}
+use mathlib.Core.Path.{◌≡◌, refl, sym, ◌∙◌}
+use native.Mathlib.Omega.{arith}
+use borrow.Author.Rules.{rules}
+use borrow.Author.Tests.{not-true, not-false}
+use lib.ListN.{length, drop}
+use Rattle.words.specs.Run.{run}
+use Rattle.words.specs.Lines.{is_in_line}
+use Rattle.words.specs.laws.Run.{run_past, run-stops, run_goes}
+use Rattle.words.proofs.runs.line_end.Goals as goal
+
+pub loop-i-init : goal.loop-i-init
+loop-i-init c = refl
+
+pub returns-then-not-is_in_line : goal.returns-then-not-is_in_line
+returns-then-not-is_in_line c =
+    let turn = c.before.before.before.before in
+    let a = turn.before.before.args in
+    let stops = run-stops is_in_line a.text.now turn.loop-i.i (omega arith) (sym c.before.is_in_line.ensures ∙ c.if-not-is_in_line.true) in
+    omega arith
+
+pub loop-i-preserved : goal.loop-i-preserved
+loop-i-preserved c =
+    let turn = c.before.before.before.before in
+    let a = turn.before.before.args in
+    let goes = run_goes is_in_line a.text.now turn.loop-i.i (omega arith) (sym c.before.is_in_line.ensures ∙ c.if-not-is_in_line.false) in
+    sym goes ∙ turn.loop-i.invariant
+
+pub returns : goal.returns
+returns c =
+    let a = c.before.before.before.args in
+    omega (arith, run_past is_in_line a.text.now c.before.loop-i.i (omega arith))
