@@ -6,41 +6,22 @@ use borrow.Author.Rules.{rules}
 use Rattle.plan_reading.specs.FieldBytes.{bytes4}
 use Rattle.writing.specs.Fields.{head_bytes, header_numbers}
 use Rattle.writing.specs.laws.Laid.{laid-over, laid_short, lay_next}
-use Rattle.writing.proofs.field.begin_header.Statement.{statement}
-use Rattle.writing.proofs.field.begin_header.Tie as tie
+use Rattle.writing.proofs.field.begin_header.Goals as goal
 
-returns : tie.Need-returns
-returns c =
-    let a = c.before.before.args in
+pub returns-then-out : goal.returns-then-out
+returns-then-out c =
+    let a = c.args in
     sym (laid_short (head_bytes a.tag a.size ++ header_numbers a.guard a.top) a.out.now (omega arith))
 
-returns_2 : tie.Need-returns-2
-returns_2 c =
+pub returns : goal.returns
+returns c =
     let second = c.before.before in
     let first = second.before.before.before.before in
     let head = first.before.before.before.before in
-    let a = head.before.before.before.before.args in
+    let a = head.args in
     let entry = a.out.now in
     let h = head_bytes a.tag a.size in
-    let there = head.put-head.ensures ∙ laid-over h entry (omega arith) in
+    let there = head.put_head.ensures ∙ laid-over h entry (omega arith) in
     let after_first = lay_next h (bytes4 a.guard) entry 3 refl there (omega arith) first.put4.ensures in
-    lay_next (h ++ bytes4 a.guard) (bytes4 a.top) entry 7 refl after_first (omega arith) second.put42.ensures
+    lay_next (h ++ bytes4 a.guard) (bytes4 a.top) entry 7 refl after_first (omega arith) second.put4-2.ensures
     ∙ sym (laid-over (head_bytes a.tag a.size ++ header_numbers a.guard a.top) entry (omega arith))
-
-pub begin_header_spec : {M : Type 1} → statement M
-begin_header_spec =
-    tie.close
-    (tie.spec
-    (λ c. search rules)
-    returns
-    (λ c κs. search rules)
-    (λ c. search rules)
-    (λ c. search rules)
-    (λ c. search rules)
-    (λ c κs. search rules)
-    (λ c. search rules)
-    (λ c. search rules)
-    (λ c. search rules)
-    (λ c κs. search rules)
-    (λ c. search rules)
-    returns_2)

@@ -7,38 +7,22 @@ use Rattle.plan.specs.Layout.{Kind, layout, numbers_size}
 use Rattle.plan_reading.specs.FieldBytes.{bytes2, value_of, bytes_of}
 use Rattle.writing.specs.Fields.{head_bytes, port_numbers, port2_bytes}
 use Rattle.writing.specs.laws.Laid.{laid-over, laid_short, lay_next}
-use Rattle.writing.proofs.newer.put_port2.Statement.{statement}
-use Rattle.writing.proofs.newer.put_port2.Tie as tie
+use Rattle.writing.proofs.newer.put_port2.Goals as goal
 
-returns : tie.Need-returns
+pub returns-then-out : goal.returns-then-out
 unfolding bytes_of value_of
-returns c =
-    let a = c.before.before.args in
+returns-then-out c =
+    let a = c.args in
     sym (laid_short (port2_bytes a.number a.rate a.blocking a.extra) a.out.now (omega arith))
 
-returns_2 : tie.Need-returns-2
+pub returns : goal.returns
 unfolding bytes_of value_of
-returns_2 c =
+returns c =
     let last = c.before.before in
     let first = last.before.before.before.before in
-    let a = first.before.before.before.before.args in
+    let a = first.args in
     let entry = a.out.now in
     let begun = head_bytes (layout Kind.port2).tag (numbers_size Kind.port2) ++ port_numbers a.number a.rate a.blocking in
-    let there = first.begin-port.ensures ∙ laid-over begun entry (omega arith) in
+    let there = first.begin_port.ensures ∙ laid-over begun entry (omega arith) in
     lay_next begun (bytes2 a.extra) entry 11 refl there (omega arith) last.put2.ensures
     ∙ sym (laid-over (port2_bytes a.number a.rate a.blocking a.extra) entry (omega arith))
-
-pub put_port2_spec : {M : Type 1} → statement M
-put_port2_spec =
-    tie.close
-    (tie.spec
-    (λ c. search rules)
-    returns
-    (λ c. search rules)
-    (λ c κs. search rules)
-    (λ c. search rules)
-    (λ c. search rules)
-    (λ c. search rules)
-    (λ c κs. search rules)
-    (λ c. search rules)
-    returns_2)

@@ -8,44 +8,24 @@ use Rattle.plan_reading.specs.Part.{jitter}
 use Rattle.plan_reading.specs.FieldBytes.{bytes2, bytes4, value_of, bytes_of}
 use Rattle.writing.specs.Fields.{head_bytes, field_bytes}
 use Rattle.writing.specs.laws.Laid.{laid-over, laid_short, lay_next}
-use Rattle.writing.proofs.field.put_jitter.Statement.{statement}
-use Rattle.writing.proofs.field.put_jitter.Tie as tie
+use Rattle.writing.proofs.field.put_jitter.Goals as goal
 
-returns : tie.Need-returns
+pub returns-then-out : goal.returns-then-out
 unfolding bytes_of value_of
-returns c =
-    let a = c.before.before.args in
+returns-then-out c =
+    let a = c.args in
     sym (laid_short (field_bytes (jitter a.number a.ns)) a.out.now (omega arith))
 
-returns_2 : tie.Need-returns-2
+pub returns : goal.returns
 unfolding bytes_of value_of
-returns_2 c =
+returns c =
     let second = c.before.before in
     let first = second.before.before.before.before in
     let head = first.before.before.before.before in
-    let a = head.before.before.before.before.args in
+    let a = head.args in
     let entry = a.out.now in
     let h = head_bytes (layout Kind.jitter).tag (numbers_size Kind.jitter) in
-    let there = head.put-head.ensures ∙ laid-over h entry (omega arith) in
+    let there = head.put_head.ensures ∙ laid-over h entry (omega arith) in
     let after_first = lay_next h (bytes2 a.number) entry 3 refl there (omega arith) first.put2.ensures in
     lay_next (h ++ bytes2 a.number) (bytes4 a.ns) entry 5 refl after_first (omega arith) second.put4.ensures
     ∙ sym (laid-over (field_bytes (jitter a.number a.ns)) entry (omega arith))
-
-pub put_jitter_spec : {M : Type 1} → statement M
-put_jitter_spec =
-    tie.close
-    (tie.spec
-    (λ c. search rules)
-    returns
-    (λ c. search rules)
-    (λ c κs. search rules)
-    (λ c. search rules)
-    (λ c. search rules)
-    (λ c. search rules)
-    (λ c κs. search rules)
-    (λ c. search rules)
-    (λ c. search rules)
-    (λ c. search rules)
-    (λ c κs. search rules)
-    (λ c. search rules)
-    returns_2)

@@ -6,47 +6,24 @@ use borrow.Author.Rules.{rules}
 use Rattle.plan_reading.specs.FieldBytes.{bytes2, bytes4}
 use Rattle.writing.specs.Fields.{head_bytes, port_numbers}
 use Rattle.writing.specs.laws.Laid.{laid-over, laid_short, lay_next}
-use Rattle.writing.proofs.field.begin_port.Statement.{statement}
-use Rattle.writing.proofs.field.begin_port.Tie as tie
+use Rattle.writing.proofs.field.begin_port.Goals as goal
 
-returns : tie.Need-returns
-returns c =
-    let a = c.before.before.args in
+pub returns-then-out : goal.returns-then-out
+returns-then-out c =
+    let a = c.args in
     sym (laid_short (head_bytes a.tag a.size ++ port_numbers a.number a.rate a.blocking) a.out.now (omega arith))
 
-returns_2 : tie.Need-returns-2
-returns_2 c =
+pub returns : goal.returns
+returns c =
     let third = c.before.before in
     let second = third.before.before.before.before in
     let first = second.before.before.before.before in
     let head = first.before.before.before.before in
-    let a = head.before.before.before.before.args in
+    let a = head.args in
     let entry = a.out.now in
     let h = head_bytes a.tag a.size in
-    let there = head.put-head.ensures ∙ laid-over h entry (omega arith) in
+    let there = head.put_head.ensures ∙ laid-over h entry (omega arith) in
     let after_first = lay_next h (bytes2 a.number) entry 3 refl there (omega arith) first.put2.ensures in
     let after-second = lay_next (h ++ bytes2 a.number) (bytes4 a.rate) entry 5 refl after_first (omega arith) second.put4.ensures in
-    lay_next ((h ++ bytes2 a.number) ++ bytes4 a.rate) (bytes2 a.blocking) entry 9 refl after-second (omega arith) third.put22.ensures
+    lay_next ((h ++ bytes2 a.number) ++ bytes4 a.rate) (bytes2 a.blocking) entry 9 refl after-second (omega arith) third.put2-2.ensures
     ∙ sym (laid-over (head_bytes a.tag a.size ++ port_numbers a.number a.rate a.blocking) entry (omega arith))
-
-pub begin_port_spec : {M : Type 1} → statement M
-begin_port_spec =
-    tie.close
-    (tie.spec
-    (λ c. search rules)
-    returns
-    (λ c κs. search rules)
-    (λ c. search rules)
-    (λ c. search rules)
-    (λ c. search rules)
-    (λ c κs. search rules)
-    (λ c. search rules)
-    (λ c. search rules)
-    (λ c. search rules)
-    (λ c κs. search rules)
-    (λ c. search rules)
-    (λ c. search rules)
-    (λ c. search rules)
-    (λ c κs. search rules)
-    (λ c. search rules)
-    returns_2)

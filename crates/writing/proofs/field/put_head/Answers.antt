@@ -6,34 +6,20 @@ use Rattle.plan_reading.specs.FieldBytes.{bytes2}
 use Rattle.writing.specs.Laid.{bytes1}
 use Rattle.writing.specs.Fields.{head_bytes}
 use Rattle.writing.specs.laws.Laid.{laid-over, laid_short, lay_next}
-use Rattle.writing.proofs.field.put_head.Statement.{statement}
-use Rattle.writing.proofs.field.put_head.Tie as tie
+use Rattle.writing.proofs.field.put_head.Goals as goal
 
-returns : tie.Need-returns
-returns c =
-    let a = c.before.before.args in
+pub returns-then-out-lt-HEAD_SIZE : goal.returns-then-out-lt-HEAD_SIZE
+returns-then-out-lt-HEAD_SIZE c =
+    let a = c.args in
     sym (laid_short (head_bytes a.tag a.size) a.out.now (omega arith))
 
-returns_2 : tie.Need-returns-2
-returns_2 c =
+pub returns : goal.returns
+returns c =
     let first = c.before.before in
     let head = first.before.before.before.before in
-    let a = head.before.before.before.before.args in
+    let a = head.args in
     let entry = a.out.now in
     let h = bytes1 a.tag in
     let there = head.put1.ensures ∙ laid-over h entry (omega arith) in
     lay_next h (bytes2 a.size) entry 1 refl there (omega arith) first.put2.ensures
     ∙ sym (laid-over (head_bytes a.tag a.size) entry (omega arith))
-
-pub put_head_spec : {M : Type 1} → statement M
-put_head_spec =
-    tie.close
-    (tie.spec
-    returns
-    (λ c κs. search rules)
-    (λ c. search rules)
-    (λ c. search rules)
-    (λ c. search rules)
-    (λ c κs. search rules)
-    (λ c. search rules)
-    returns_2)
