@@ -9,49 +9,49 @@ use Rattle.loading.proofs.absent.any_absent.Statement.{statement}
 use Rattle.loading.proofs.absent.any_absent.Tie as tie
 
 -- the start, from past the first test
-abbrev entry : tie.Else1 → tie.Start
+abbrev entry : tie.Else-any_lacking → tie.Start
 entry c = c.before.before.before.before.before
 
-none_named : (c : tie.Else1) →
+none_named : (c : tie.Else-any_lacking) →
     let a = (entry c).args in
     lacking a.named.now (marks_of a.seen.now port_keys port_slots) ≡ false
-none_named c = sym c.before.any-lacking.ensures ∙ c.if1.false
+none_named c = sym c.any_lacking.ensures ∙ c.if-any_lacking.false
 
-none-extra : (c : tie.Else2) →
+none-extra : (c : tie.Else-any_lacking-2) →
     let a = (entry c.before.before.before).args in
     lacking (marks_of a.seen.now extra_keys port_slots) (marks_of a.seen.now port_keys port_slots) ≡ false
-none-extra c = sym c.before.any-lacking2.ensures ∙ c.if2.false
+none-extra c = sym c.any_lacking-2.ensures ∙ c.if2.false
 
-returns : tie.Need-returns
-returns c = rw (sym c.before.any-lacking.ensures ∙ c.if1.true)
+returns : tie.Need-returns-then-any_lacking
+returns c = rw (sym c.any_lacking.ensures ∙ c.if-any_lacking.true)
 
-returns_2 : tie.Need-returns-2
-returns_2 c = rw (none_named c.before.before.before, sym c.before.any-lacking2.ensures ∙ c.if2.true)
+returns_2 : tie.Need-returns-then-any_lacking-2
+returns_2 c = rw (none_named c.before.before.before, sym c.any_lacking-2.ensures ∙ c.if2.true)
 
-returns_3 : tie.Need-returns-3
+returns_3 : tie.Need-returns
 returns_3 c =
     let two = c.before.before.before in
-    rw (none_named two.before.before.before, none-extra two) c.any-lacking3.ensures
+    rw (none_named two.before.before.before, none-extra two) c.any_lacking-3.ensures
 
 pub any_absent_spec : {M : Type 1} → statement M
 any_absent_spec =
     tie.close
     (tie.spec
-    (λ c. search rules)
-    (λ c. search rules)
-    (λ c. search rules)
-    (λ c κs. search rules)
+    (search rules)
+    (search rules)
+    (search rules)
+    (search rules)
     returns
-    (λ c. search rules)
-    (λ c. search rules)
-    (λ c. search rules)
-    (λ c κs. search rules)
+    (search rules)
+    (search rules)
+    (search rules)
+    (search rules)
     returns_2
-    (λ c. search rules)
-    (λ c. search rules)
-    (λ c. search rules)
-    (λ c. search rules)
-    (λ c. search rules)
-    (λ c. search rules)
-    (λ c κs. search rules)
+    (search rules)
+    (search rules)
+    (search rules)
+    (search rules)
+    (search rules)
+    (search rules)
+    (search rules)
     returns_3)

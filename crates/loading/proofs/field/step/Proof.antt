@@ -15,24 +15,24 @@ held c =
     draft_of c.args.totals c.args.rates.now c.args.blockings.now c.args.extras.now c.args.periods.now c.args.counts.now
     c.args.lengths.now c.args.jitters.now c.args.hops.now c.args.routes.now c.args.seen.now
 
-take-field-requires : tie.Need-take-field-requires
+take-field-requires : tie.Need-take_field-requires
 take-field-requires c κs =
     let told = c.before.before.before.before.before.before.before.before.before.before.before.before in
-    let a = told.before.before.before.before in
-    (a.requires.0, a.requires.1, a.requires.2, sym told.before.before.field_at.ensures ∙ ap field_read_of told.field.given.1)
+    let a = told.before.before in
+    (a.requires.0, a.requires.1, a.requires.2, sym told.field_at.ensures ∙ ap field_read_of told.field.given.1)
 
-returns_2 : tie.Need-returns-2
+returns_2 : tie.Need-returns-in-Refused
 returns_2 c =
-    let a = c.before.before.before.before.before in
-    (sym (step_refused _ (mode_of a.args.strict) _ _ _ (held a) _ _ (sym c.before.before.before.field_at.ensures ∙ ap field_read_of c.before.fault.given.1)), tt)
+    let a = c.before.before.before in
+    (sym (step_refused _ (mode_of a.args.strict) _ _ _ (held a) _ _ (sym c.field_at.ensures ∙ ap field_read_of c.fault.given.1)), tt)
 
 pub step_spec : {M : Type 1} → statement M
 step_spec =
     tie.close
     (tie.spec
-    (λ c κs. search rules)
-    (λ c. search rules)
+    (search rules)
+    (search rules)
     take-field-requires
-    (λ c. search rules)
-    (λ c. search rules)
+    (search rules)
+    (search rules)
     returns_2)

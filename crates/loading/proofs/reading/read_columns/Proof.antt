@@ -41,28 +41,28 @@ record Reached (form : Form) (mode : Mode) (s : List ℕ) (d : Draft) (named : L
   sized : length named ≡ port_slots
   behind : Behind s named d at
 
-abbrev invariant-loop : tie.invariant-loop
+abbrev invariant-loop : tie.invariant-loop-at
 invariant-loop form strict plan rates₀ blockings₀ extras₀ periods₀ counts₀ lengths₀ jitters₀ hops₀ routes₀ totals₀ strictly seen₀ named₀ last₀ at₀ rates blockings extras periods counts lengths jitters hops routes totals seen named last at =
     Reached (form_of form) (mode_of strictly) plan (draft_of totals rates blockings extras periods counts lengths jitters hops routes seen) named at last
 
-abbrev decreases-loop : tie.decreases-loop
+abbrev decreases-loop : tie.decreases-loop-at
 decreases-loop form strict plan rates₀ blockings₀ extras₀ periods₀ counts₀ lengths₀ jitters₀ hops₀ routes₀ totals₀ strictly seen₀ named₀ last₀ at₀ rates blockings extras periods counts lengths jitters hops routes totals seen named last at =
     length plan - at
 
 -- the states on the way, each named once: in a turn from where its columns are lent, the loop's from its end, and the start
-abbrev in_turn : tie.After-named invariant-loop decreases-loop → tie.In-loop invariant-loop decreases-loop
+abbrev in_turn : tie.After-named-1 invariant-loop decreases-loop → tie.In-loop-at invariant-loop decreases-loop
 in_turn c = c.before.before.before.before.before.before.before.before.before.before.before
 
-abbrev at_last : tie.After-close invariant-loop decreases-loop → tie.At-loop invariant-loop decreases-loop
-at_last c = c.before.before.before.before.before.before
+abbrev at_last : tie.After-close-answer invariant-loop decreases-loop → tie.At-loop-at invariant-loop decreases-loop
+at_last c = c.before.before.before.before
 
-abbrev entry : tie.At-loop invariant-loop decreases-loop → tie.Start invariant-loop decreases-loop
+abbrev entry : tie.At-loop-at invariant-loop decreases-loop → tie.Start invariant-loop decreases-loop
 entry c = c.before.before.before.before.before
 
 -- where a turn begins: the reading, the plan's bytes, the offset, the key before it and the draft so far
-module _ (c : tie.At-loop invariant-loop decreases-loop) where
+module _ (c : tie.At-loop-at invariant-loop decreases-loop) where
   abbrev mode : Mode
-  mode = mode_of c.before.strict_in.result
+  mode = mode_of c.strict_in-strictly.result
 
   abbrev form : Form
   form = form_of (entry c).args.form
@@ -74,90 +74,90 @@ module _ (c : tie.At-loop invariant-loop decreases-loop) where
   bytes = (entry c).args.plan.now
 
   abbrev here : ℕ
-  here = c.loop.at
+  here = c.loop-at.at
 
   abbrev last : ℕ
-  last = c.loop.last
+  last = c.loop-at.last
 
   abbrev held : Draft
   held =
-      draft_of c.loop.totals c.loop.rates c.loop.blockings c.loop.extras c.loop.periods c.loop.counts c.loop.lengths
-      c.loop.jitters c.loop.hops c.loop.routes c.loop.seen
+      draft_of c.loop-at.totals c.loop-at.rates c.loop-at.blockings c.loop-at.extras c.loop-at.periods c.loop-at.counts c.loop-at.lengths
+      c.loop-at.jitters c.loop-at.hops c.loop-at.routes c.loop-at.seen
 
   -- test 1 was passed
   sized : within 1 max_bytes (length bytes) ≡ true
-  sized = sym c.before.before.before.Size-ok.ensures ∙ not-false c.before.before.before.Size-ok.result c.before.before.if1.false
+  sized = sym c.Size-ok.ensures ∙ c.if-not-size_ok.false
 
   -- the reading of the plan is the reading from here on
   rest_read : read_form form reading bytes ≡ read_from form mode (length bytes) bytes here last held
   rest_read =
       form_sized form reading bytes sized
-      ∙ ap (λ (m : Mode). read_from form m (length bytes) bytes 0 0 blank) (sym c.before.strict_in.ensures)
-      ∙ c.loop.invariant.rest
+      ∙ ap (λ (m : Mode). read_from form m (length bytes) bytes 0 0 blank) (sym c.strict_in-strictly.ensures)
+      ∙ c.loop-at.invariant.rest
 
 -- the step of a field that was read with this outcome, into the columns as the turn left them
 abbrev stepped-as : tie.After-step invariant-loop decreases-loop → Progress → Step
 stepped-as c r =
-    let l = c.step.new.1.1.1.1.1.1 in
-    progress_of r l.0 l.1.0 l.1.1.0 l.1.1.1.0 l.1.1.1.1.0 l.1.1.1.1.1.0 l.1.1.1.1.1.1.0
-    l.1.1.1.1.1.1.1.0 l.1.1.1.1.1.1.1.1.0 l.1.1.1.1.1.1.1.1.1.0
+    let l = c.step.new.totals.1.1.1.1.1 in
+    progress_of r c.step.new.rates c.step.new.blockings c.step.new.extras c.step.new.periods c.step.new.counts c.step.new.lengths c.step.new.jitters
+    c.step.new.hops c.step.new.routes c.step.new.seen
 
 -- a turn that goes on, as the definition steps
-module _ (c : tie.After-known-told invariant-loop decreases-loop) where
-  abbrev tested : tie.In-loop invariant-loop decreases-loop
-  tested = in_turn c.before.before.before.before
+module _ (c : tie.In-More invariant-loop decreases-loop) where
+  abbrev tested : tie.In-loop-at invariant-loop decreases-loop
+  tested = in_turn c.before.before
 
-  abbrev turn : tie.At-loop invariant-loop decreases-loop
+  abbrev turn : tie.At-loop-at invariant-loop decreases-loop
   turn = tested.before
 
   abbrev next : ℕ
-  next = c.before.next.given.0.0
+  next = c.next.given.0.0
 
   abbrev key : ℕ
-  key = c.before.next.given.0.1.0
+  key = c.next.given.0.1.0
 
   abbrev read : Draft
   read =
-      let l = c.before.before.before.step.new.1.1.1.1.1.1 in
-      draft_of c.before.next.given.0.1.1.0 l.0 l.1.0 l.1.1.0 l.1.1.1.0 l.1.1.1.1.0 l.1.1.1.1.1.0
-      l.1.1.1.1.1.1.0 l.1.1.1.1.1.1.1.0 l.1.1.1.1.1.1.1.1.0 l.1.1.1.1.1.1.1.1.1.0
+      let l = c.step.new.totals.1.1.1.1.1 in
+      draft_of c.next.given.0.1.1.0 c.step.new.rates c.step.new.blockings c.step.new.extras c.step.new.periods c.step.new.counts c.step.new.lengths
+      c.step.new.jitters c.step.new.hops c.step.new.routes c.step.new.seen
 
   stepped : step_at (form turn) (mode turn) (bytes turn) (here turn) (last turn) (held turn) ≡ more next key read
-  stepped = sym c.before.before.before.step.ensures.0 ∙ ap (stepped-as c.before.before.before) c.before.next.given.1
+  stepped = sym c.step.ensures.0 ∙ ap (stepped-as c.before.before.before) c.next.given.1
 
   -- the marks of the ports that were named, as the turn left them
   abbrev marked : List ℕ
-  marked = c.before.before.before.step.new.1.1.1.1.1.1.1.1.1.1.1.1.1.1.1.1.0
+  marked = c.step.new.named
 
-  names : Marks turn.loop.named marked (bytes turn) (here turn)
+  names : Marks turn.loop-at.named marked (bytes turn) (here turn)
   names =
-      subst (λ (p : Progress). Names p turn.loop.named marked (bytes turn) (here turn)) c.before.next.given.1
-      c.before.before.before.step.ensures.1
+      subst (λ (p : Progress). Names p turn.loop-at.named marked (bytes turn) (here turn)) c.next.given.1
+      c.step.ensures.1
 
   goes_on : Onward (bytes turn) (here turn) (held turn) next read
   goes_on = onward (form turn) (mode turn) (bytes turn) (here turn) (last turn) (held turn) next key read stepped
 
 -- all fields are read
-at_end : (c : tie.After-close invariant-loop decreases-loop) →
+at_end : (c : tie.After-close-answer invariant-loop decreases-loop) →
     let l = at_last c in
-    read_form (form l) (reading l) (bytes l) ≡ answer_of (held l).tables c.close.result
+    read_form (form l) (reading l) (bytes l) ≡ answer_of (held l).tables c.close-answer.result
 at_end c =
     let l = at_last c in
-    let end = c.before.before.before.before.before.loop-test.false in
+    let end = c.loop-at-test.false in
     rest_read l
     ∙ read_end (form l) (mode l) (bytes l) (here l) (last l) (held l) _ end
-    ∙ sym (c.close.ensures (held l).tables refl refl (behind_end (bytes l) l.loop.named (held l) (here l) end l.loop.inv.filled l.loop.inv.behind))
+    ∙ sym (c.close-answer.ensures (held l).tables refl refl (behind_end (bytes l) l.loop-at.named (held l) (here l) end l.loop-at.invariant.filled l.loop-at.invariant.behind))
 
-returns : tie.Need-returns invariant-loop decreases-loop
+returns : tie.Need-returns-then-not-size_ok invariant-loop decreases-loop
 returns c =
-    let a = c.before.before.before.args in
-    sym (form_unsized (form_of a.form) (mode_of a.strict) a.plan.now (sym c.before.Size-ok.ensures ∙ not-true c.before.Size-ok.result c.if1.true))
+    let a = c.args in
+    sym (form_unsized (form_of a.form) (mode_of a.strict) a.plan.now (sym c.Size-ok.ensures ∙ c.if-not-size_ok.true))
 
 -- the draft of the tables that hold nothing
 abbrev fresh : Plan → Draft
 fresh p = record { tables = p; seen = replicate key_slots 0; ports = 0; flows = 0 }
 
-loop-holds : tie.Need-loop-init invariant-loop decreases-loop
+loop-holds : tie.Need-loop-at-init invariant-loop decreases-loop
 unfolding blank
 loop-holds c =
     let s = c.before.before.before.before in
@@ -166,7 +166,7 @@ loop-holds c =
       ports = omega arith;
       flows = omega arith;
       rest =
-          ap (λ (p : Plan). read_from (form_of s.args.form) (mode_of c.strict_in.result) (length s.args.plan.now) s.args.plan.now 0 0 (fresh p))
+          ap (λ (p : Plan). read_from (form_of s.args.form) (mode_of c.strict_in-strictly.result) (length s.args.plan.now) s.args.plan.now 0 0 (fresh p))
           (sym s.requires);
       flagged = length-replicate {A = ℕ} key_slots 0;
       sized = length-replicate {A = ℕ} port_slots 0;
@@ -178,41 +178,41 @@ loop-holds c =
 step-requires : tie.Need-step-requires invariant-loop decreases-loop
 step-requires c κs =
     let l = (in_turn c).before in
-    let i = l.loop.inv in
+    let i = l.loop-at.invariant in
     let most = within_high 1 max_bytes (length (bytes l)) (sized l) in
     (omega (arith, i.inside, i.ports, most), omega (arith, i.inside, i.flows, most), i.sized)
 
-loop-less : tie.Need-loop-smaller invariant-loop decreases-loop
+loop-less : tie.Need-loop-at-smaller invariant-loop decreases-loop
 loop-less c = omega (arith, (goes_on c).forward, (goes_on c).inside)
 
 -- a turn that goes on reaches the next offset
-loop-again : tie.Need-loop-preserved invariant-loop decreases-loop
+loop-again : tie.Need-loop-at-preserved invariant-loop decreases-loop
 loop-again c =
     let l = turn c in
-    let i = l.loop.inv in
+    let i = l.loop-at.invariant in
     record {
       inside = (goes_on c).inside;
       ports = omega (arith, i.ports, (goes_on c).ports, (goes_on c).forward);
       flows = omega (arith, i.flows, (goes_on c).flows, (goes_on c).forward);
-      rest = i.rest ∙ read_more (form l) (mode l) (bytes l) (here l) (last l) (held l) (tested c).loop-test.true (next c) (key c) (read c) (stepped c);
+      rest = i.rest ∙ read_more (form l) (mode l) (bytes l) (here l) (last l) (held l) (tested c).loop-at-test.true (next c) (key c) (read c) (stepped c);
       flagged = flagged_next (form l) (mode l) (bytes l) (here l) (last l) (held l) (next c) (key c) (read c) (stepped c) i.flagged;
       filled = Filled-next (form l) (mode l) (bytes l) (here l) (last l) (held l) (next c) (key c) (read c) (stepped c) i.flagged i.filled;
       sized = (names c).sized;
       behind =
-          behind-next (form l) (mode l) (bytes l) (here l) (last l) (held l) (next c) (key c) (read c) l.loop.named (marked c) (stepped c) i.flagged
+          behind-next (form l) (mode l) (bytes l) (here l) (last l) (held l) (next c) (key c) (read c) l.loop-at.named (marked c) (stepped c) i.flagged
           (names c) i.behind;
     }
 
-returns_2 : tie.Need-returns-2 invariant-loop decreases-loop
+returns_2 : tie.Need-returns-in-Stop invariant-loop decreases-loop
 returns_2 c =
-    let test = in_turn c.before.before.before.before in
+    let test = in_turn c.before.before in
     let l = test.before in
     sym
     (rest_read l
-    ∙ read_stop (form l) (mode l) (bytes l) (here l) (last l) (held l) test.loop-test.taken _ _
-    (sym c.before.before.before.step.ensures.0 ∙ ap (stepped-as c.before.before.before) c.before.fault.given.1))
+    ∙ read_stop (form l) (mode l) (bytes l) (here l) (last l) (held l) test.loop-at-test.true _ _
+    (sym c.step.ensures.0 ∙ ap (stepped-as c.before.before.before) c.fault.given.1))
 
-returns_3 : tie.Need-returns-3 invariant-loop decreases-loop
+returns_3 : tie.Need-returns invariant-loop decreases-loop
 returns_3 c = sym (at_end c)
 
 pub read_columns_spec : {M : Type 1} → statement M
@@ -226,10 +226,10 @@ read_columns_spec =
     (λ c κs. tt)
     loop-holds
     step-requires
-    (λ c. search rules)
+    (search rules)
     loop-less
     loop-again
-    (λ c. search rules)
+    (search rules)
     returns_2
     (λ c κs. tt)
     returns_3)

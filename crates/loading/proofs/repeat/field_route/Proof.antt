@@ -12,7 +12,7 @@ use Rattle.loading.proofs.repeat.field_route.Statement.{statement}
 use Rattle.loading.proofs.repeat.field_route.Tie as tie
 
 -- the start, from where the route's own start is known
-abbrev entry : tie.After-route-start → tie.Start
+abbrev entry : tie.After-route_start → tie.Start
 entry c = c.before.before
 
 -- where the route starts and ends
@@ -20,26 +20,26 @@ bounds : (a : tie.Start) →
     (a.args.at + head_size + numbers_size (field_of a.args.x).kind ≤ a.args.next) × (a.args.next ≤ length a.args.plan.now)
 bounds a = (route_starts _ _ _ _ _ a.requires.1, found_within _ _ _ _ _ a.requires.1)
 
-add_start : tie.Need-overflow-add-start
+add_start : tie.Need-overflow_add-start
 add_start c = omega (arith, bounds c.before)
 
-add-start-2 : tie.Need-overflow-add-start-2
-add-start-2 c = omega (arith, c.route-start.ensures, bounds (entry c))
+add-start-2 : tie.Need-overflow_add-start-2
+add-start-2 c = omega (arith, c.route_start.ensures, bounds (entry c))
 
 returns : tie.Need-returns
 returns c =
     let a = entry c.before in
-    rw c.before.route-start.ensures
-    (route_part _ _ _ _ _ a.pre.1)
+    rw c.route_start.ensures
+    (route_part _ _ _ _ _ a.requires.1)
 
 pub field_route_spec : {M : Type 1} → statement M
 field_route_spec =
     tie.close
     (tie.spec
     add_start
-    (λ c κs. search rules)
+    (search rules)
     add-start-2
-    (λ c. omega (arith, c.route-start.ensures, bounds (entry c)))
-    (λ c. omega (arith, c.route-start.ensures, bounds (entry c)))
-    (λ c. omega (arith, c.route-start.ensures, bounds (entry c)))
+    (λ c. omega (arith, c.route_start.ensures, bounds (entry c)))
+    (λ c. omega (arith, c.route_start.ensures, bounds (entry c)))
+    (λ c. omega (arith, c.route_start.ensures, bounds (entry c)))
     returns)

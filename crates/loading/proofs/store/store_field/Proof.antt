@@ -37,7 +37,7 @@ goes : (c : tie.Start) (x : declared.Field) → c.args.field ≡ x → RouteFits
 goes c x is = subst (λ (y : declared.Field). RouteFits (field_of y) (route_ports c.args.route.now)) is c.requires.3
 
 -- the start, from where the field's key is known
-abbrev entry : tie.After-key-of → tie.Start
+abbrev entry : tie.After-key_of-key → tie.Start
 entry c = c.before.before
 
 -- a field stored into any draft, by its parts: the columns, its key and how many ports and flows there are
@@ -67,41 +67,41 @@ stored
 unfolding added
 stored d x r key parts own k a b c e f g h i j ps fs = rw (k, own, a, b, c, e, f, g, h, i, j, ps, fs)
 
-element-write-seen : tie.Need-element-write-seen
-element-write-seen c = omega (arith, c.key_of.ensures, key_below (field_of (entry c).args.field) (entry c).requires.2)
+element-write-seen : tie.Need-bounds-seen-key
+element-write-seen c = omega (arith, c.key_of-key.ensures, key_below (field_of (entry c.before).args.field) (entry c.before).requires.2)
 
-store-port-requires : tie.Need-store-port-requires
+store-port-requires : tie.Need-store_port-requires
 store-port-requires c κs =
     let kind = c.before.before.before in
-    (says (entry kind.before.before) _ kind.field2.given.1).0
+    (says (entry kind.before) _ kind.field2.given.1).0
 
-store-flow-requires : tie.Need-store-flow-requires
+store-flow-requires : tie.Need-store_flow-requires
 store-flow-requires c κs =
     let kind = c.before.before.before.before.before.before in
-    let s = entry kind.before.before in
+    let s = entry kind.before in
     let on = goes s _ kind.field3.given.1 in
     (rw on.hops at (says s _ kind.field3.given.1).0, on)
 
-store-extra-requires : tie.Need-store-extra-requires
+store-extra-requires : tie.Need-store_extra-requires
 store-extra-requires c κs =
     let kind = c.before.before in
-    (says (entry kind.before.before) _ kind.field4.given.1).0
+    (says (entry kind.before) _ kind.field4.given.1).0
 
-store-jitter-requires : tie.Need-store-jitter-requires
+store-jitter-requires : tie.Need-store_jitter-requires
 store-jitter-requires c κs =
     let kind = c.before.before in
-    (says (entry kind.before.before) _ kind.field5.given.1).0
+    (says (entry kind.before) _ kind.field5.given.1).0
 
-store-port2-requires : tie.Need-store-port2-requires
+store-port2-requires : tie.Need-store_port2-requires
 store-port2-requires c κs =
     let kind = c.before.before.before.before in
-    let own = says (entry kind.before.before) _ kind.field8.given.1 in
+    let own = says (entry kind.before) _ kind.field8.given.1 in
     (own.0, own.1.0)
 
-store-flow2-requires : tie.Need-store-flow2-requires
+store-flow2-requires : tie.Need-store_flow2-requires
 store-flow2-requires c κs =
     let kind = c.before.before.before.before.before.before.before in
-    let s = entry kind.before.before in
+    let s = entry kind.before in
     let on = goes s _ kind.field9.given.1 in
     let own = says s _ kind.field9.given.1 in
     (rw on.hops at own.0, on, own.1.0)
@@ -114,98 +114,98 @@ parts_of_of c x is = ap (λ f. parts_of (field_of f) (route_ports c.args.route.n
 abbrev none_more : (n : ℕ) → n ≡ n + 0
 none_more n = sym (add-zero n)
 
-returns : tie.Need-returns
+returns : tie.Need-returns-in-Header
 unfolding store_all store
 returns c =
     let key = c.before.before.before in
     let a = entry key in
-    stored (held a) (field_of a.args.field) (route_ports a.args.route.now) key.key_of.result _ (parts_of_of a _ c.before.field.given.1) key.key_of.ensures
+    stored (held a) (field_of a.args.field) (route_ports a.args.route.now) key.key_of-key.result _ (parts_of_of a _ c.field.given.1) key.key_of-key.ensures
     refl refl refl refl refl refl refl refl refl
     (none_more a.args.totals.ports) (none_more a.args.totals.flows)
 
-returns_2 : tie.Need-returns-2
+returns_2 : tie.Need-returns-in-Port
 unfolding store_all store
 returns_2 c =
     let kind = c.before.before.before.before.before in
     let key = kind.before.before in
     let a = entry key in
-    let s = c.before.store-port.ensures in
-    stored (held a) (field_of a.args.field) (route_ports a.args.route.now) key.key_of.result _ (parts_of_of a _ kind.field2.given.1) key.key_of.ensures
+    let s = c.store_port.ensures in
+    stored (held a) (field_of a.args.field) (route_ports a.args.route.now) key.key_of-key.result _ (parts_of_of a _ kind.field2.given.1) key.key_of-key.ensures
     s.0 s.1 refl refl refl refl refl refl refl
     refl (none_more a.args.totals.flows)
 
-returns_3 : tie.Need-returns-3
+returns_3 : tie.Need-returns-in-Flow
 unfolding store_all store
 returns_3 c =
-    let s = c.before.store-flow.ensures in
+    let s = c.store_flow.ensures in
     let kind = c.before.before.before.before.before.before.before.before in
     let key = kind.before.before in
     let a = entry key in
     let x = kind.field3.given.0.0 in
     let on = goes a _ kind.field3.given.1 in
-    stored (held a) (field_of a.args.field) (route_ports a.args.route.now) key.key_of.result _ (parts_of_of a _ kind.field3.given.1) key.key_of.ensures
+    stored (held a) (field_of a.args.field) (route_ports a.args.route.now) key.key_of-key.result _ (parts_of_of a _ kind.field3.given.1) key.key_of-key.ensures
     refl refl refl s.0 s.1 s.2 refl (s.3 ∙ ap (set a.args.hops.now (x.number - 1)) (sym on.hops)) s.4
     (none_more a.args.totals.ports) refl
 
-returns-4 : tie.Need-returns-4
+returns-4 : tie.Need-returns-in-Extra
 unfolding store_all store
 returns-4 c =
     let kind = c.before.before.before in
     let key = kind.before.before in
     let a = entry key in
-    stored (held a) (field_of a.args.field) (route_ports a.args.route.now) key.key_of.result _ (parts_of_of a _ kind.field4.given.1) key.key_of.ensures
-    refl refl c.store-extra.ensures refl refl refl refl refl refl
+    stored (held a) (field_of a.args.field) (route_ports a.args.route.now) key.key_of-key.result _ (parts_of_of a _ kind.field4.given.1) key.key_of-key.ensures
+    refl refl c.store_extra.ensures refl refl refl refl refl refl
     (none_more a.args.totals.ports) (none_more a.args.totals.flows)
 
-returns-5 : tie.Need-returns-5
+returns-5 : tie.Need-returns-in-Jitter
 unfolding store_all store
 returns-5 c =
     let kind = c.before.before.before in
     let key = kind.before.before in
     let a = entry key in
-    stored (held a) (field_of a.args.field) (route_ports a.args.route.now) key.key_of.result _ (parts_of_of a _ kind.field5.given.1) key.key_of.ensures
-    refl refl refl refl refl refl c.store-jitter.ensures refl refl
+    stored (held a) (field_of a.args.field) (route_ports a.args.route.now) key.key_of-key.result _ (parts_of_of a _ kind.field5.given.1) key.key_of-key.ensures
+    refl refl refl refl refl refl c.store_jitter.ensures refl refl
     (none_more a.args.totals.ports) (none_more a.args.totals.flows)
 
-returns-6 : tie.Need-returns-6
+returns-6 : tie.Need-returns-in-Clock
 unfolding store_all store
 returns-6 c =
     let key = c.before.before.before in
     let a = entry key in
-    stored (held a) (field_of a.args.field) (route_ports a.args.route.now) key.key_of.result _ (parts_of_of a _ c.before.field6.given.1) key.key_of.ensures
+    stored (held a) (field_of a.args.field) (route_ports a.args.route.now) key.key_of-key.result _ (parts_of_of a _ c.field6.given.1) key.key_of-key.ensures
     refl refl refl refl refl refl refl refl refl
     (none_more a.args.totals.ports) (none_more a.args.totals.flows)
 
-returns-7 : tie.Need-returns-7
+returns-7 : tie.Need-returns-in-Header2
 unfolding store_all store
 returns-7 c =
     let key = c.before.before.before in
     let a = entry key in
-    stored (held a) (field_of a.args.field) (route_ports a.args.route.now) key.key_of.result _ (parts_of_of a _ c.before.field7.given.1) key.key_of.ensures
+    stored (held a) (field_of a.args.field) (route_ports a.args.route.now) key.key_of-key.result _ (parts_of_of a _ c.field7.given.1) key.key_of-key.ensures
     refl refl refl refl refl refl refl refl refl
     (none_more a.args.totals.ports) (none_more a.args.totals.flows)
 
-returns-8 : tie.Need-returns-8
+returns-8 : tie.Need-returns-in-Port2
 unfolding store_all store
 returns-8 c =
     let kind = c.before.before.before.before.before.before in
     let key = kind.before.before in
     let a = entry key in
-    let s = c.before.store-port2.ensures in
-    stored (held a) (field_of a.args.field) (route_ports a.args.route.now) key.key_of.result _ (parts_of_of a _ kind.field8.given.1) key.key_of.ensures
+    let s = c.store_port2.ensures in
+    stored (held a) (field_of a.args.field) (route_ports a.args.route.now) key.key_of-key.result _ (parts_of_of a _ kind.field8.given.1) key.key_of-key.ensures
     s.0 s.1 s.2 refl refl refl refl refl refl
     refl (none_more a.args.totals.flows)
 
-returns-9 : tie.Need-returns-9
+returns-9 : tie.Need-returns-in-Flow2
 unfolding store_all store
 returns-9 c =
-    let s = c.before.store-flow2.ensures in
+    let s = c.store_flow2.ensures in
     let kind = c.before.before.before.before.before.before.before.before.before in
     let key = kind.before.before in
     let a = entry key in
     let x = kind.field9.given.0.0 in
     let on = goes a _ kind.field9.given.1 in
-    stored (held a) (field_of a.args.field) (route_ports a.args.route.now) key.key_of.result _ (parts_of_of a _ kind.field9.given.1) key.key_of.ensures
+    stored (held a) (field_of a.args.field) (route_ports a.args.route.now) key.key_of-key.result _ (parts_of_of a _ kind.field9.given.1) key.key_of-key.ensures
     refl refl refl s.0 s.1 s.2 s.5 (s.3 ∙ ap (set a.args.hops.now (x.number - 1)) (sym on.hops)) s.4
     (none_more a.args.totals.ports) refl
 
@@ -213,27 +213,27 @@ pub store_field_spec : {M : Type 1} → statement M
 store_field_spec =
     tie.close
     (tie.spec
-    (λ c κs. search rules)
+    (search rules)
     element-write-seen
-    (λ c. search rules)
-    (λ c. search rules)
+    (search rules)
+    (search rules)
     store-port-requires
-    (λ c. search rules)
-    (λ c. search rules)
+    (search rules)
+    (search rules)
     store-flow-requires
-    (λ c. search rules)
-    (λ c. search rules)
+    (search rules)
+    (search rules)
     store-extra-requires
-    (λ c. search rules)
+    (search rules)
     store-jitter-requires
-    (λ c. search rules)
-    (λ c. search rules)
-    (λ c. search rules)
+    (search rules)
+    (search rules)
+    (search rules)
     store-port2-requires
-    (λ c. search rules)
-    (λ c. search rules)
+    (search rules)
+    (search rules)
     store-flow2-requires
-    (λ c. search rules)
+    (search rules)
     returns
     returns_2
     returns_3

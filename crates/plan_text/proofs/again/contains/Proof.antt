@@ -11,30 +11,30 @@ use Rattle.plan_text.specs.laws.Fits.{elem_next, elem_past}
 use Rattle.plan_text.proofs.again.contains.Statement.{statement}
 use Rattle.plan_text.proofs.again.contains.Tie as tie
 
-abbrev invariant-loop : tie.invariant-loop
+abbrev invariant-loop : tie.invariant-loop-i
 invariant-loop list n i₀ i = elem n list ≡ elem n (drop i list)
 
-abbrev decreases-loop : tie.decreases-loop
+abbrev decreases-loop : tie.decreases-loop-i
 decreases-loop list n i₀ i = length list - i
 
-step : (c : tie.In-loop invariant-loop decreases-loop) →
-    let a = c.before.before.args in
-    let i = c.before.loop.i in
+step : (c : tie.In-loop-i invariant-loop decreases-loop) →
+    let a = c.args in
+    let i = c.loop-i.i in
     elem a.n a.list.now ≡ (lib.Dec.eqb a.n (get_or a.list.now i 0) || elem a.n (drop (i + 1) a.list.now))
 step c =
-    let a = c.before.before.args in
-    c.before.loop.invariant ∙ elem_next a.list.now c.before.loop.i c.loop-test.true a.n
+    let a = c.args in
+    c.loop-i.invariant ∙ elem_next a.list.now c.loop-i.i c.loop-i-test.true a.n
 
-returns : tie.Need-returns invariant-loop decreases-loop
-returns c = sym (step c.before.before ∙ rw (eq-eqb _ _ c.if1.true))
+returns : tie.Need-returns-then-n-list invariant-loop decreases-loop
+returns c = sym (step c.before.before ∙ rw (eq-eqb _ _ c.if-n-list.true))
 
-loop-again : tie.Need-loop-preserved invariant-loop decreases-loop
-loop-again c = step c.before.before ∙ rw (ne_eqb _ _ c.if1.false)
+loop-again : tie.Need-loop-i-preserved invariant-loop decreases-loop
+loop-again c = step c.before.before ∙ rw (ne_eqb _ _ c.if-n-list.false)
 
-returns_2 : tie.Need-returns-2 invariant-loop decreases-loop
+returns_2 : tie.Need-returns invariant-loop decreases-loop
 returns_2 c =
-    let a = c.before.before.args in
-    sym (c.before.loop.invariant ∙ elem_past a.list.now c.before.loop.i c.loop-test.false a.n)
+    let a = c.args in
+    sym (c.loop-i.invariant ∙ elem_past a.list.now c.loop-i.i c.loop-i-test.false a.n)
 
 pub contains_spec : {M : Type 1} → statement M
 contains_spec =
@@ -43,10 +43,10 @@ contains_spec =
     invariant-loop
     decreases-loop
     (λ c. refl)
-    (λ c. search rules)
-    (λ c. search rules)
+    (search rules)
+    (search rules)
     returns
-    (λ c. search rules)
-    (λ c. search rules)
+    (search rules)
+    (search rules)
     loop-again
     returns_2)

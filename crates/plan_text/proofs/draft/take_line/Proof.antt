@@ -38,63 +38,63 @@ module _ (c : tie.Start) where
   held = let a = c.args in draft_of a.heading a.rates.now a.blockings.now a.extras.now a.periods.now a.counts.now a.lengths.now a.jitters.now a.hops.now a.routes.now a.lines.now
 
 -- the test of what is said again
-abbrev start : tie.After-is-again → tie.Start
-start c = c.before.before.before.before.before
+abbrev start : tie.After-is_again → tie.Start
+start c = c.before.before.before
 
-told : (c : tie.After-is-again) → is_again (start c).args.kind (own (said (start c))) (held (start c)) ≡ c.is-again.result
+told : (c : tie.After-is_again) → is_again (start c).args.kind (own (said (start c))) (held (start c)) ≡ c.is_again.result
 told c =
     let s = start c in
     let a = s.args in
-    sym (c.is-again.ensures
+    sym (c.is_again.ensures
     ∙ again_same a.heading 0 (said s) (ports s) a.rates.now a.blockings.now a.extras.now a.periods.now a.counts.now a.lengths.now a.jitters.now a.hops.now a.routes.now a.lines.now a.kind (get_or (numbers s) 0 0)
     ∙ again_own a.kind (numbers s) (held s))
 
-is-again-requires : tie.Need-is-again-requires
+is-again-requires : tie.Need-is_again-requires
 is-again-requires c κs =
-    let s = c.before.before.before.before in
+    let s = c.before.before in
     record {
       room = s.requires.room;
       port = λ e. (port_fits (form_by s.args.heading.newer) (numbers s) (ports s) (known s Kind.Port e)).number;
       flow = λ e. (flow_fits (form_by s.args.heading.newer) (numbers s) (ports s) (known s Kind.Flow e)).number;
     }
 
-returns : tie.Need-returns
+returns : tie.Need-returns-then-is_again
 returns c =
     let g = c.before.before.before in
     let s = start g in
-    ap (λ (x : Item). stop Fault.Again x c.first-number.result) c.before.item_of.ensures
-    ∙ ap (stop Fault.Again (item_of s.args.kind)) c.first-number.ensures
-    ∙ sym (taken_again s.args.kind s.args.line (said s) (ports s) (held s) (told g ∙ c.before.before.if1.true))
+    ap (λ (x : Item). stop Fault.Again x c.first_number.result) c.item_of.ensures
+    ∙ ap (stop Fault.Again (item_of s.args.kind)) c.first_number.ensures
+    ∙ sym (taken_again s.args.kind s.args.line (said s) (ports s) (held s) (told g ∙ c.if-is_again.true))
 
-slice-aggregate-repeats : tie.Need-slice-aggregate-repeats
+slice-aggregate-repeats : tie.Need-slice_bounds-repeats-end
 slice-aggregate-repeats c =
-    let s = start c.before.before in
-    sym (length-take-le s.args.ports s.args.route.now (omega (arith, s.pre.few, s.pre.space)))
+    let s = start c.before in
+    sym (length-take-le s.args.ports s.args.route.now (omega (arith, s.requires.few, s.requires.space)))
 
-returns_2 : tie.Need-returns-2
+returns_2 : tie.Need-returns-then-repeats
 returns_2 c =
     let one = c.before.before.before in
-    let s = start one.before in
-    sym (taken_twice s.args.kind s.args.line (said s) (ports s) (held s) (told one.before ∙ one.if1.false) (sym c.before.repeats.ensures ∙ c.if2.true))
+    let s = start one in
+    sym (taken_twice s.args.kind s.args.line (said s) (ports s) (held s) (told one ∙ one.if-is_again.false) (sym c.repeats.ensures ∙ c.if-repeats.true))
 
-returns_3 : tie.Need-returns-3
+returns_3 : tie.Need-returns
 returns_3 c =
     let two = c.before.before.before.before.before.before.before.before.before.before.before in
     let one = two.before.before.before in
-    let s = start one.before in
+    let s = start one in
     ap more c.Store-Line.ensures
-    ∙ sym (taken-added s.args.kind s.args.line (said s) (ports s) (held s) (told one.before ∙ one.if1.false) (sym two.before.repeats.ensures ∙ two.if2.false))
+    ∙ sym (taken-added s.args.kind s.args.line (said s) (ports s) (held s) (told one.before ∙ one.if-is_again.false) (sym two.repeats.ensures ∙ two.if-repeats.false))
 
 pub take_line_spec : {M : Type 1} → statement M
 take_line_spec =
     tie.close
     (tie.spec
     is-again-requires
-    (λ c κs. search rules)
-    (λ c κs. search rules)
+    (search rules)
+    (search rules)
     returns
     slice-aggregate-repeats
-    (λ c κs. search rules)
+    (search rules)
     returns_2
-    (λ c κs. search rules)
+    (search rules)
     returns_3)

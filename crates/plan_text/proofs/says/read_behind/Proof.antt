@@ -20,7 +20,7 @@ use Rattle.plan_text.proofs.says.read_behind.Statement.{statement}
 use Rattle.plan_text.proofs.says.read_behind.Tie as tie
 
 -- what stands behind the numbers, and what the line says by it
-module _ (c : tie.After-word-at) where
+module _ (c : tie.After-word_at-word) where
   abbrev start : tie.Start
   start = c.before.before.before.before
 
@@ -37,80 +37,80 @@ module _ (c : tie.After-word-at) where
   line = words_by (form_by start.args.newer) start.args.kind values (port_words start.args.kind left)
 
   abbrev word : List ℕ
-  word = take (c.word_at.result.end - c.word_at.result.start) (drop c.word_at.result.start text)
+  word = take (c.word_at-word.result.end - c.word_at-word.result.start) (drop c.word_at-word.result.start text)
 
-  inside : c.word_at.result.end ≤ length text
-  inside = word_within text start.args.at c.word_at.ensures start.pre.0
+  inside : c.word_at-word.result.end ≤ length text
+  inside = word_within text start.args.at c.word_at-word.ensures start.requires.0
 
-returns : tie.Need-returns
+returns : tie.Need-returns-then-start-end
 returns c =
     let w = c.before.before.before in
     let a = (start w).args in
     refuses (form_by a.newer) (line w) a.numbers.now a.route.now Fault.Word Item.End 0
-    (words_end (form_by a.newer) a.kind (values w) (left w) (sym c.before.before.is-routed.ensures ∙ not-true c.before.before.is-routed.result c.before.if1.true) (word_there (text w) a.at w.word_at.ensures c.if2.true))
+    (words_end (form_by a.newer) a.kind (values w) (left w) (sym c.is_routed.ensures ∙ c.if-not-is_routed.true) (word_there (text w) a.at w.word_at-word.ensures c.if-start-end.true))
 
-returns_2 : tie.Need-returns-2
+returns_2 : tie.Need-returns-then-not-is_routed
 returns_2 c =
     let routed = c.before.before.before.before in
     let w = routed.before in
     let a = (start w).args in
-    subst (λ (l : Line). LineReads (form_by a.newer) l a.numbers.now a.route.now c.test-numbers.result)
-    (sym (words-none (form_by a.newer) a.kind (values w) (left w) (sym routed.is-routed.ensures ∙ not-true routed.is-routed.result c.before.before.before.if1.true) (word_missing (text w) a.at w.word_at.ensures c.before.before.if2.false)))
-    (c.test-numbers.ensures [] refl (sym no_none) (λ few. refl))
+    subst (λ (l : Line). LineReads (form_by a.newer) l a.numbers.now a.route.now c.test_numbers.result)
+    (sym (words-none (form_by a.newer) a.kind (values w) (left w) (sym routed.is_routed.ensures ∙ c.if-not-is_routed.true) (word_missing (text w) a.at w.word_at-word.ensures c.if-start-end.false)))
+    (c.test_numbers.ensures [] refl (sym no_none) (λ few. refl))
 
-returns_3 : tie.Need-returns-3
+returns_3 : tie.Need-returns-then-end-start
 returns_3 c =
     let w = c.before.before.before in
     let a = (start w).args in
     refuses (form_by a.newer) (line w) a.numbers.now a.route.now Fault.Word Item.Route 0
-    (words_lack (form_by a.newer) a.kind (values w) (left w) (sym c.before.before.is-routed.ensures ∙ not-false c.before.before.is-routed.result c.before.if1.false) (word_missing (text w) a.at w.word_at.ensures c.if3.true))
+    (words_lack (form_by a.newer) a.kind (values w) (left w) (sym c.is_routed.ensures ∙ c.if-not-is_routed.false) (word_missing (text w) a.at w.word_at-word.ensures c.if-end-start.true))
 
-part-is-word-of-end : tie.Need-slice-bounds-is-word-of-end
+part-is-word-of-end : tie.Need-slice_bounds-is_word_of-end
 part-is-word-of-end c = inside c.before.before.before
 
-returns-4 : tie.Need-returns-4
+returns-4 : tie.Need-returns-then-not-is_word_of
 returns-4 c =
     let three = c.before.before.before in
     let w = three.before.before.before in
     let a = (start w).args in
     refuses (form_by a.newer) (line w) a.numbers.now a.route.now Fault.Word Item.Route 0
-    (words_other (form_by a.newer) a.kind (values w) (left w) (sym three.before.before.is-routed.ensures ∙ not-false three.before.before.is-routed.result three.before.if1.false)
-    (word_there (text w) a.at w.word_at.ensures three.if3.false) (sym c.before.is-word-of.ensures ∙ not-true c.before.is-word-of.result c.if4.true))
+    (words_other (form_by a.newer) a.kind (values w) (left w) (sym three.is_routed.ensures ∙ three.if-not-is_routed.false)
+    (word_there (text w) a.at w.word_at-word.ensures three.if-end-start.false) (sym c.is_word_of.ensures ∙ c.if-not-is_word_of.true))
 
-read-ports-requires : tie.Need-read-ports-requires
+read-ports-requires : tie.Need-read_ports-ports-requires
 read-ports-requires c κs = let w = c.before.before.before.before.before.before.before in (inside w, (start w).requires.2)
 
-returns-5 : tie.Need-returns-5
+returns-5 : tie.Need-returns
 returns-5 c =
     let ports = c.before.before.before.before in
     let four = ports.before.before in
     let three = four.before.before.before in
     let w = three.before.before.before in
     let a = (start w).args in
-    let read = ports.read-ports.ensures in
-    let vs = words (drop w.word_at.result.end (text w)) in
-    subst (λ (l : Line). LineReads (form_by a.newer) l a.numbers.now ports.read-ports.new.1.1.0 c.test-numbers2.result)
-    (sym (words_route (form_by a.newer) a.kind (values w) (left w) (sym three.before.before.is-routed.ensures ∙ not-false three.before.before.is-routed.result three.before.if1.false)
-    (word_there (text w) a.at w.word_at.ensures three.if3.false) (sym four.before.is-word-of.ensures ∙ not-false four.before.is-word-of.result four.if4.false)))
-    (c.test-numbers2.ensures (map decimal_value vs) (length-map vs decimal_value ∙ sym read.many) read.lacks read.stored)
+    let read = ports.read_ports-ports.ensures in
+    let vs = words (drop w.word_at-word.result.end (text w)) in
+    subst (λ (l : Line). LineReads (form_by a.newer) l a.numbers.now ports.read_ports-ports.new.route c.test_numbers-2.result)
+    (sym (words_route (form_by a.newer) a.kind (values w) (left w) (sym three.is_routed.ensures ∙ three.if-not-is_routed.false)
+    (word_there (text w) a.at w.word_at-word.ensures three.if-end-start.false) (sym four.is_word_of.ensures ∙ four.if-not-is_word_of.false)))
+    (c.test_numbers-2.ensures (map decimal_value vs) (length-map vs decimal_value ∙ sym read.many) read.lacks read.stored)
 
 pub read_behind_spec : {M : Type 1} → statement M
 read_behind_spec =
     tie.close
     (tie.spec
-    (λ c κs. search rules)
-    (λ c κs. search rules)
+    (search rules)
+    (search rules)
     returns
-    (λ c κs. search rules)
-    (λ c. search rules)
+    (search rules)
+    (search rules)
     returns_2
     returns_3
-    (λ c. search rules)
-    (λ c. search rules)
+    (search rules)
+    (search rules)
     part-is-word-of-end
-    (λ c κs. search rules)
+    (search rules)
     returns-4
     read-ports-requires
-    (λ c κs. search rules)
-    (λ c. search rules)
+    (search rules)
+    (search rules)
     returns-5)

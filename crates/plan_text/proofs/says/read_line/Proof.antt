@@ -15,50 +15,50 @@ use Rattle.plan_text.specs.laws.Words.{line_none, line_some}
 use Rattle.plan_text.proofs.says.read_line.Statement.{statement}
 use Rattle.plan_text.proofs.says.read_line.Tie as tie
 
-abbrev start : tie.After-word-at → tie.Start
+abbrev start : tie.After-word_at-word → tie.Start
 start c = c.before.before.before.before
 
-inside : (c : tie.After-word-at) → c.word_at.result.end ≤ length (start c).args.line.now
-inside c = word_within (start c).args.line.now 0 c.word_at.ensures (omega arith)
+inside : (c : tie.After-word_at-word) → c.word_at-word.result.end ≤ length (start c).args.line.now
+inside c = word_within (start c).args.line.now 0 c.word_at-word.ensures (omega arith)
 
-returns : tie.Need-returns
+returns : tie.Need-returns-then-end-start
 returns c =
     let a = (start c.before).args in
-    record { says = sym (line_none (form_by a.newer) a.begun (words a.line.now) (word_missing a.line.now 0 c.before.word_at.ensures c.if1.true)); fits = tt }
+    record { says = sym (line_none (form_by a.newer) a.begun (words a.line.now) (word_missing a.line.now 0 c.word_at-word.ensures c.if-end-start.true)); fits = tt }
 
-part-kind-in-end : tie.Need-slice-bounds-kind-in-end
+part-kind-in-end : tie.Need-slice_bounds-kind_in-end
 part-kind-in-end c = inside c.before
 
-read-kind-requires : tie.Need-read-kind-requires
+read-kind-requires : tie.Need-read_kind-requires
 read-kind-requires c κs =
     let w = c.before.before.before.before.before in
     (inside w, (start w).requires.0, (start w).requires.1)
 
-returns_2 : tie.Need-returns-2
+returns_2 : tie.Need-returns
 returns_2 c =
     let r = c.before.before.before.before in
     let k = r.before.before.before in
     let one = k.before.before in
     let w = one.before in
     let a = (start w).args in
-    let vs = words (drop w.word_at.result.end a.line.now) in
-    let out = r.read-kind.new.1.1.1.1 in
-    subst (λ (l : Line). LineReads (form_by a.newer) l out.0 out.1.0 r.read-kind.result)
-    (ap (λ (x : Kind). kindly (form_by a.newer) x vs) k.kind-in.ensures
-    ∙ sym (line_some (form_by a.newer) a.begun (words a.line.now) (word_there a.line.now 0 w.word_at.ensures one.if1.false)))
-    r.read-kind.ensures
+    let vs = words (drop w.word_at-word.result.end a.line.now) in
+    let out = r.read_kind.new.numbers.1.1.1 in
+    subst (λ (l : Line). LineReads (form_by a.newer) l r.read_kind.new.numbers r.read_kind.new.route r.read_kind.result)
+    (ap (λ (x : Kind). kindly (form_by a.newer) x vs) k.kind_in-kind.ensures
+    ∙ sym (line_some (form_by a.newer) a.begun (words a.line.now) (word_there a.line.now 0 w.word_at-word.ensures one.if-end-start.false)))
+    r.read_kind.ensures
 
 pub read_line_spec : {M : Type 1} → statement M
 read_line_spec =
     tie.close
     (tie.spec
-    (λ c κs. search rules)
+    (search rules)
     returns
-    (λ c. search rules)
-    (λ c. search rules)
+    (search rules)
+    (search rules)
     part-kind-in-end
-    (λ c κs. search rules)
+    (search rules)
     read-kind-requires
-    (λ c. search rules)
-    (λ c. search rules)
+    (search rules)
+    (search rules)
     returns_2)

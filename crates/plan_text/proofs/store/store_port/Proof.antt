@@ -11,12 +11,12 @@ use Rattle.plan_text.proofs.store.store_port.Statement.{statement}
 use Rattle.plan_text.proofs.store.store_port.Tie as tie
 
 -- the slot
-below : (c : tie.After-slot-of) → c.slot_of.result < port_slots
+below : (c : tie.After-slot_of-slot) → c.slot_of-slot.result < port_slots
 below c =
     let start = c.before.before in
-    omega (arith, c.slot_of.ensures, slot_below port_slots (get_or start.args.numbers.now 0 0) start.requires.1.number)
+    omega (arith, c.slot_of-slot.ensures, slot_below port_slots (get_or start.args.numbers.now 0 0) start.requires.1.number)
 
-slot-of-requires : tie.Need-slot-of-requires
+slot-of-requires : tie.Need-slot_of-slot-requires
 slot-of-requires c κs =
     let start = c.before in
     (omega (arith, start.requires.0), within_low 1 port_slots (get_or start.args.numbers.now 0 0) start.requires.1.number)
@@ -26,38 +26,38 @@ number32-requires c κs =
     let start = c.before.before in
     (omega (arith, start.requires.0), omega (arith, within_high 1 100000 (get_or start.args.numbers.now 1 0) start.requires.1.rate))
 
-mul-rates : tie.Need-overflow-mul-rates
+mul-rates : tie.Need-offset_bounds-rates-slot
 mul-rates c = record { fits = omega (arith, below c.before) }
 
-element-write-rates : tie.Need-element-write-rates
-element-write-rates c = below c.before
+element-write-rates : tie.Need-bounds-rates-slot
+element-write-rates c = below c.before.before
 
 number16-requires : tie.Need-number16-requires
 number16-requires c κs =
     let start = c.before.before.before in
     (omega (arith, start.requires.0), blocking_most (get_or start.args.numbers.now 2 0) start.requires.1.blocking)
 
-mul-blockings : tie.Need-overflow-mul-blockings
-mul-blockings c = record { fits = omega (arith, below c.before.before) }
+mul-blockings : tie.Need-offset_bounds-blockings-slot
+mul-blockings c = record { fits = omega (arith, below c.before.before.before) }
 
-element-write-blockings : tie.Need-element-write-blockings
-element-write-blockings c = below c.before.before
+element-write-blockings : tie.Need-bounds-blockings-slot
+element-write-blockings c = below c.before.before.before.before
 
 number8-requires : tie.Need-number8-requires
 number8-requires c κs =
     let start = c.before.before.before.before in
     (omega (arith, start.requires.0), within_high 0 max_extra (get_or start.args.numbers.now 3 0) start.requires.2.bytes)
 
-element-write-extras : tie.Need-element-write-extras
-element-write-extras c = below c.before.before.before
+element-write-extras : tie.Need-bounds-extras-slot
+element-write-extras c = below c.before.before.before.before.before.before
 
 returns : tie.Need-returns
 returns c =
     let slot = c.before.before.before in
-    let a = slot.before.before.args in (
-      ap₂ (set a.rates.now) slot.slot_of.ensures c.before.before.number32.ensures,
-      ap₂ (set a.blockings.now) slot.slot_of.ensures c.before.number16.ensures,
-      ap₂ (set a.extras.now) slot.slot_of.ensures c.number8.ensures,
+    let a = slot.args in (
+      ap₂ (set a.rates.now) slot.slot_of-slot.ensures c.number32.ensures,
+      ap₂ (set a.blockings.now) slot.slot_of-slot.ensures c.number16.ensures,
+      ap₂ (set a.extras.now) slot.slot_of-slot.ensures c.number8.ensures,
     )
 
 pub store_port_spec : {M : Type 1} → statement M

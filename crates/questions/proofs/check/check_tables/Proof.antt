@@ -21,59 +21,59 @@ held s =
     plan_by a.guard a.top (clock_of a.clock) a.rates.now a.blockings.now a.extras.now a.periods.now a.counts.now a.lengths.now a.jitters.now a.hops.now a.routes.now
 
 -- where the function starts, from past the test of the tables
-abbrev start : tie.After-valid-tables → tie.Start
+abbrev start : tie.After-valid_tables → tie.Start
 start c = c.before
 
 -- past the refusals: the plan is valid, and the duration from 1 to top
-valid : (c : tie.Else1) → valid_plan (held (start c.before)) ≡ true
-valid c = sym c.before.valid-tables.ensures ∙ not-false _ c.if1.false
+valid : (c : tie.Else-not-valid_tables) → valid_plan (held (start c.before)) ≡ true
+valid c = sym c.valid_tables.ensures ∙ c.if-not-valid_tables.false
 
-module _ (c : tie.Else2) where
-  abbrev first : tie.Else1
+module _ (c : tie.Else-not-between) where
+  abbrev first : tie.Else-not-valid_tables
   first = c.before.before
 
   abbrev begin : tie.Start
   begin = start first.before
 
   ranged : within 1 (held begin).top begin.args.duration ≡ true
-  ranged = sym c.before.between.ensures ∙ not-false _ c.if2.false
+  ranged = sym c.between.ensures ∙ c.if-not-between.false
 
-abbrev past : tie.After-out → tie.Else2
+abbrev past : tie.After-out-1 → tie.Else-not-between
 past c = c.before
 
 -- how many ports fail
-many : (c : tie.After-failing-at) → c.failing-at.result.count ≡ failing (held (begin (past c.before))) (begin (past c.before)).args.duration
-many c = c.failing-at.ensures.many ∙ topped-failing (held (begin (past c.before))) _ _
+many : (c : tie.After-failing_at-ports) → c.failing_at-ports.result.count ≡ failing (held (begin (past c.before))) (begin (past c.before)).args.duration
+many c = c.failing_at-ports.ensures.many ∙ topped-failing (held (begin (past c.before))) _ _
 
-returns : tie.Need-returns
+returns : tie.Need-returns-then-not-valid_tables
 returns c =
     let s = start c.before in
-    sym (check_none (held s) _ (sym c.before.valid-tables.ensures ∙ not-true _ c.if1.true))
+    sym (check_none (held s) _ (sym c.valid_tables.ensures ∙ c.if-not-valid_tables.true))
 
-returns_2 : tie.Need-returns-2
+returns_2 : tie.Need-returns-then-not-between
 returns_2 c =
     let first = c.before.before in
     let s = start first.before in
-    sym (check_out (held s) _ (valid first) (sym c.before.between.ensures ∙ not-true _ c.if2.true))
+    sym (check_out (held s) _ (valid first) (sym c.between.ensures ∙ c.if-not-between.true))
 
-failing-at-requires : tie.Need-failing-at-requires
+failing-at-requires : tie.Need-failing_at-ports-requires
 failing-at-requires c κs =
     let at = past c in
     let in_range = ranged at in
     (topped_valid (held (begin at)) _ (valid (first at)) (within_low _ _ _ in_range) (within_high _ _ _ in_range), refl)
 
-returns_3 : tie.Need-returns-3
+returns_3 : tie.Need-returns-then-ports-eq0
 returns_3 c =
     let answered = c.before.before.before in
     let at = past answered.before in
-    sym (check_good (held (begin at)) _ (valid (first at)) (ranged at) (many answered) c.if3.true)
+    sym (check_good (held (begin at)) _ (valid (first at)) (ranged at) (many answered) c.if-ports-eq0.true)
 
-returns-4 : tie.Need-returns-4
+returns-4 : tie.Need-returns
 returns-4 c =
     let answered = c.before.before.before in
     let at = past answered.before in
-    let lowest = answered.failing-at.ensures.lowest ∙ topped-lowest (held (begin at)) _ _ in
-    sym (check_bad (held (begin at)) _ (valid (first at)) (ranged at) (many answered) c.if3.false lowest)
+    let lowest = answered.failing_at-ports.ensures.lowest ∙ topped-lowest (held (begin at)) _ _ in
+    sym (check_bad (held (begin at)) _ (valid (first at)) (ranged at) (many answered) c.if-ports-eq0.false lowest)
 
 pub check_tables_spec : {M : Type 1} → statement M
 check_tables_spec =
@@ -83,7 +83,7 @@ check_tables_spec =
     returns
     (λ c κs. tt)
     returns_2
-    (λ c. search rules)
+    (search rules)
     failing-at-requires
     returns_3
     returns-4)

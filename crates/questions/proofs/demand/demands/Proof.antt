@@ -19,20 +19,20 @@ use Rattle.questions.specs.laws.Sums.{Sums, framed, sums_none, sums_skip, sums_a
 use Rattle.questions.proofs.demand.demands.Statement.{statement}
 use Rattle.questions.proofs.demand.demands.Tie as tie
 
-abbrev invariant-loop : tie.invariant-loop
+abbrev invariant-loop : tie.invariant-loop-f
 invariant-loop extras periods counts lengths jitters hops routes duration out₀ at over f₀ out f =
     (f ≤ flow_slots)
     × (length out ≡ port_slots)
     × Sums (columns equal_clocks [] [] extras periods counts lengths jitters hops routes) over f out
 
-abbrev decreases-loop : tie.decreases-loop
+abbrev decreases-loop : tie.decreases-loop-f
 decreases-loop extras periods counts lengths jitters hops routes duration out₀ at over f₀ out f = flow_slots - f
 
 -- where the function starts, from where the numbers are cleared and from the loop
 abbrev start : tie.After-clear invariant-loop decreases-loop → tie.Start invariant-loop decreases-loop
 start c = c.before.before.before
 
-abbrev begin : tie.At-loop invariant-loop decreases-loop → tie.Start invariant-loop decreases-loop
+abbrev begin : tie.At-loop-f invariant-loop decreases-loop → tie.Start invariant-loop decreases-loop
 begin c = start c.before.before.before.before
 
 -- the plan of the columns, with clocks that are equal
@@ -41,95 +41,95 @@ plan s =
     columns equal_clocks [] [] s.args.extras.now s.args.periods.now s.args.counts.now s.args.lengths.now s.args.jitters.now s.args.hops.now s.args.routes.now
 
 -- the length over which frames are counted, which is that plan's duration
-module _ (c : tie.At-loop invariant-loop decreases-loop) where
+module _ (c : tie.At-loop-f invariant-loop decreases-loop) where
   abbrev over : ℕ
-  over = c.before.widened.result
+  over = c.widened-over.result
 
   is : over ≡ widened (plan (begin c)) over
   is = sym (aligned-widened (plan (begin c)) over)
 
   counted-over : over ≡ widened_by (clock_of (begin c).args.clock) (begin c).args.duration
-  counted-over = c.before.widened.ensures
+  counted-over = c.widened-over.ensures
 
   fits : widened (plan (begin c)) over ≤ most_widened
   fits = subst (λ (n : ℕ). n ≤ most_widened) (sym counted-over ∙ is) (begin c).requires.1.0
 
 -- the slot of the flow at hand
-slot : (c : tie.In-loop invariant-loop decreases-loop) → (let f = c.before.loop.f in let p = plan (begin c.before) in FlowInRange (period_of p f) (count_of p f) (length_of p f) (jitter_of p f) (hops_of p f) (route_of p f))
-slot c = (begin c.before).pre.0.0.slot c.before.loop.f c.loop-test.true
+slot : (c : tie.In-loop-f invariant-loop decreases-loop) → (let f = c.loop-f.f in let p = plan (begin c.before) in FlowInRange (period_of p f) (count_of p f) (length_of p f) (jitter_of p f) (hops_of p f) (route_of p f))
+slot c = (begin c.before).requires.0.0.slot c.loop-f.f c.loop-f-test.true
 
 -- the jitter of any slot is in range
 jitter-within : (s : tie.Start invariant-loop decreases-loop) {f : ℕ} → f < flow_slots → jitter_of (plan s) f ≤ max_jitter
 jitter-within s {f} l = (s.requires.0.0.slot f l).jitter_most
 
 clear-requires : tie.Need-clear-requires invariant-loop decreases-loop
-clear-requires c κs = c.before.before.requires.1.1
+clear-requires c κs = c.requires.1.1
 
-cast-at : tie.Need-overflow-cast-at invariant-loop decreases-loop
-cast-at c = omega (arith, (start c.before.before).pre.1.0)
+cast-at : tie.Need-overflow_cast-at invariant-loop decreases-loop
+cast-at c = omega (arith, (start c.before.before).requires.1.0)
 
-cast-over : tie.Need-overflow-cast-over invariant-loop decreases-loop
-cast-over c = omega (arith, c.widened.ensures, (start c.before.before.before).pre.1.0)
+cast-over : tie.Need-overflow_cast-over invariant-loop decreases-loop
+cast-over c = omega (arith, c.widened-over.ensures, (start c.before.before.before).requires.1.0)
 
-loop-holds : tie.Need-loop-init invariant-loop decreases-loop
+loop-holds : tie.Need-loop-f-init invariant-loop decreases-loop
 loop-holds c =
     let clear = c.before.before.before in
     let s = start clear in
-    (omega arith, clear.clear.auto.0 ∙ s.pre.1.1, sums_none (plan s) c.widened.result clear.clear.new.0 clear.clear.ensures)
+    (omega arith, clear.clear.auto.out ∙ s.requires.1.1, sums_none (plan s) c.widened-over.result clear.clear.new.out clear.clear.ensures)
 
-flow-frames-requires : tie.Need-flow-frames-requires invariant-loop decreases-loop
+flow-frames-requires : tie.Need-flow_frames-frames-requires invariant-loop decreases-loop
 flow-frames-requires c κs =
     let at = c.before.before.before.before in
-    let r = slot at in
-    (r.period_least c.before.before.if1.true, r.period_most, r.count_most, jitter-within (begin at.before) (omega arith), omega (arith, counted-over at.before, (begin at.before).pre.1.0))
+    let r = slot at.before.before.before in
+    (r.period_least c.if-period-ne0.true, r.period_most, r.count_most, jitter-within (begin at.before.before.before.before) (omega arith), omega (arith, counted-over at.before.before.before.before, (begin at.before.before.before.before).requires.1.0))
 
-cast-add-route : tie.Need-overflow-cast-add-route invariant-loop decreases-loop
-cast-add-route c = omega (arith, (slot c.before.before.before.before.before.before).hops_most)
+cast-add-route : tie.Need-overflow_cast-hops invariant-loop decreases-loop
+cast-add-route c = omega (arith, (slot c.before.before.before.before.before.before.before.before.before.before).hops_most)
 
-add-route-requires : tie.Need-add-route-requires invariant-loop decreases-loop
+add-route-requires : tie.Need-add_route-requires invariant-loop decreases-loop
 add-route-requires c κs =
     let at = c.before.before.before.before.before.before.before.before in
-    let s = begin at.before in
+    let s = begin at.before.before.before.before.before.before in
     let p = plan s in
-    let f = at.before.loop.f in
-    let T = over at.before in
-    let r = slot at in
-    let brought = c.before.before.before.flow-frames in
-    let there = c.before.before.before.before.before.before.if1.true in (
-      (omega (arith, r.hops_most), at.before.loop.invariant.1),
+    let f = at.loop-f.f in
+    let T = over at.before.before.before.before.before.before in
+    let r = slot at.before.before.before.before.before in
+    let brought = c.flow_frames-frames in
+    let there = c.if-period-ne0.true in (
+      (omega (arith, r.hops_most), at.loop-f.invariant.1),
       (
         (r.ports, r.once),
         λ q h.
             let few : brought.result * bits_of (length_of p f) (extra_of p q) ≤ most_bits =
-            rw (framed p T f (is at.before) brought.ensures) (flow_most p s.pre.0.0.slot s.pre.0.1 T (fits at.before) f at.loop-test.true there q h) in
-            omega (arith, few, at.before.loop.invariant.2 q h, sum_most p s.pre.0.0.slot s.pre.0.1 T (fits at.before) q f h at.before.loop.invariant.0),
+            rw (framed p T f (is at.before.before.before.before.before.before) brought.ensures) (flow_most p s.requires.0.0.slot s.requires.0.1 T (fits at.before.before.before.before.before.before) f at.loop-f-test.true there q h) in
+            omega (arith, few, at.loop-f.invariant.2 q h, sum_most p s.requires.0.0.slot s.requires.0.1 T (fits at.before.before.before.before.before.before) q f h at.loop-f.invariant.0),
       ),
     )
 
-loop-again : tie.Need-loop-preserved invariant-loop decreases-loop
+loop-again : tie.Need-loop-f-preserved invariant-loop decreases-loop
 loop-again c =
     let at = c.before.before in
-    let p = plan (begin at.before) in
-    let T = over at.before in
-    let f = at.before.loop.f in
-    let out = at.before.loop.out in
-    let sums = at.before.loop.invariant.2 in
+    let p = plan (begin at.before.before) in
+    let T = over at.before.before in
+    let f = at.loop-f.f in
+    let out = at.loop-f.out in
+    let sums = at.loop-f.invariant.2 in
     ⊎_elim
     (λ w. (
       omega arith,
-      rw w.10 (w.7.kept.1.1.1.1.1.1.0 ∙ at.before.loop.invariant.1),
+      rw w.10 (w.7.kept.1.1.1.1.1.1.0 ∙ at.loop-f.invariant.1),
       rw w.10 (sums_add p T f w.3.result out w.7.last.1.1.1.1.1.1.0 (framed p T f (is at.before) w.3.ensures) w.7.ensures sums),
     ))
     (λ w.
-    (omega arith, rw w.1 at.before.loop.invariant.1, rw w.1 (sums_skip p T f out ((slot at).absent w.0.left) sums)))
-    c.if1.branch
+    (omega arith, rw w.1 at.loop-f.invariant.1, rw w.1 (sums_skip p T f out ((slot at).absent w.0.left) sums)))
+    c.if-period-ne0.branch
 
 returns : tie.Need-returns invariant-loop decreases-loop
 returns c =
     let s = begin c.before in
-    let all : c.before.loop.f ≡ flow_slots = omega arith in
+    let all : c.loop-f.f ≡ flow_slots = omega arith in
     let p = columns (clock_of s.args.clock) [] [] s.args.extras.now s.args.periods.now s.args.counts.now s.args.lengths.now s.args.jitters.now s.args.hops.now s.args.routes.now in
-    sums_all (plan s) (over c.before) c.before.loop.out c.before.loop.invariant.1 (rw all at c.before.loop.invariant.2)
+    sums_all (plan s) (over c.before) c.loop-f.out c.loop-f.invariant.1 (rw all at c.loop-f.invariant.2)
     ∙ ap (tabulate port_slots) (fun_ext (demand-widened p s.args.duration (counted-over c.before)))
 
 pub demands_spec : {M : Type 1} → statement M
@@ -143,21 +143,21 @@ demands_spec =
     (λ c κs. tt)
     cast-over
     loop-holds
-    (λ c. search rules)
-    (λ c. search rules)
-    (λ c. search rules)
-    (λ c. search rules)
-    (λ c. search rules)
-    (λ c. search rules)
+    (search rules)
+    (search rules)
+    (search rules)
+    (search rules)
+    (search rules)
+    (search rules)
     flow-frames-requires
-    (λ c. search rules)
-    (λ c. search rules)
+    (search rules)
+    (search rules)
     cast-add-route
-    (λ c. search rules)
-    (λ c. search rules)
+    (search rules)
+    (search rules)
     add-route-requires
-    (λ c. search rules)
-    (λ c. search rules)
+    (search rules)
+    (search rules)
     loop-again
-    (λ c. search rules)
+    (search rules)
     returns)

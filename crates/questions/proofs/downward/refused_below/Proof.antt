@@ -12,11 +12,11 @@ use Rattle.tables.specs.Columns.{plan_by}
 use Rattle.questions.proofs.downward.refused_below.Statement.{statement}
 use Rattle.questions.proofs.downward.refused_below.Tie as tie
 
-abbrev invariant-loop : tie.invariant-loop
+abbrev invariant-loop : tie.invariant-loop-below
 invariant-loop guard top clock rates blockings extras periods counts lengths jitters hops routes low high out₀ below₀ out below =
     Downward (plan_by guard top (clock_of clock) rates blockings extras periods counts lengths jitters hops routes) low high below × (length out ≡ port_slots)
 
-abbrev decreases-loop : tie.decreases-loop
+abbrev decreases-loop : tie.decreases-loop-below
 decreases-loop guard top clock rates blockings extras periods counts lengths jitters hops routes low high out₀ below₀ out below = below
 
 -- the plan of the tables
@@ -26,24 +26,24 @@ plan s =
     plan_by a.guard a.top (clock_of a.clock) a.rates.now a.blockings.now a.extras.now a.periods.now a.counts.now a.lengths.now a.jitters.now a.hops.now a.routes.now
 
 -- what is needed at below, and no less than low
-module _ (c : tie.After-larger invariant-loop decreases-loop) where
-  abbrev asked : tie.After-need-within invariant-loop decreases-loop
+module _ (c : tie.After-larger-most invariant-loop decreases-loop) where
+  abbrev asked : tie.After-need_within invariant-loop decreases-loop
   asked = c.before.before.before
 
-  abbrev turn : tie.At-loop invariant-loop decreases-loop
+  abbrev turn : tie.At-loop-below invariant-loop decreases-loop
   turn = asked.before.before
 
   abbrev begin : tie.Start invariant-loop decreases-loop
   begin = turn.before.before
 
-  most : c.larger.result ≡ max begin.args.low (need_within (plan begin) begin.args.low turn.loop.below)
-  most = c.larger.ensures ∙ ap (max begin.args.low) asked.need-within.ensures
+  most : c.larger-most.result ≡ max begin.args.low (need_within (plan begin) begin.args.low turn.loop-below.below)
+  most = c.larger-most.ensures ∙ ap (max begin.args.low) asked.need_within.ensures
 
   -- the demands' array is as long as it was
-  kept : length asked.need-within.last.1.1.1.1.1.1.1.1.1.1.1.1.1.1.0 ≡ port_slots
-  kept = asked.need-within.kept.1.1.1.1.1.1.1.1.1.1.1.1.1.1.0 ∙ turn.loop.inv.1
+  kept : length asked.need_within.new.out.1.1.1.1.1.1.1.1.1.1.1.1.1.0 ≡ port_slots
+  kept = asked.need_within.kept.1.1.1.1.1.1.1.1.1.1.1.1.1.1.0 ∙ turn.loop-below.invariant.1
 
-loop-holds : tie.Need-loop-init invariant-loop decreases-loop
+loop-holds : tie.Need-loop-below-init invariant-loop decreases-loop
 loop-holds c =
     let s = c.before in (
       record {
@@ -56,43 +56,43 @@ loop-holds c =
       s.requires.4,
     )
 
-need-within-requires : tie.Need-need-within-requires invariant-loop decreases-loop
+need-within-requires : tie.Need-need_within-requires invariant-loop decreases-loop
 need-within-requires c κs =
     let l = c.before in
-    (l.before.before.requires.0, l.loop.invariant.1)
+    (l.requires.0, l.loop-below.invariant.1)
 
-larger-requires : tie.Need-larger-requires invariant-loop decreases-loop
+larger-requires : tie.Need-larger-most-requires invariant-loop decreases-loop
 larger-requires c κs = tt
 
-sub-below : tie.Need-overflow-sub-below invariant-loop decreases-loop
-sub-below c = omega (arith, most c.before, (begin c.before).pre.1)
+sub-below : tie.Need-overflow_sub-below invariant-loop decreases-loop
+sub-below c = omega (arith, most c.before, (begin c.before).requires.1)
 
-loop-less : tie.Need-loop-smaller invariant-loop decreases-loop
-loop-less c = omega (arith, most c.before, (begin c.before).pre.1, c.if1.false)
+loop-less : tie.Need-loop-below-smaller invariant-loop decreases-loop
+loop-less c = omega (arith, most c.before, (begin c.before).requires.1, c.if-below-most.false)
 
-loop-again : tie.Need-loop-preserved invariant-loop decreases-loop
+loop-again : tie.Need-loop-below-preserved invariant-loop decreases-loop
 loop-again c =
     let at = c.before in
     let e = most at in
     let s = begin at in (
       subst (Downward (plan s) s.args.low s.args.high) (ap (λ (m : ℕ). m - 1) (sym e))
-          (downward_next (plan s) s.pre.0 (turn at).loop.invariant.0 (omega (arith, e, c.if1.false))),
+          (downward_next (plan s) s.requires.0 (turn at).loop-below.invariant.0 (omega (arith, e, c.if-below-most.false))),
       kept at,
     )
 
-same_length : tie.Need-same-length invariant-loop decreases-loop
-same_length c = kept c.before ∙ sym (begin c.before).pre.4
+same_length : tie.Need-shape_of-out invariant-loop decreases-loop
+same_length c = kept c.before ∙ sym (begin c.before).requires.4
 
 returns : tie.Need-returns invariant-loop decreases-loop
 returns c =
     let at = c.before in
-    let v = (turn at).loop.invariant.0 in
+    let v = (turn at).loop-below.invariant.0 in
     let s = begin at in
     record {
       from = v.from;
       upto = v.upto;
       run = v.run;
-      refused = downward_ends (plan s) s.pre.0 v (omega (arith, most at, c.if1.true));
+      refused = downward_ends (plan s) s.requires.0 v (omega (arith, most at, c.if-below-most.true));
     }
 
 pub refused_below_spec : {M : Type 1} → statement M

@@ -23,11 +23,11 @@ plan s =
 abbrev start : tie.After-demands → tie.Start
 start c = c.before.before.before
 
-abbrev filling : tie.After-window → tie.After-demands
+abbrev filling : tie.After-window-available → tie.After-demands
 filling c = c.before.before.before
 
 -- the demands at the duration
-at_duration : (c : tie.After-demands) → Filled (plan (start c)) c.demands.new.1.1.1.1.1.1.1.1.1.0 (start c).args.duration
+at_duration : (c : tie.After-demands) → Filled (plan (start c)) c.demands.new.out (start c).args.duration
 at_duration c = filled_by (plan (start c)) (start c).requires.0 (le_refl _) c.demands.ensures
 
 demands-requires : tie.Need-demands-requires
@@ -35,15 +35,15 @@ demands-requires c κs =
     let s = c.before.before in
     ((record { slot = slot_in_range (plan s) s.requires.0 }, extra_most (plan s) s.requires.0), (widened_fits (plan s) s.requires.0 _ (le_refl _), s.requires.1))
 
-failing-set-requires : tie.Need-failing-set-requires
+failing-set-requires : tie.Need-failing_set-set-requires
 failing-set-requires c κs =
-    let f = at_duration (filling c.before) in
-    (filled_length f, omega (arith, c.before.window.ensures, filled_short f), filled_most f)
+    let f = at_duration (filling c) in
+    (filled_length f, omega (arith, c.window-available.ensures, filled_short f), filled_most f)
 
-same_length : tie.Need-same-length
+same_length : tie.Need-shape_of-out
 same_length c =
-    let d = filling c.before.before.before in
-    filled_length (at_duration d) ∙ sym (start d).pre.1
+    let d = filling c.before.before in
+    filled_length (at_duration d) ∙ sym (start d).requires.1
 
 returns : tie.Need-returns
 returns c =
@@ -51,10 +51,10 @@ returns c =
     let s = start (filling open-window) in
     let f = at_duration (filling open-window) in
     let p = plan s in
-    let is = failing_set p s.pre.0 s.args.duration (top_positive p s.pre.0) open-window.window.ensures f.demands c.before.failing_set.ensures in
+    let is = failing_set p s.requires.0 s.args.duration (top_positive p s.requires.0) open-window.window-available.ensures f.demands c.failing_set-set.ensures in
     record {
-      lowest = c.failing-ports.ensures.0 ∙ set_lowest_failing p _ is;
-      many = c.failing-ports.ensures.1 ∙ set_failing p _ is;
+      lowest = c.failing_ports.ensures.0 ∙ set_lowest_failing p _ is;
+      many = c.failing_ports.ensures.1 ∙ set_failing p _ is;
       demands = f.demands;
     }
 

@@ -15,44 +15,44 @@ use Rattle.questions.specs.PortSearch.{routes_only}
 use Rattle.questions.proofs.highest.is_crossed.Statement.{statement}
 use Rattle.questions.proofs.highest.is_crossed.Tie as tie
 
-abbrev invariant-loop : tie.invariant-loop
+abbrev invariant-loop : tie.invariant-loop-f
 invariant-loop hops routes q f₀ f = (f ≤ flow_slots) × (any_to f (λ f. crosses (routes_only hops routes) f q) ≡ false)
 
-abbrev decreases-loop : tie.decreases-loop
+abbrev decreases-loop : tie.decreases-loop-f
 decreases-loop hops routes q f₀ f = flow_slots - f
 
 -- the route of the flow at hand is no longer than a route can be
-hops_within : (c : tie.In-loop invariant-loop decreases-loop) → get_or c.before.before.args.hops.now c.before.loop.f 0 ≤ max_hops
-hops_within c = c.before.before.requires.1 c.before.loop.f c.loop-test.true
+hops_within : (c : tie.In-loop-f invariant-loop decreases-loop) → get_or c.args.hops.now c.loop-f.f 0 ≤ max_hops
+hops_within c = c.requires.1 c.loop-f.f c.loop-f-test.true
 
-loop-holds : tie.Need-loop-init invariant-loop decreases-loop
+loop-holds : tie.Need-loop-f-init invariant-loop decreases-loop
 unfolding any_to
 loop-holds c = search rules
 
-cast-route-holds : tie.Need-overflow-cast-route-holds invariant-loop decreases-loop
-cast-route-holds c = omega (arith, hops_within c.before)
+cast-route-holds : tie.Need-overflow_cast-hops invariant-loop decreases-loop
+cast-route-holds c = omega (arith, hops_within c.before.before)
 
-route-holds-requires : tie.Need-route-holds-requires invariant-loop decreases-loop
-route-holds-requires c κs = (omega (arith, hops_within c.before), c.before.before.before.requires.0)
+route-holds-requires : tie.Need-route_holds-requires invariant-loop decreases-loop
+route-holds-requires c κs = (omega (arith, hops_within c.before.before), c.requires.0)
 
-returns : tie.Need-returns invariant-loop decreases-loop
+returns : tie.Need-returns-then-route_holds invariant-loop decreases-loop
 unfolding crossed
 returns c =
     let l = c.before.before.before in
-    let a = l.before.before.args in
-    sym (any_to_some flow_slots (λ f. crosses (routes_only a.hops.now a.routes.now) f a.q) l.before.loop.f l.loop-test.true (sym c.before.route-holds.ensures ∙ c.if1.true))
+    let a = l.args in
+    sym (any_to_some flow_slots (λ f. crosses (routes_only a.hops.now a.routes.now) f a.q) l.loop-f.f l.loop-f-test.true (sym c.route_holds.ensures ∙ c.if-route_holds.true))
 
-loop-again : tie.Need-loop-preserved invariant-loop decreases-loop
+loop-again : tie.Need-loop-f-preserved invariant-loop decreases-loop
 loop-again c =
     let l = c.before.before.before in
-    let a = l.before.before.args in
-    (omega arith, any_to-next l.before.loop.f (λ f. crosses (routes_only a.hops.now a.routes.now) f a.q) l.before.loop.invariant.1 (sym c.before.route-holds.ensures ∙ c.if1.false))
+    let a = l.args in
+    (omega arith, any_to-next l.loop-f.f (λ f. crosses (routes_only a.hops.now a.routes.now) f a.q) l.loop-f.invariant.1 (sym c.route_holds.ensures ∙ c.if-route_holds.false))
 
-returns_2 : tie.Need-returns-2 invariant-loop decreases-loop
+returns_2 : tie.Need-returns invariant-loop decreases-loop
 unfolding crossed
 returns_2 c =
-    let all : c.before.loop.f ≡ flow_slots = omega arith in
-    sym (rw all at c.before.loop.invariant.1)
+    let all : c.loop-f.f ≡ flow_slots = omega arith in
+    sym (rw all at c.loop-f.invariant.1)
 
 pub is_crossed_spec : {M : Type 1} → statement M
 is_crossed_spec =
@@ -61,12 +61,12 @@ is_crossed_spec =
     invariant-loop
     decreases-loop
     loop-holds
-    (λ c. search rules)
-    (λ c. search rules)
+    (search rules)
+    (search rules)
     cast-route-holds
     route-holds-requires
     returns
-    (λ c. search rules)
-    (λ c. search rules)
+    (search rules)
+    (search rules)
     loop-again
     returns_2)

@@ -17,41 +17,41 @@ plan s =
     plan_by a.guard a.top (clock_of a.clock) a.rates.now a.blockings.now a.extras.now a.periods.now a.counts.now a.lengths.now a.jitters.now a.hops.now a.routes.now
 
 -- where the function starts, from past the steps
-abbrev start : tie.After-iterate → tie.Start
+abbrev start : tie.After-iterate-iterated → tie.Start
 start c = c.before.before
 
 -- the outcome of the steps as an answer
 abbrev answer : tie.Start → Outcome → Answer FixedPoint
 answer s = outcome_answer (plan s) s.args.steps
 
-returns : tie.Need-returns
+returns : tie.Need-returns-in-Found
 returns c =
     let i = c.before.before.before.before in
-    ap (answer (start i)) (rw c.before.iterated.given.1 at i.iterate.ensures.is)
+    ap (answer (start i)) (rw c.iterated.given.1 at i.iterate-iterated.ensures.is)
 
-returns_2 : tie.Need-returns-2
+returns_2 : tie.Need-returns-in-Unfinished
 returns_2 c =
     let i = c.before.before.before.before in
-    ap (answer (start i)) (rw c.before.iterated2.given.1 at i.iterate.ensures.is)
+    ap (answer (start i)) (rw c.iterated2.given.1 at i.iterate-iterated.ensures.is)
 
-returns_3 : tie.Need-returns-3
+returns_3 : tie.Need-returns-in-None
 returns_3 c =
-    let ports = c.before.failing-at.ensures in
+    let ports = c.failing_at-ports.ensures in
     let none = c.before.before.before.before in
     let i = none.before.before.before in
-    rw (ports.lowest, ports.many) (ap (answer (start i)) (rw none.iterated3.given.1 at i.iterate.ensures.is))
+    rw (ports.lowest, ports.many) (ap (answer (start i)) (rw none.iterated3.given.1 at i.iterate-iterated.ensures.is))
 
 pub steps_answer_spec : {M : Type 1} → statement M
 steps_answer_spec =
     tie.close
     (tie.spec
-    (λ c. search rules)
-    (λ c κs. search rules)
-    (λ c. search rules)
-    (λ c. search rules)
-    (λ c. search rules)
-    (λ c. search rules)
-    (λ c κs. search rules)
+    (search rules)
+    (search rules)
+    (search rules)
+    (search rules)
+    (search rules)
+    (search rules)
+    (search rules)
     returns
     returns_2
     returns_3)

@@ -11,11 +11,11 @@ use Rattle.questions.specs.laws.Nearest.{Halving, halving_start, halving_over, h
 use Rattle.questions.proofs.last_upto.outgrown.Statement.{statement}
 use Rattle.questions.proofs.last_upto.outgrown.Tie as tie
 
-abbrev invariant-loop : tie.invariant-loop
+abbrev invariant-loop : tie.invariant-loop-under
 invariant-loop guard top clock rates blockings extras periods counts lengths jitters hops routes duration out₀ under₀ over₀ out under over =
     Halving (plan_by guard top (clock_of clock) rates blockings extras periods counts lengths jitters hops routes) duration under over × (length out ≡ port_slots)
 
-abbrev decreases-loop : tie.decreases-loop
+abbrev decreases-loop : tie.decreases-loop-under
 decreases-loop guard top clock rates blockings extras periods counts lengths jitters hops routes duration out₀ under₀ over₀ out under over =
     over - under
 
@@ -26,66 +26,66 @@ plan s =
     plan_by a.guard a.top (clock_of a.clock) a.rates.now a.blockings.now a.extras.now a.periods.now a.counts.now a.lengths.now a.jitters.now a.hops.now a.routes.now
 
 -- the middle lies between the two
-between : (c : tie.In-loop invariant-loop decreases-loop) → (c.before.loop.under < (c.before.loop.under + c.before.loop.over) / 2) × ((c.before.loop.under + c.before.loop.over) / 2 < c.before.loop.over)
-between c = middle_between _ _ (omega (arith, c.loop-test.true))
+between : (c : tie.In-loop-under invariant-loop decreases-loop) → (c.loop-under.under < (c.loop-under.under + c.loop-under.over) / 2) × ((c.loop-under.under + c.loop-under.over) / 2 < c.loop-under.over)
+between c = middle_between _ _ (omega (arith, c.loop-under-test.true))
 
 -- what is needed in the middle, and the turn of the loop; the demands' array is as long as it was
-abbrev asked : tie.After-slice-known2 invariant-loop decreases-loop → tie.After-need-within invariant-loop decreases-loop
+abbrev asked : tie.After-slice_known-in-loop-under-1 invariant-loop decreases-loop → tie.After-need_within-most invariant-loop decreases-loop
 asked c = c.before.before
 
-abbrev turn : tie.After-need-within invariant-loop decreases-loop → tie.In-loop invariant-loop decreases-loop
+abbrev turn : tie.After-need_within-most invariant-loop decreases-loop → tie.In-loop-under invariant-loop decreases-loop
 turn c = c.before.before
 
-kept : (c : tie.After-need-within invariant-loop decreases-loop) → length c.need-within.new.1.1.1.1.1.1.1.1.1.1.1.1.1.1.0 ≡ port_slots
-kept c = c.need-within.auto.1.1.1.1.1.1.1.1.1.1.1.1.1.1.0 ∙ (turn c).before.loop.invariant.1
+kept : (c : tie.After-need_within-most invariant-loop decreases-loop) → length c.need_within-most.new.out ≡ port_slots
+kept c = c.need_within-most.auto.out.1.1.1.1.1.1.1.1.1.1.1.1.1.0 ∙ (turn c).loop-under.invariant.1
 
-loop-holds : tie.Need-loop-init invariant-loop decreases-loop
+loop-holds : tie.Need-loop-under-init invariant-loop decreases-loop
 loop-holds c =
     let s = c.before in
     (halving_start (plan s) s.args.duration s.requires.0.1 s.requires.0.2 s.requires.1, s.requires.0.3)
 
-add-loop : tie.Need-overflow-add-loop invariant-loop decreases-loop
+add-loop : tie.Need-overflow_add-under invariant-loop decreases-loop
 add-loop c =
-    let v = c.loop.invariant.0 in
+    let v = c.loop-under.invariant.0 in
     omega (arith, v.apart, v.upto, v.within_top)
 
-add-middle : tie.Need-overflow-add-middle invariant-loop decreases-loop
+add-middle : tie.Need-overflow_add-middle invariant-loop decreases-loop
 add-middle c =
-    let v = c.before.loop.invariant.0 in
+    let v = c.loop-under.invariant.0 in
     omega (arith, v.apart, v.upto, v.within_top)
 
-need-within-requires : tie.Need-need-within-requires invariant-loop decreases-loop
+need-within-requires : tie.Need-need_within-most-requires invariant-loop decreases-loop
 need-within-requires c κs =
     let l = c.before.before in
-    (l.before.before.requires.0.0, l.loop.invariant.1)
+    (l.requires.0.0, l.loop-under.invariant.1)
 
-loop-less : tie.Need-loop-smaller invariant-loop decreases-loop
+loop-less : tie.Need-loop-under-smaller-then-duration-most invariant-loop decreases-loop
 loop-less c =
     let m = between (turn (asked c.before)) in
     omega (arith, m.0, m.1)
 
-loop-again : tie.Need-loop-preserved invariant-loop decreases-loop
+loop-again : tie.Need-loop-under-preserved-then-duration-most invariant-loop decreases-loop
 loop-again c =
     let at = asked c.before in
     let m = between (turn at) in
-    (halving_over (turn at).before.loop.inv.0 _ m.0 m.1 (omega (arith, c.if1.true, at.need-within.ensures)), kept at)
+    (halving_over (turn at).loop-under.invariant.0 _ m.0 m.1 (omega (arith, c.if-duration-most.true, at.need_within-most.ensures)), kept at)
 
-loop-less-2 : tie.Need-loop-smaller-2 invariant-loop decreases-loop
+loop-less-2 : tie.Need-loop-under-smaller invariant-loop decreases-loop
 loop-less-2 c =
     let m = between (turn (asked c.before)) in
     omega (arith, m.0, m.1)
 
-loop-again-2 : tie.Need-loop-preserved-2 invariant-loop decreases-loop
+loop-again-2 : tie.Need-loop-under-preserved invariant-loop decreases-loop
 loop-again-2 c =
     let at = asked c.before in
-    (halving_under (turn at).before.loop.inv.0 _ (between (turn at)).1, kept at)
+    (halving_under (turn at).loop-under.invariant.0 _ (between (turn at)).1, kept at)
 
-same_length : tie.Need-same-length invariant-loop decreases-loop
-same_length c = c.before.loop.invariant.1 ∙ sym c.before.before.before.requires.0.3
+same_length : tie.Need-shape_of-out invariant-loop decreases-loop
+same_length c = c.loop-under.invariant.1 ∙ sym c.requires.0.3
 
 returns : tie.Need-returns invariant-loop decreases-loop
 returns c =
-    let v = c.before.loop.invariant.0 in
+    let v = c.loop-under.invariant.0 in
     (omega (arith, v.apart), v.upto, v.more)
 
 pub outgrown_spec : {M : Type 1} → statement M

@@ -24,8 +24,8 @@ plan s =
     plan_by a.guard a.top (clock_of a.clock) a.rates.now a.blockings.now a.extras.now a.periods.now a.counts.now a.lengths.now a.jitters.now a.hops.now a.routes.now
 
 -- the least admissible duration was found, and it is up to top
-module _ (c : tie.Else2) where
-  abbrev searched : tie.After-first-from
+module _ (c : tie.Else-limit-start) where
+  abbrev searched : tie.After-first_from-start
   searched = c.before.before
 
   abbrev begin : tie.Start
@@ -35,63 +35,63 @@ module _ (c : tie.Else2) where
   T = begin.args.duration
 
   abbrev start : ℕ
-  start = searched.first-from.result
+  start = searched.first_from-start.result
 
   is : start ≡ least_from (plan begin) T
-  is = searched.first-from.ensures
+  is = searched.first_from-start.ensures
 
   upto : least_from (plan begin) T ≤ (plan begin).top
-  upto = omega (arith, is, c.if2.false)
+  upto = omega (arith, is, c.if-limit-start.false)
 
   found : LeastAdmissible (plan begin) T (least_from (plan begin) T)
-  found = least_from_admissible (plan begin) T begin.pre.1 upto
+  found = least_from_admissible (plan begin) T begin.requires.1 upto
 
   good : admissible (plan begin) start ≡ true
   good = subst (λ (t : ℕ). admissible (plan begin) t ≡ true) (sym is) found.good
 
-no-span-requires : tie.Need-no-span-requires
+no-span-requires : tie.Need-no_span-requires
 no-span-requires c κs = tt
 
-returns : tie.Need-returns
+returns : tie.Need-returns-then-limit-duration
 returns c =
     let s = c.before.before in
-    c.no_span.ensures ∙ sym (next_above (plan s) s.args.duration s.requires.1 (omega (arith, c.before.if1.true)))
+    c.no_span.ensures ∙ sym (next_above (plan s) s.args.duration s.requires.1 (omega (arith, c.if-limit-duration.true)))
 
-first-from-requires : tie.Need-first-from-requires
+first-from-requires : tie.Need-first_from-start-requires
 first-from-requires c κs =
     let s = c.before.before in
-    (s.requires.0, s.requires.1, omega (arith, c.before.if1.false), refl)
+    (s.requires.0, s.requires.1, omega (arith, c.if-limit-duration.false), refl)
 
-no-span-requires-2 : tie.Need-no-span-requires-2
+no-span-requires-2 : tie.Need-no_span-requires-then-limit-start
 no-span-requires-2 c κs = tt
 
-returns_2 : tie.Need-returns-2
+returns_2 : tie.Need-returns-then-limit-start
 returns_2 c =
     let f = c.before.before.before in
     let s = f.before.before.before in
-    c.no-span2.ensures
-    ∙ sym (next-none (plan s) s.args.duration s.requires.1 (omega (arith, f.first-from.ensures, c.before.if2.true)))
+    c.no_span-then-limit-start.ensures
+    ∙ sym (next-none (plan s) s.args.duration s.requires.1 (omega (arith, f.first_from-start.ensures, c.if-limit-start.true)))
 
-first-of-requires : tie.Need-first-of-requires
+first-of-requires : tie.Need-first_of-first-requires
 first-of-requires c κs =
     let at = c.before in
-    (((begin at).requires.0, (begin at).requires.1, omega (arith, is at, (found at).from), omega (arith, at.if2.false), (searched at).first-from.auto.1.1.1.1.1.1.1.1.1.1.1.1.1.0), good at)
+    (((begin at).requires.0, (begin at).requires.1, omega (arith, is at, (found at).from), omega (arith, at.if-limit-start.false), (searched at).first_from-start.auto.out.1.1.1.1.1.1.1.1.1.1.1.1.0), good at)
 
-last-from-requires : tie.Need-last-from-requires
+last-from-requires : tie.Need-last_from-last-requires
 last-from-requires c κs =
     let first = c.before.before in
     let at = first.before.before in
-    (((begin at).requires.0, omega (arith, (begin at).requires.1, is at, (found at).from), omega (arith, at.if2.false), first.first_of.auto.1.1.1.1.1.1.1.1.1.1.1.1.1.1.0 ∙ (searched at).first-from.auto.1.1.1.1.1.1.1.1.1.1.1.1.1.0), good at)
+    (((begin at).requires.0, omega (arith, (begin at).requires.1, is at, (found at).from), omega (arith, at.if-limit-start.false), first.first_of-first.auto.out.1.1.1.1.1.1.1.1.1.1.1.1.1.0 ∙ (searched at).first_from-start.auto.1.1.1.1.1.1.1.1.1.1.1.1.1.0), good at)
 
-returns_3 : tie.Need-returns-3
+returns_3 : tie.Need-returns
 returns_3 c =
     let run = c.before in
     let begun = run.before.before.before in
     let at = begun.before.before in
-    let first = begun.first_of.result in
-    ap (λ (l : ℕ). record { first = first; last = l }) (run.last_from_lem.ensures ∙ ap (last_from (plan (begin at))) (is at))
+    let first = begun.first_of-first.result in
+    ap (λ (l : ℕ). record { first = first; last = l }) (run.last_from-last.ensures ∙ ap (last_from (plan (begin at))) (is at))
     ∙ sym (next-found (plan (begin at)) (T at) (begin at).requires.1 first (upto at)
-    (subst (λ (t : ℕ). FirstOf (plan (begin at)) (T at) t first) (is at) begun.first_of.ensures))
+    (subst (λ (t : ℕ). FirstOf (plan (begin at)) (T at) t first) (is at) begun.first_of-first.ensures))
 
 pub span_from_spec : {M : Type 1} → statement M
 span_from_spec =
@@ -99,12 +99,12 @@ span_from_spec =
     (tie.spec
     no-span-requires
     returns
-    (λ c. search rules)
+    (search rules)
     first-from-requires
     no-span-requires-2
     returns_2
-    (λ c. search rules)
+    (search rules)
     first-of-requires
-    (λ c. search rules)
+    (search rules)
     last-from-requires
     returns_3)

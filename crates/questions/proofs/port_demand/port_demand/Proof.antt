@@ -19,11 +19,11 @@ use Rattle.questions.specs.laws.Sums.{sum_crossing, sum_apart, sum_most, crossin
 use Rattle.questions.proofs.port_demand.port_demand.Statement.{statement}
 use Rattle.questions.proofs.port_demand.port_demand.Tie as tie
 
-abbrev invariant-loop : tie.invariant-loop
+abbrev invariant-loop : tie.invariant-loop-f
 invariant-loop extras periods counts lengths jitters hops routes duration q at over bits₀ f₀ bits f =
     (f ≤ flow_slots) × (bits ≡ sum_to f (share (columns equal_clocks [] [] extras periods counts lengths jitters hops routes) q over))
 
-abbrev decreases-loop : tie.decreases-loop
+abbrev decreases-loop : tie.decreases-loop-f
 decreases-loop extras periods counts lengths jitters hops routes duration q at over bits₀ f₀ bits f = flow_slots - f
 
 -- the plan of the columns, with clocks that are equal
@@ -32,101 +32,101 @@ plan s =
     columns equal_clocks [] [] s.args.extras.now s.args.periods.now s.args.counts.now s.args.lengths.now s.args.jitters.now s.args.hops.now s.args.routes.now
 
 -- the length over which frames are counted, which is that plan's duration
-module _ (c : tie.At-loop invariant-loop decreases-loop) where
+module _ (c : tie.At-loop-f invariant-loop decreases-loop) where
   abbrev begin : tie.Start invariant-loop decreases-loop
   begin = c.before.before
 
   abbrev over : ℕ
-  over = c.before.widened.result
+  over = c.widened-over.result
 
   is : over ≡ widened (plan begin) over
   is = sym (aligned-widened (plan begin) over)
 
   counted-over : over ≡ widened_by (clock_of begin.args.clock) begin.args.duration
-  counted-over = c.before.widened.ensures
+  counted-over = c.widened-over.ensures
 
   fits : widened (plan begin) over ≤ most_widened
-  fits = subst (λ (n : ℕ). n ≤ most_widened) (sym counted-over ∙ is) begin.pre.1.0
+  fits = subst (λ (n : ℕ). n ≤ most_widened) (sym counted-over ∙ is) begin.requires.1.0
 
 -- the slot of the flow at hand
-module _ (c : tie.In-loop invariant-loop decreases-loop) where
+module _ (c : tie.In-loop-f invariant-loop decreases-loop) where
   abbrev start : tie.Start invariant-loop decreases-loop
   start = begin c.before
 
   slot
-      : (let f = c.before.loop.f in
+      : (let f = c.loop-f.f in
       let p = plan start in
       FlowInRange (period_of p f) (count_of p f) (length_of p f) (jitter_of p f) (hops_of p f) (route_of p f))
-  slot = start.pre.0.0.slot c.before.loop.f c.loop-test.true
+  slot = start.requires.0.0.slot c.loop-f.f c.loop-f-test.true
 
 -- the jitter of any slot is in range
 jitter-within : (s : tie.Start invariant-loop decreases-loop) {f : ℕ} → f < flow_slots → jitter_of (plan s) f ≤ max_jitter
 jitter-within s {f} l = (s.requires.0.0.slot f l).jitter_most
 
 -- the flow crosses the port
-abbrev inside : tie.Then1 invariant-loop decreases-loop → tie.In-loop invariant-loop decreases-loop
-inside c = c.before.before.before
+abbrev inside : tie.Then-route_holds invariant-loop decreases-loop → tie.In-loop-f invariant-loop decreases-loop
+inside c = c.before.before.before.before
 
-crossing : (c : tie.Then1 invariant-loop decreases-loop) → crosses (plan (start (inside c))) (inside c).before.loop.f (start (inside c)).args.q ≡ true
-crossing c = sym c.before.route-holds.ensures ∙ c.if1.true
+crossing : (c : tie.Then-route_holds invariant-loop decreases-loop) → crosses (plan (start (inside c))) (inside c).loop-f.f (start (inside c)).args.q ≡ true
+crossing c = sym c.route_holds.ensures ∙ c.if-route_holds.true
 
-cast-at : tie.Need-overflow-cast-at invariant-loop decreases-loop
+cast-at : tie.Need-overflow_cast-at invariant-loop decreases-loop
 cast-at c = omega (arith, c.requires.1.0)
 
-cast-over : tie.Need-overflow-cast-over invariant-loop decreases-loop
-cast-over c = omega (arith, c.widened.ensures, c.before.requires.1.0)
+cast-over : tie.Need-overflow_cast-over invariant-loop decreases-loop
+cast-over c = omega (arith, c.widened-over.ensures, c.requires.1.0)
 
-loop-holds : tie.Need-loop-init invariant-loop decreases-loop
+loop-holds : tie.Need-loop-f-init invariant-loop decreases-loop
 unfolding sum_to
 loop-holds c = search rules
 
-cast-route-holds : tie.Need-overflow-cast-route-holds invariant-loop decreases-loop
-cast-route-holds c = omega (arith, (slot c.before).hops_most)
+cast-route-holds : tie.Need-overflow_cast-hops invariant-loop decreases-loop
+cast-route-holds c = omega (arith, (slot c.before.before).hops_most)
 
-route-holds-requires : tie.Need-route-holds-requires invariant-loop decreases-loop
-route-holds-requires c κs = (omega (arith, (slot c.before).hops_most), (start c.before).pre.1.1)
+route-holds-requires : tie.Need-route_holds-requires invariant-loop decreases-loop
+route-holds-requires c κs = (omega (arith, (slot c.before.before).hops_most), (start c.before.before).requires.1.1)
 
-flow-bits-requires : tie.Need-flow-bits-requires invariant-loop decreases-loop
+flow-bits-requires : tie.Need-flow_bits-bits-requires invariant-loop decreases-loop
 flow-bits-requires c κs =
     let branch = c.before.before.before.before.before in
-    let at = inside branch in
+    let at = inside branch.before.before.before.before.before in
     let s = start at in
     let r = slot at in
-    let least = crossing_period (plan s) s.pre.0.0.slot s.args.q at.before.loop.f at.loop-test.taken (crossing branch) in
-    (least, r.period_most, r.count_most, r.bytes_most, jitter-within s (omega arith), s.pre.0.1 s.args.q s.pre.1.1, omega (arith, counted-over at.before, s.pre.1.0))
+    let least = crossing_period (plan s) s.requires.0.0.slot s.args.q at.loop-f.f at.loop-f-test.true (crossing branch.before.before.before.before.before) in
+    (least, r.period_most, r.count_most, r.bytes_most, jitter-within s (omega arith), s.requires.0.1 s.args.q s.requires.1.1, omega (arith, counted-over at.before, s.requires.1.0))
 
-add-bits : tie.Need-overflow-add-bits invariant-loop decreases-loop
+add-bits : tie.Need-overflow_add-bits invariant-loop decreases-loop
 add-bits c =
     let branch = c.before.before.before.before.before.before in
-    let at = inside branch in
+    let at = inside branch.before.before.before.before.before in
     let s = start at in
     let p = plan s in
-    let f = at.before.loop.f in
-    let next : f + 1 ≤ flow_slots = omega (arith, at.loop-test.taken) in
+    let f = at.loop-f.f in
+    let next : f + 1 ≤ flow_slots = omega (arith, at.loop-f-test.true) in
     omega
-    (arith, sum_crossing p s.args.q (over at.before) f at.before.loop.inv.1 (crossing branch) (is at.before) c.flow-bits.ensures, sum_most p s.pre.0.0.slot s.pre.0.1 (over at.before) (fits at.before) s.args.q (f + 1) s.pre.1.1 next)
+    (arith, sum_crossing p s.args.q (over at.before) f at.loop-f.invariant.1 (crossing branch.before.before.before.before.before) (is at.before) c.flow_bits-bits.ensures, sum_most p s.requires.0.0.slot s.requires.0.1 (over at.before) (fits at.before) s.args.q (f + 1) s.requires.1.1 next)
 
-loop-again : tie.Need-loop-preserved invariant-loop decreases-loop
+loop-again : tie.Need-loop-f-preserved invariant-loop decreases-loop
 loop-again c =
     let at = c.before.before.before in
-    let s = start at in
+    let s = start at.before in
     let p = plan s in
     let q = s.args.q in
-    let T = over at.before in
-    let f = at.before.loop.f in
-    let sum = at.before.loop.invariant.1 in
-    let holds = c.before.route-holds.ensures in
+    let T = over at.before.before in
+    let f = at.loop-f.f in
+    let sum = at.loop-f.invariant.1 in
+    let holds = c.route_holds.ensures in
     ⊎_elim
-    (λ w. (omega arith, w.7 ∙ sum_crossing p q T f sum (sym holds ∙ w.0.taken) (is at.before) w.6.ensures))
+    (λ w. (omega arith, w.7 ∙ sum_crossing p q T f sum (sym holds ∙ w.0.true) (is at.before.before) w.6.ensures))
     (λ w. (omega arith, w.1 ∙ sum_apart p q T f sum (sym holds ∙ w.0.left)))
-    c.if1.branch
+    c.if-route_holds.branch
 
 returns : tie.Need-returns invariant-loop decreases-loop
 returns c =
     let s = begin c.before in
     let p = columns (clock_of s.args.clock) [] [] s.args.extras.now s.args.periods.now s.args.counts.now s.args.lengths.now s.args.jitters.now s.args.hops.now s.args.routes.now in
-    let all : c.before.loop.f ≡ flow_slots = omega arith in
-    rw all at c.before.loop.invariant.1
+    let all : c.loop-f.f ≡ flow_slots = omega arith in
+    rw all at c.loop-f.invariant.1
     ∙ sym (demand_sum (plan s) s.args.q (over c.before))
     ∙ demand-widened p s.args.duration (counted-over c.before) s.args.q
 
@@ -140,22 +140,22 @@ port_demand_spec =
     (λ c κs. tt)
     cast-over
     loop-holds
-    (λ c. search rules)
-    (λ c. search rules)
+    (search rules)
+    (search rules)
     cast-route-holds
     route-holds-requires
-    (λ c. search rules)
-    (λ c. search rules)
-    (λ c. search rules)
-    (λ c. search rules)
-    (λ c. search rules)
-    (λ c. search rules)
-    (λ c. search rules)
-    (λ c. search rules)
-    (λ c. search rules)
+    (search rules)
+    (search rules)
+    (search rules)
+    (search rules)
+    (search rules)
+    (search rules)
+    (search rules)
+    (search rules)
+    (search rules)
     flow-bits-requires
     add-bits
-    (λ c. search rules)
-    (λ c. search rules)
+    (search rules)
+    (search rules)
     loop-again
     returns)

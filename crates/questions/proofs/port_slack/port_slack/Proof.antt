@@ -19,34 +19,40 @@ capacity_most c =
     let rate : c.args.rate ≤ 2 ^ 32 = omega arith in
     mul-le-mul rate c.requires.0
 
-workload_most : (c : tie.After-workload) → c.workload.result < 2 ^ 63
-workload_most c = rw c.workload.ensures (go (eqb c.before.args.blocking 0))
+workload_most : (c : tie.After-workload-needed) → c.workload-needed.result < 2 ^ 63
+workload_most c = rw c.workload-needed.ensures (go (eqb c.args.blocking 0))
   where
-    go : (x : Bool) → ns_per_bit * (c.before.args.bits + cond x 0 (bits_of c.before.args.blocking c.before.args.extra)) < 2 ^ 63
+    go : (x : Bool) → ns_per_bit * (c.args.bits + cond x 0 (bits_of c.args.blocking c.args.extra)) < 2 ^ 63
     go true = omega arith
     go false = omega arith
 
-mul-capacity : tie.Need-overflow-mul-capacity
+mul-capacity : tie.Need-overflow_mul-capacity
 mul-capacity c = omega (arith, capacity_most c)
 
-cast-result : tie.Need-overflow-cast-result
+cast-result : tie.Need-overflow_cast-result
 cast-result c = record { sfits = omega (arith, capacity_most c.before) }
 
-cast-result-2 : tie.Need-overflow-cast-result-2
+cast-result-2 : tie.Need-overflow_cast-result-2
 cast-result-2 c = record { sfits = workload_most c }
 
-sub-result : tie.Need-overflow-sub-result
+sub-result : tie.Need-overflow_sub-result
 sub-result c =
-    let small : c.before.args.rate * c.before.args.window < 2 ^ 63 = omega (arith, capacity_most c.before) in
+    let small : c.args.rate * c.args.window < 2 ^ 63 = omega (arith, capacity_most c.before) in
     sub_fits _ _ small (workload_most c)
 
 returns : tie.Need-returns
 returns c =
-    let small : c.before.args.rate * c.before.args.window < 2 ^ 63 = omega (arith, capacity_most c.before) in
+    let small : c.args.rate * c.args.window < 2 ^ 63 = omega (arith, capacity_most c.before) in
     sub_is _ _ small (workload_most c)
-    ∙ ap (λ (n : ℕ). sub_ℕ (c.before.args.rate * c.before.args.window) n) c.workload.ensures
+    ∙ ap (λ (n : ℕ). sub_ℕ (c.args.rate * c.args.window) n) c.workload-needed.ensures
 
 pub port_slack_spec : {M : Type 1} → statement M
 port_slack_spec =
     tie.close
-    (tie.spec mul-capacity (λ c κs. search rules) cast-result cast-result-2 sub-result returns)
+    (tie.spec
+    mul-capacity
+    (search rules)
+    cast-result
+    cast-result-2
+    sub-result
+    returns)

@@ -11,35 +11,41 @@ use Rattle.plan_reading.specs.laws.fields.Within.{within_low, slot_below}
 use Rattle.questions.proofs.reprice.holds_flow.Statement.{statement}
 use Rattle.questions.proofs.reprice.holds_flow.Tie as tie
 
-number : (c : tie.Else1) → flow_ok c.before.before.args.flow ≡ true
-number c = sym c.before.between.ensures ∙ not-false _ c.if1.false
+number : (c : tie.Else-not-between) → flow_ok c.args.flow ≡ true
+number c = sym c.between.ensures ∙ c.if-not-between.false
 
-small : (c : tie.Else1) → c.before.before.args.flow - 1 < flow_slots
-small c = slot_below flow_slots c.before.before.args.flow (number c)
+small : (c : tie.Else-not-between) → c.args.flow - 1 < flow_slots
+small c = slot_below flow_slots c.args.flow (number c)
 
 between-requires : tie.Need-between-requires
 between-requires c κs = tt
 
-returns : tie.Need-returns
+returns : tie.Need-returns-then-not-between
 returns c =
-    let a = c.before.before.args in
-    sym (ap (λ (b : Bool). b && ltb 0 (get_or a.periods.now (a.flow - 1) 0)) (sym c.before.between.ensures ∙ not-true _ c.if1.true))
+    let a = c.args in
+    sym (ap (λ (b : Bool). b && ltb 0 (get_or a.periods.now (a.flow - 1) 0)) (sym c.between.ensures ∙ c.if-not-between.true))
 
-sub-period : tie.Need-overflow-sub-period
+sub-period : tie.Need-overflow_sub-period
 sub-period c = within_low 1 flow_slots _ (number c)
 
-mul-period : tie.Need-overflow-mul-period
+mul-period : tie.Need-offset_bounds-periods-flow
 mul-period c = omega (arith, small c)
 
-element-copy-out-period : tie.Need-element-copy-out-period
-element-copy-out-period c = small c
+element-copy-out-period : tie.Need-bounds-periods-flow
+element-copy-out-period c = small c.before
 
-returns_2 : tie.Need-returns-2
+returns_2 : tie.Need-returns
 returns_2 c =
-    let a = c.before.before.before.args in
-    sym (ap (λ (b : Bool). b && ltb 0 (get_or a.periods.now (a.flow - 1) 0)) (number c.before))
+    let a = c.args in
+    sym (ap (λ (b : Bool). b && ltb 0 (get_or a.periods.now (a.flow - 1) 0)) (number c.before.before))
 
 pub holds_flow_spec : {M : Type 1} → statement M
 holds_flow_spec =
     tie.close
-    (tie.spec between-requires returns sub-period mul-period element-copy-out-period returns_2)
+    (tie.spec
+    between-requires
+    returns
+    sub-period
+    mul-period
+    element-copy-out-period
+    returns_2)

@@ -23,7 +23,7 @@ use Rattle.questions.specs.laws.RepriceRoute.{changed_columns, changed_fits, cha
 use Rattle.questions.proofs.reprice.reprice_route.Statement.{statement}
 use Rattle.questions.proofs.reprice.reprice_route.Tie as tie
 
-abbrev invariant-loop : tie.invariant-loop
+abbrev invariant-loop : tie.invariant-loop-i
 invariant-loop guard clock rates blockings extras periods counts lengths jitters hops routes duration f bytes out₀ available base end i₀ out i =
     (i ≤ end)
     × (length out ≡ length out₀)
@@ -33,7 +33,7 @@ invariant-loop guard clock rates blockings extras periods counts lengths jitters
     (λ q. slack (with_length (plan_by guard 0 (clock_of clock) rates blockings extras periods counts lengths jitters hops routes) f bytes) q duration)
     out₀)
 
-abbrev decreases-loop : tie.decreases-loop
+abbrev decreases-loop : tie.decreases-loop-i
 decreases-loop guard clock rates blockings extras periods counts lengths jitters hops routes duration f bytes out₀ available base end i₀ out i = end - i
 
 -- the plan of the columns, without its top, and the flow in slot f
@@ -46,14 +46,14 @@ module _ (s : tie.Start invariant-loop decreases-loop) where
   flow
       : (let f = s.args.f in
       FlowInRange (period_of plan f) (count_of plan f) (length_of plan f) (jitter_of plan f) (hops_of plan f) (route_of plan f))
-  flow = s.pre.0.0.slot s.args.f s.pre.1.2
+  flow = s.requires.0.0.slot s.args.f s.requires.1.2
 
 -- where the function starts
-abbrev begin : tie.At-loop invariant-loop decreases-loop → tie.Start invariant-loop decreases-loop
-begin c = c.before.before.before
+abbrev begin : tie.At-loop-i invariant-loop decreases-loop → tie.Start invariant-loop decreases-loop
+begin c = c.before.before.before.before
 
 -- the port at i of the route: in range, and one that the flow crosses
-module _ (c : tie.In-loop invariant-loop decreases-loop) where
+module _ (c : tie.In-loop-i invariant-loop decreases-loop) where
   abbrev start : tie.Start invariant-loop decreases-loop
   start = begin c.before
 
@@ -61,141 +61,141 @@ module _ (c : tie.In-loop invariant-loop decreases-loop) where
   base = start.args.f * route_stride
 
   abbrev port : ℕ
-  port = get_or start.args.routes.now (base + c.before.loop.i) 0
+  port = get_or start.args.routes.now (base + c.loop-i.i) 0
 
-  within : c.before.loop.i < hops_of (plan start) start.args.f
-  within = c.loop-test.true
+  within : c.loop-i.i < hops_of (plan start) start.args.f
+  within = c.loop-i-test.true
 
-  next : (0 < port) × (port ≤ port_slots) × (elem port (sublist start.args.routes.now base c.before.loop.i) ≡ false)
-  next = next-port start.args.routes.now base (hops_of (plan start) start.args.f) c.before.loop.i (flow start).ports (flow start).once within
+  next : (0 < port) × (port ≤ port_slots) × (elem port (sublist start.args.routes.now base c.loop-i.i) ≡ false)
+  next = next-port start.args.routes.now base (hops_of (plan start) start.args.f) c.loop-i.i (flow start).ports (flow start).once within
 
   low : port - 1 < port_slots
   low = omega (arith, next)
 
   on : crosses (plan start) start.args.f (port - 1) ≡ true
-  on = elem_here start.args.routes.now base (hops_of (plan start) start.args.f) c.before.loop.i (suc (port - 1)) within (omega (arith, next))
+  on = elem_here start.args.routes.now base (hops_of (plan start) start.args.f) c.loop-i.i (suc (port - 1)) within (omega (arith, next))
 
 -- its demand and its slack with the other length
-abbrev inside : tie.After-changed-demand invariant-loop decreases-loop → tie.In-loop invariant-loop decreases-loop
-inside c = c.before.before
+abbrev inside : tie.After-changed_demand-bits invariant-loop decreases-loop → tie.In-loop-i invariant-loop decreases-loop
+inside c = c.before.before.before
 
-module _ (c : tie.After-changed-demand invariant-loop decreases-loop) where
+module _ (c : tie.After-changed_demand-bits invariant-loop decreases-loop) where
   abbrev args : tie.Start invariant-loop decreases-loop
   args = start (inside c)
 
   bits_are
-      : c.changed-demand.result
+      : c.changed_demand-bits.result
       ≡ demand (with_length (plan args) args.args.f args.args.bytes) (port (inside c) - 1) args.args.duration
   bits_are =
-      c.changed-demand.ensures
+      c.changed_demand-bits.ensures
       ∙ changed_columns (plan args) args.args.f args.args.bytes (port (inside c) - 1) args.args.duration
 
-  bits_most : c.changed-demand.result ≤ most_demand
+  bits_most : c.changed_demand-bits.result ≤ most_demand
   bits_most =
       omega
-      (arith, bits_are, changed_fits (plan args) args.pre.0.0.slot args.args.f args.args.bytes args.pre.1.4 args.pre.0.1 args.args.duration args.pre.1.0 (port (inside c) - 1) (low (inside c)))
+      (arith, bits_are, changed_fits (plan args) args.requires.0.0.slot args.args.f args.args.bytes args.requires.1.4 args.requires.0.1 args.args.duration args.requires.1.0 (port (inside c) - 1) (low (inside c)))
 
-window-requires : tie.Need-window-requires invariant-loop decreases-loop
+window-requires : tie.Need-window-available-requires invariant-loop decreases-loop
 window-requires c κs = tt
 
-mul-base : tie.Need-overflow-mul-base invariant-loop decreases-loop
+mul-base : tie.Need-overflow_mul-base invariant-loop decreases-loop
 mul-base c = search rules
 
-element-copy-out-end : tie.Need-element-copy-out-end invariant-loop decreases-loop
+element-copy-out-end : tie.Need-bounds-hops-f invariant-loop decreases-loop
 element-copy-out-end c = search rules
 
-cast-end : tie.Need-overflow-cast-end invariant-loop decreases-loop
-cast-end c = omega (arith, (flow c.before.before).hops_most)
+cast-end : tie.Need-overflow_cast-end invariant-loop decreases-loop
+cast-end c = omega (arith, (flow c.before.before.before).hops_most)
 
-loop-holds : tie.Need-loop-init invariant-loop decreases-loop
+loop-holds : tie.Need-loop-i-init invariant-loop decreases-loop
 unfolding elem sublist
-loop-holds c = (omega arith, refl, sym (replaced-none _ _ c.before.before.args.out.now (λ q. refl)))
+loop-holds c = (omega arith, refl, sym (replaced-none _ _ c.args.out.now (λ q. refl)))
 
-add-q : tie.Need-overflow-add-q invariant-loop decreases-loop
+add-q : tie.Need-overflow_add-q invariant-loop decreases-loop
 add-q c = omega (arith, (flow (start c)).hops_most, within c)
 
-element-copy-out-q : tie.Need-element-copy-out-q invariant-loop decreases-loop
-element-copy-out-q c = omega (arith, (flow (start c)).hops_most, within c)
+element-copy-out-q : tie.Need-bounds-routes-base invariant-loop decreases-loop
+element-copy-out-q c = omega (arith, (flow (start c.before)).hops_most, within c.before)
 
-cast-q : tie.Need-overflow-cast-q invariant-loop decreases-loop
-cast-q c = omega (arith, next c.before)
+cast-q : tie.Need-overflow_cast-q invariant-loop decreases-loop
+cast-q c = omega (arith, next c.before.before)
 
-sub-q : tie.Need-overflow-sub-q invariant-loop decreases-loop
-sub-q c = omega (arith, next c.before)
+sub-q : tie.Need-overflow_sub-q invariant-loop decreases-loop
+sub-q c = omega (arith, next c.before.before)
 
-changed-demand-requires : tie.Need-changed-demand-requires invariant-loop decreases-loop
+changed-demand-requires : tie.Need-changed_demand-bits-requires invariant-loop decreases-loop
 changed-demand-requires c κs =
-    let s = start c.before in
-    (s.pre.0, ((s.pre.1.0, low c.before, s.pre.1.2, s.pre.1.3, s.pre.1.4), on c.before))
+    let s = start c.before.before in
+    (s.requires.0, ((s.requires.1.0, low c.before.before, s.requires.1.2, s.requires.1.3, s.requires.1.4), on c.before.before))
 
-mul-rate : tie.Need-overflow-mul-rate invariant-loop decreases-loop
+mul-rate : tie.Need-offset_bounds-rates-q invariant-loop decreases-loop
 mul-rate c = omega (arith, low (inside c))
 
-element-copy-out-rate : tie.Need-element-copy-out-rate invariant-loop decreases-loop
-element-copy-out-rate c = low (inside c)
+element-copy-out-rate : tie.Need-bounds-rates-q invariant-loop decreases-loop
+element-copy-out-rate c = low (inside c.before)
 
-mul-blocking : tie.Need-overflow-mul-blocking invariant-loop decreases-loop
-mul-blocking c = omega (arith, low (inside c.before))
+mul-blocking : tie.Need-offset_bounds-blockings-q invariant-loop decreases-loop
+mul-blocking c = omega (arith, low (inside c.before.before))
 
-element-copy-out-blocking : tie.Need-element-copy-out-blocking invariant-loop decreases-loop
-element-copy-out-blocking c = low (inside c.before)
+element-copy-out-blocking : tie.Need-bounds-blockings-q invariant-loop decreases-loop
+element-copy-out-blocking c = low (inside c.before.before.before)
 
-element-copy-out-extra : tie.Need-element-copy-out-extra invariant-loop decreases-loop
-element-copy-out-extra c = low (inside c.before.before)
+element-copy-out-extra : tie.Need-bounds-extras-q invariant-loop decreases-loop
+element-copy-out-extra c = low (inside c.before.before.before.before.before)
 
-port-slack-requires : tie.Need-port-slack-requires invariant-loop decreases-loop
+port-slack-requires : tie.Need-port_slack-slack-requires invariant-loop decreases-loop
 port-slack-requires c κs =
     let demands = c.before.before.before in
-    (omega (arith, (inside demands).before.before.before.window.ensures, (args demands).requires.1.1), bits_most demands)
+    (omega (arith, (inside demands.before.before.before).window-available.ensures, (args demands.before.before.before).requires.1.1), bits_most demands.before.before.before)
 
-mul-slack : tie.Need-overflow-mul-slack invariant-loop decreases-loop
-mul-slack c = omega (arith, low (inside c.before.before.before.before))
+mul-slack : tie.Need-offset_bounds-out-q invariant-loop decreases-loop
+mul-slack c = omega (arith, low (inside c.before.before.before.before.before.before.before))
 
-slice-set-from-slack : tie.Need-slice-set-from-slack invariant-loop decreases-loop
+slice-set-from-slack : tie.Need-bounds-out-q invariant-loop decreases-loop
 slice-set-from-slack c =
-    let at = inside c.before.before.before.before in
-    omega (arith, low at, at.before.loop.inv.1, (start at).pre.1.5)
+    let at = inside c.before.before.before.before.before.before.before in
+    omega (arith, low at, at.loop-i.invariant.1, (start at).requires.1.5)
 
-add-i : tie.Need-overflow-add-i invariant-loop decreases-loop
+add-i : tie.Need-overflow_add-i invariant-loop decreases-loop
 add-i c =
-    let at = inside c.before.before.before.before in
+    let at = inside c.before.before.before.before.before.before.before in
     omega (arith, within at, (flow (start at)).hops_most)
 
-loop-less : tie.Need-loop-smaller invariant-loop decreases-loop
+loop-less : tie.Need-loop-i-smaller invariant-loop decreases-loop
 loop-less c = search rules
 
-loop-again : tie.Need-loop-preserved invariant-loop decreases-loop
+loop-again : tie.Need-loop-i-preserved invariant-loop decreases-loop
 loop-again c =
     let demands = c.before.before.before.before in
-    let at = inside demands in
+    let at = inside demands.before.before.before in
     let s = start at in
     let p = plan s in
     let q = port at - 1 in
     let is =
-    changed_slack p s.args.f s.args.bytes q s.args.duration at.before.before.before.window.ensures (bits_are demands) c.port-slack.ensures in (
+    changed_slack p s.args.f s.args.bytes q s.args.duration at.window-available.ensures (bits_are demands.before.before.before) c.port_slack-slack.ensures in (
       omega (arith, within at),
-      simp length-set at.before.loop.inv.1,
+      simp length-set at.loop-i.invariant.1,
       repriced-next
           s.args.routes.now
           (base at)
-          at.before.loop.i
+          at.loop-i.i
           (λ q. slack (with_length p s.args.f s.args.bytes) q s.args.duration)
           s.args.out.now
-          at.before.loop.out
-          (to_z w64 (of_z w64 c.port-slack.result))
-          at.before.loop.inv.2
+          at.loop-i.out
+          (to_z w64 (of_z w64 c.port_slack-slack.result))
+          at.loop-i.invariant.2
           (next at).0
-          (to_z-of_z w64 c.port-slack.result (record { sfits = c.port-slack.type-inv }) ∙ is),
+          (to_z-of_z w64 c.port_slack-slack.result (record { sfits = c.port_slack-slack.type-inv }) ∙ is),
     )
 
-same_length : tie.Need-same-length invariant-loop decreases-loop
+same_length : tie.Need-shape_of-out invariant-loop decreases-loop
 same_length c = search rules
 
 returns : tie.Need-returns invariant-loop decreases-loop
 unfolding repriced
 returns c =
-    let all : c.before.loop.i ≡ hops_of (plan (begin c.before)) (begin c.before).args.f = omega arith in
-    rw all at c.before.loop.invariant.2
+    let all : c.loop-i.i ≡ hops_of (plan (begin c.before)) (begin c.before).args.f = omega arith in
+    rw all at c.loop-i.invariant.2
 
 pub reprice_route_spec : {M : Type 1} → statement M
 reprice_route_spec =

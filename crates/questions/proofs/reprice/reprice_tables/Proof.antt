@@ -44,52 +44,52 @@ module _ (s : tie.Start) where
   given = s.args.out.now
 
 -- past each test
-valid : (c : tie.Else1) → valid_plan (plan c.before.before) ≡ true
-valid c = sym c.before.valid-tables.ensures ∙ not-false _ c.if1.false
+valid : (c : tie.Else-not-valid_tables) → valid_plan (plan c.before.before) ≡ true
+valid c = sym c.valid_tables.ensures ∙ c.if-not-valid_tables.false
 
-module _ (c : tie.Else2) where
-  abbrev first : tie.Else1
+module _ (c : tie.Else-not-between) where
+  abbrev first : tie.Else-not-valid_tables
   first = c.before.before
 
   abbrev begin : tie.Start
   begin = first.before.before
 
   ranged : within 1 (plan begin).top (T begin) ≡ true
-  ranged = sym c.before.between.ensures ∙ not-false _ c.if2.false
+  ranged = sym c.between.ensures ∙ c.if-not-between.false
 
   within_top : T begin ≤ (plan begin).top
   within_top = within_high 1 (plan begin).top (T begin) ranged
 
 -- the three flags
-module _ (c : tie.After-holds-flow) where
-  abbrev second : tie.Else2
+module _ (c : tie.After-holds_flow-known) where
+  abbrev second : tie.Else-not-between
   second = c.before.before
 
   abbrev start : tie.Start
   start = begin second
 
-  fits_is : c.before.between2.result ≡ length_ok (bytes start)
-  fits_is = c.before.between2.ensures
+  fits_is : c.between-fits.result ≡ length_ok (bytes start)
+  fits_is = c.between-fits.ensures
 
-  known_is : c.holds-flow.result ≡ flow_ok (n start) && ltb 0 (period_of (plan start) (n start - 1))
-  known_is = c.holds-flow.ensures
+  known_is : c.holds_flow-known.result ≡ flow_ok (n start) && ltb 0 (period_of (plan start) (n start - 1))
+  known_is = c.holds_flow-known.ensures
 
 -- a list of at least 64 numbers, a length in range, a flow in the plan
-long : (c : tie.Else3) → port_slots ≤ length (given (start c.before))
-long c = leb-true port_slots _ (not-false _ c.if3.false)
+long : (c : tie.Else-not-long) → port_slots ≤ length (given (start c.before))
+long c = leb-true port_slots _ (c.if-not-long.false)
 
-in_range : (c : tie.Else4) → length_ok (bytes (start c.before.before)) ≡ true
-in_range c = sym (fits_is c.before.before) ∙ not-false _ c.if4.false
+in_range : (c : tie.Else-not-fits) → length_ok (bytes (start c.before.before)) ≡ true
+in_range c = sym (fits_is c.before.before) ∙ c.if-not-fits.false
 
-module _ (c : tie.Else5) where
-  abbrev flags : tie.After-holds-flow
+module _ (c : tie.Else-not-known) where
+  abbrev flags : tie.After-holds_flow-known
   flags = c.before.before.before
 
   abbrev asked : tie.Start
   asked = start flags
 
   known : flow_ok (n asked) && ltb 0 (period_of (plan asked) (n asked - 1)) ≡ true
-  known = sym (known_is flags) ∙ not-false _ c.if5.false
+  known = sym (known_is flags) ∙ c.if-not-known.false
 
   abbrev held : valid_plan (plan asked) ≡ true
   held = valid (first (second flags))
@@ -103,54 +103,54 @@ module _ (c : tie.Else5) where
   few : bytes asked ≤ max_length
   few = within_high 64 max_length (bytes asked) (in_range c.before)
 
-valid-tables-requires : tie.Need-valid-tables-requires
+valid-tables-requires : tie.Need-valid_tables-requires
 valid-tables-requires c κs = tt
 
-returns : tie.Need-returns
+returns : tie.Need-returns-then-not-valid_tables
 returns c =
     let s = c.before.before in
-    reprice_none (plan s) (T s) (n s) (bytes s) (given s) (sym c.before.valid-tables.ensures ∙ not-true _ c.if1.true)
+    reprice_none (plan s) (T s) (n s) (bytes s) (given s) (sym c.valid_tables.ensures ∙ c.if-not-valid_tables.true)
 
 between-requires : tie.Need-between-requires
 between-requires c κs = tt
 
-returns_2 : tie.Need-returns-2
+returns_2 : tie.Need-returns-then-not-between
 returns_2 c =
     let e = c.before.before in
     let s = e.before.before in
-    reprice_out (plan s) (T s) (n s) (bytes s) (given s) (valid e) (sym c.before.between.ensures ∙ not-true _ c.if2.true)
+    reprice_out (plan s) (T s) (n s) (bytes s) (given s) (valid e) (sym c.between.ensures ∙ c.if-not-between.true)
 
-between-requires-2 : tie.Need-between-requires-2
+between-requires-2 : tie.Need-between-fits-requires
 between-requires-2 c κs = tt
 
-holds-flow-requires : tie.Need-holds-flow-requires
+holds-flow-requires : tie.Need-holds_flow-known-requires
 holds-flow-requires c κs = tt
 
-returns_3 : tie.Need-returns-3
+returns_3 : tie.Need-returns-then-not-long
 returns_3 c =
     let f = c.before in
     let s = start f in
-    reprice_short (plan s) (T s) (n s) (bytes s) (given s) (valid (first (second f))) (ranged (second f)) (leb-false port_slots _ (not-true _ c.if3.true))
+    reprice_short (plan s) (T s) (n s) (bytes s) (given s) (valid (first (second f))) (ranged (second f)) (leb-false port_slots _ (c.if-not-long.true))
 
-returns-4 : tie.Need-returns-4
+returns-4 : tie.Need-returns-then-not-fits
 returns-4 c =
     let f = c.before.before in
     let s = start f in
-    reprice_length (plan s) (T s) (n s) (bytes s) (given s) (valid (first (second f))) (ranged (second f)) (long c.before) (sym (fits_is f) ∙ not-true _ c.if4.true)
+    reprice_length (plan s) (T s) (n s) (bytes s) (given s) (valid (first (second f))) (ranged (second f)) (long c.before) (sym (fits_is f) ∙ c.if-not-fits.true)
 
-returns-5 : tie.Need-returns-5
+returns-5 : tie.Need-returns-then-not-known
 returns-5 c =
     let f = c.before.before.before in
     let s = start f in
-    reprice_unknown (plan s) (T s) (n s) (bytes s) (given s) (valid (first (second f))) (ranged (second f)) (long c.before.before) (in_range c.before) (sym (known_is f) ∙ not-true _ c.if5.true)
+    reprice_unknown (plan s) (T s) (n s) (bytes s) (given s) (valid (first (second f))) (ranged (second f)) (long c.before.before) (in_range c.before) (sym (known_is f) ∙ c.if-not-known.true)
 
-sub-f : tie.Need-overflow-sub-f
+sub-f : tie.Need-overflow_sub-f
 sub-f c = within_low 1 flow_slots _ (number c)
 
-cast-reprice-route : tie.Need-overflow-cast-reprice-route
+cast-reprice-route : tie.Need-overflow_cast-bytes
 cast-reprice-route c = omega (arith, few c)
 
-reprice-route-requires : tie.Need-reprice-route-requires
+reprice-route-requires : tie.Need-reprice_route-requires
 reprice-route-requires c κs =
     let e = c.before in
     let s = asked e in
@@ -167,16 +167,16 @@ reprice-route-requires c κs =
       ),
     )
 
-same_length : tie.Need-same-length
+same_length : tie.Need-shape_of-out
 same_length c = search rules
 
-returns-6 : tie.Need-returns-6
+returns-6 : tie.Need-returns
 returns-6 c =
     let e = c.before.before.before in
     let s = asked e in
     let p = plan s in
     reprice_done p (T s) (n s) (bytes s) (given s) (held e) (ranged (second (flags e))) (long e.before.before) (in_range e.before) (known e)
-    (c.before.reprice-route.ensures ∙ repriced_top p (T s) (n s - 1) (bytes s) (given s))
+    (c.reprice_route.ensures ∙ repriced_top p (T s) (n s - 1) (bytes s) (given s))
 
 pub reprice_tables_spec : {M : Type 1} → statement M
 reprice_tables_spec =

@@ -18,43 +18,43 @@ plan s =
     plan_by a.guard a.top (clock_of a.clock) a.rates.now a.blockings.now a.extras.now a.periods.now a.counts.now a.lengths.now a.jitters.now a.hops.now a.routes.now
 
 -- where the function starts, from past the search
-abbrev start : tie.After-seek → tie.Start
+abbrev start : tie.After-seek-found → tie.Start
 start c = c.before.before.before
 
 -- the duration found is above top
-abbrev none : tie.Else1 → tie.After-seek
+abbrev none : tie.Else-found-limit → tie.After-seek-found
 none c = c.before.before.before
 
-seek-requires : tie.Need-seek-requires
-seek-requires c κs = c.before.before.requires
+seek-requires : tie.Need-seek-found-requires
+seek-requires c κs = c.requires
 
-returns : tie.Need-returns
+returns : tie.Need-returns-then-found-limit
 returns c =
     let sought = c.before.before.before in
     let s = start sought in
-    answers_within (none_number s.args.goal) (wanted s.args.goal) (plan s) sought.seek.ensures (omega (arith, c.if1.true))
+    answers_within (none_number s.args.goal) (wanted s.args.goal) (plan s) sought.seek-found.ensures (omega (arith, c.if-found-limit.true))
 
-failing-at-requires : tie.Need-failing-at-requires
+failing-at-requires : tie.Need-failing_at-ports-requires
 failing-at-requires c κs =
     let sought = none c.before in
     let s = start sought in
-    (s.pre.0, sought.seek.kept.1.1.1.1.1.1.1.1.1.1.1.1.1.0 ∙ s.pre.1)
+    (s.requires.0, sought.seek-found.kept.1.1.1.1.1.1.1.1.1.1.1.1.1.0 ∙ s.requires.1)
 
-returns_2 : tie.Need-returns-2
+returns_2 : tie.Need-returns
 returns_2 c =
     let failed = c.before.before in
     let sought = none failed.before.before in
     let s = start sought in
-    let above : (plan s).top < sought.seek.result = omega (arith, failed.before.before.if1.false) in
-    answers_above (none_number s.args.goal) (wanted s.args.goal) (plan s) sought.seek.ensures above failed.failing-at.ensures
+    let above : (plan s).top < sought.seek-found.result = omega (arith, failed.if-found-limit.false) in
+    answers_above (none_number s.args.goal) (wanted s.args.goal) (plan s) sought.seek-found.ensures above failed.failing_at-ports.ensures
 
 pub answer_spec : {M : Type 1} → statement M
 answer_spec =
     tie.close
     (tie.spec
     seek-requires
-    (λ c. search rules)
+    (search rules)
     returns
     failing-at-requires
-    (λ c. search rules)
+    (search rules)
     returns_2)

@@ -26,42 +26,42 @@ abbrev given : tie.Start → List ℕ
 given s = s.args.scratch.now
 
 -- where the function starts, from past the test of the tables
-abbrev start : tie.After-valid-tables → tie.Start
+abbrev start : tie.After-valid_tables → tie.Start
 start c = c.before.before
 
-valid : (c : tie.Else1) → valid_plan (plan (start c.before)) ≡ true
-valid c = sym c.before.valid-tables.ensures ∙ not-false _ c.if1.false
+valid : (c : tie.Else-not-valid_tables) → valid_plan (plan (start c.before)) ≡ true
+valid c = sym c.valid_tables.ensures ∙ c.if-not-valid_tables.false
 
 -- past the test of the scratch
-module _ (c : tie.Else2) where
+module _ (c : tie.Else-size-lt-PORTS) where
   abbrev begin : tie.Start
   begin = start c.before.before
 
   long : port_slots ≤ length (given begin)
-  long = omega (arith, c.if2.false)
+  long = omega (arith, c.if-size-lt-PORTS.false)
 
-returns : tie.Need-returns
+returns : tie.Need-returns-then-not-valid_tables
 returns c =
     let s = start c.before in
     ends_no_plan (none_number s.args.goal) (wanted s.args.goal) (plan s) (given s)
-    (sym c.before.valid-tables.ensures ∙ not-true _ c.if1.true)
+    (sym c.valid_tables.ensures ∙ c.if-not-valid_tables.true)
 
-returns_2 : tie.Need-returns-2
+returns_2 : tie.Need-returns-then-size-lt-PORTS
 returns_2 c =
     let s = start c.before.before in
-    ends_short (none_number s.args.goal) (wanted s.args.goal) (plan s) (given s) (valid c.before) (omega (arith, c.if2.true))
+    ends_short (none_number s.args.goal) (wanted s.args.goal) (plan s) (given s) (valid c.before) (omega (arith, c.if-size-lt-PORTS.true))
 
-slice-relend-prefix-answer : tie.Need-slice-relend-prefix-answer
-slice-relend-prefix-answer c = omega (arith, c.if2.false)
+slice-relend-prefix-answer : tie.Need-slice_bounds-answer-end
+slice-relend-prefix-answer c = omega (arith, c.if-size-lt-PORTS.false)
 
-slice-aggregate-answer : tie.Need-slice-aggregate-answer
+slice-aggregate-answer : tie.Need-slice_bounds-answer-end-2
 slice-aggregate-answer c = simp length-take (omega (arith, slice-relend-prefix-answer c.before))
 
 -- the search is lent 64 numbers
 answer-requires : tie.Need-answer-requires
 answer-requires c κs = (valid c.before.before, omega (arith, slice-aggregate-answer c))
 
-returns_3 : tie.Need-returns-3
+returns_3 : tie.Need-returns
 returns_3 c =
     let answered = c.before.before in
     let e = answered.before.before in
@@ -78,5 +78,5 @@ search_tables_spec =
     slice-relend-prefix-answer
     slice-aggregate-answer
     answer-requires
-    (λ c. search rules)
+    (search rules)
     returns_3)

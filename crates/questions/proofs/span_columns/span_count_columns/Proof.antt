@@ -13,58 +13,58 @@ use Rattle.questions.proofs.span_columns.span_count_columns.Statement.{statement
 use Rattle.questions.proofs.span_columns.span_count_columns.Tie as tie
 
 -- where the top by the form is known, from past the test of the tables
-abbrev topped : tie.After-valid-tables → tie.After-held-top
+abbrev topped : tie.After-valid_tables → tie.After-held_top-held
 topped c = c.before.before
 
-abbrev p : tie.After-valid-tables → Plan
+abbrev p : tie.After-valid_tables → Plan
 p c =
-    let a = (topped c).before.before.before.before.before.before.args in
-    plan_by a.guard.now (held_top a.form.now a.hops.now a.top.now) (record { drift = a.drift.now; timing_jitter_of = a.timing-jitter.now; sync_error_of = a.sync-error.now }) a.rates.now
+    let a = (topped c).args in
+    plan_by a.guard.now (held_top a.form.now a.hops.now a.top.now) (record { drift = a.drift.now; timing_jitter_of = a.timing_jitter.now; sync_error_of = a.sync_error.now }) a.rates.now
     a.blockings.now a.extras.now a.periods.now a.counts.now a.lengths.now a.jitters.now a.hops.now a.routes.now
 
 -- the test is of the plan that is held
-tests : (c : tie.After-valid-tables) → c.valid-tables.result ≡ valid_plan (p c)
-tests c = rw (topped c).held_top_lem.ensures at c.valid-tables.ensures
+tests : (c : tie.After-valid_tables) → c.valid_tables.result ≡ valid_plan (p c)
+tests c = rw (topped c).held_top-held.ensures at c.valid_tables.ensures
 
-valid : (c : tie.Else1) → valid_plan (p c.before) ≡ true
-valid c = sym (tests c.before) ∙ not-false _ c.if1.false
+valid : (c : tie.Else-not-valid_tables) → valid_plan (p c.before) ≡ true
+valid c = sym (tests c.before) ∙ c.if-not-valid_tables.false
 
-held-top-requires : tie.Need-held-top-requires
+held-top-requires : tie.Need-held_top-held-requires
 held-top-requires c κs = tt
 
-valid-tables-requires : tie.Need-valid-tables-requires
+valid-tables-requires : tie.Need-valid_tables-requires
 valid-tables-requires c κs = tt
 
-returns : tie.Need-returns
+returns : tie.Need-returns-then-not-valid_tables
 returns c =
-    let e : valid_plan (p c.before) ≡ false = sym (tests c.before) ∙ not-true _ c.if1.true in
+    let e : valid_plan (p c.before) ≡ false = sym (tests c.before) ∙ c.if-not-valid_tables.true in
     record { held = sym e; count = λ v. absurd (false≢true (sym e ∙ v)); listed = sym (listed-none (p c.before) _ e) }
 
-count-spans-requires : tie.Need-count-spans-requires
-count-spans-requires c κs = let first = c in rw (topped first.before).held_top_lem.ensures (valid first)
+count-spans-requires : tie.Need-count_spans-count-requires
+count-spans-requires c κs = let first = c in rw (topped first.before).held_top-held.ensures (valid first)
 
 -- the spans that are counted are those of the plan that is held
-counts : (c : tie.After-count-spans) → c.count-spans.result ≡ length (spans (p c.before.before))
-counts c = rw (topped c.before.before).held_top_lem.ensures at c.count-spans.ensures
+counts : (c : tie.After-count_spans-count) → c.count_spans-count.result ≡ length (spans (p c.before.before))
+counts c = rw (topped c.before.before).held_top-held.ensures at c.count_spans-count.ensures
 
-returns_2 : tie.Need-returns-2
+returns_2 : tie.Need-returns-then-count-size
 returns_2 c =
     let at = c.before in
     let first = at.before in
     record {
       held = sym (valid first);
       count = λ _. counts at;
-      listed = counts at ∙ sym (listed_all (p first.before) _ (valid first) (omega (arith, counts at, c.if2.true)));
+      listed = counts at ∙ sym (listed_all (p first.before) _ (valid first) (omega (arith, counts at, c.if-count-size.true)));
     }
 
-returns_3 : tie.Need-returns-3
+returns_3 : tie.Need-returns-else-count-size
 returns_3 c =
     let at = c.before in
     let first = at.before in
     record {
       held = sym (valid first);
       count = λ _. counts at;
-      listed = sym (listed_short (p first.before) _ (omega (arith, counts at, c.if2.false)));
+      listed = sym (listed_short (p first.before) _ (omega (arith, counts at, c.if-count-size.false)));
     }
 
 pub span_count_columns_spec : {M : Type 1} → statement M

@@ -16,12 +16,12 @@ use Rattle.questions.specs.declared.one_span.SpanRecord.{SpanRecord as Record}
 use Rattle.questions.proofs.span_count.count_spans.Statement.{statement}
 use Rattle.questions.proofs.span_count.count_spans.Tie as tie
 
-abbrev invariant-loop : tie.invariant-loop
+abbrev invariant-loop : tie.invariant-loop-clock
 invariant-loop guard top clock rates blockings extras periods counts lengths jitters hops routes span₀ count₀ span count =
     let p = plan_by guard top (clock_of clock) rates blockings extras periods counts lengths jitters hops routes in
     (span ≡ nth p count) × (count ≤ length (spans p))
 
-abbrev decreases-loop : tie.decreases-loop
+abbrev decreases-loop : tie.decreases-loop-clock
 decreases-loop guard top clock rates blockings extras periods counts lengths jitters hops routes span₀ count₀ span count =
     length (spans (plan_by guard top (clock_of clock) rates blockings extras periods counts lengths jitters hops routes)) - count
 
@@ -32,7 +32,7 @@ plan s =
     plan_by a.guard a.top (clock_of a.clock) a.rates.now a.blockings.now a.extras.now a.periods.now a.counts.now a.lengths.now a.jitters.now a.hops.now a.routes.now
 
 -- the span that follows, in a turn of the loop
-module _ (c : tie.After-span-after invariant-loop decreases-loop) where
+module _ (c : tie.After-span_after-next invariant-loop decreases-loop) where
   abbrev begin : tie.Start invariant-loop decreases-loop
   begin = c.before.before.before
 
@@ -40,36 +40,36 @@ module _ (c : tie.After-span-after invariant-loop decreases-loop) where
   p = plan begin
 
   abbrev count : ℕ
-  count = c.before.loop.count
+  count = c.loop-clock.count
 
-  next : c.span-after.result ≡ nth p (suc count)
+  next : c.span_after-next.result ≡ nth p (suc count)
   unfolding nth
-  next = c.span-after.ensures ∙ ap (after p) c.before.loop.invariant.0
+  next = c.span_after-next.ensures ∙ ap (after p) c.loop-clock.invariant.0
 
-more : (c : tie.Else1 invariant-loop decreases-loop) → suc (count c.before.before) ≤ length (spans (p c.before.before))
+more : (c : tie.Else-next-eq0 invariant-loop decreases-loop) → suc (count c.before.before) ≤ length (spans (p c.before.before))
 more c =
     let at = c.before.before in
-    count_goes_on (p at) (count at) at.before.loop.invariant.1 (λ z. c.if1.false (ap (λ (r : Record). r.last) (next at) ∙ z))
+    count_goes_on (p at) (count at) at.loop-clock.invariant.1 (λ z. c.if-next-eq0.false (ap (λ (r : Record). r.last) (next at) ∙ z))
 
-no-span-requires : tie.Need-no-span-requires invariant-loop decreases-loop
+no-span-requires : tie.Need-no_span-span-requires invariant-loop decreases-loop
 no-span-requires c κs = tt
 
-loop-holds : tie.Need-loop-init invariant-loop decreases-loop
+loop-holds : tie.Need-loop-clock-init invariant-loop decreases-loop
 unfolding nth
-loop-holds c = (ap record_of c.no_span.ensures, omega arith)
+loop-holds c = (ap record_of c.no_span-span.ensures, omega arith)
 
-span-after-requires : tie.Need-span-after-requires invariant-loop decreases-loop
-span-after-requires c κs = c.before.before.requires
+span-after-requires : tie.Need-span_after-next-requires invariant-loop decreases-loop
+span-after-requires c κs = c.requires
 
-add-count : tie.Need-overflow-add-count invariant-loop decreases-loop
+add-count : tie.Need-overflow_add-count invariant-loop decreases-loop
 add-count c =
     let at = c.before.before in
     omega (arith, more c, spans_most (p at), top_most (p at) (begin at).requires)
 
-loop-less : tie.Need-loop-smaller invariant-loop decreases-loop
+loop-less : tie.Need-loop-clock-smaller invariant-loop decreases-loop
 loop-less c = omega (arith, more c)
 
-loop-again : tie.Need-loop-preserved invariant-loop decreases-loop
+loop-again : tie.Need-loop-clock-preserved invariant-loop decreases-loop
 loop-again c =
     let at = c.before.before in
     (next at ∙ ap (nth (p at)) (sym (add-one (count at))), omega (arith, more c))
@@ -77,7 +77,7 @@ loop-again c =
 returns : tie.Need-returns invariant-loop decreases-loop
 returns c =
     let at = c.before.before in
-    count_ends (p at) (count at) at.before.loop.invariant.1 (ap (λ (r : Record). r.last) (sym (next at)) ∙ c.if1.true)
+    count_ends (p at) (count at) at.loop-clock.invariant.1 (ap (λ (r : Record). r.last) (sym (next at)) ∙ c.if-next-eq0.true)
 
 pub count_spans_spec : {M : Type 1} → statement M
 count_spans_spec =

@@ -17,17 +17,22 @@ plan s =
     let a = s.args in
     plan_by a.guard a.top (clock_of a.clock) a.rates.now a.blockings.now a.extras.now a.periods.now a.counts.now a.lengths.now a.jitters.now a.hops.now a.routes.now
 
-returns : tie.Need-returns
+returns : tie.Need-returns-then-top-last
 returns c =
     let s = c.before.before in
-    ap record_of (c.no_span.ensures ∙ sym (next_above (plan s) (s.args.span.last + 1) (omega arith) (omega (arith, c.before.if1.true))))
+    ap record_of (c.no_span.ensures ∙ sym (next_above (plan s) (s.args.span.last + 1) (omega arith) (omega (arith, c.if-top-last.true))))
 
-span-from-requires : tie.Need-span-from-requires
-span-from-requires c κs = (c.before.requires, omega arith)
+span-from-requires : tie.Need-span_from-requires
+span-from-requires c κs = (c.requires, omega arith)
 
-returns_2 : tie.Need-returns-2
-returns_2 c = ap record_of c.span_from_lem.ensures
+returns_2 : tie.Need-returns
+returns_2 c = ap record_of c.span_from.ensures
 
 pub span_after_spec : {M : Type 1} → statement M
 span_after_spec =
-    tie.close (tie.spec (λ c κs. search rules) returns (λ c. search rules) span-from-requires returns_2)
+    tie.close (tie.spec
+    (search rules)
+    returns
+    (search rules)
+    span-from-requires
+    returns_2)

@@ -20,18 +20,23 @@ plan s = columns (clock_of s.args.clock) [] [] [] [] [] [] [] [] []
 abbrev field : tie.Start → Entry
 field s = field_in Kind.Clock (plan s) 0
 
-returns : tie.Need-returns
+returns : tie.Need-returns-then-clocks_equal
 returns c =
     let s = c.before.before.before in
-    test_none (field s) s.args.out.now (not (clocks_equal (plan s))) (ap not (sym c.before.clocks_equal_lem.ensures ∙ c.if1.true))
+    test_none (field s) s.args.out.now (not (clocks_equal (plan s))) (ap not (sym c.clocks_equal.ensures ∙ c.if-clocks_equal.true))
 
-returns_2 : tie.Need-returns-2
+returns_2 : tie.Need-returns
 returns_2 c =
     let written = c.before.before in
     let left = written.before.before in
     let s = left.before.before.before in
-    test_one (field s) s.args.out.now (not (clocks_equal (plan s))) (ap not (sym left.before.clocks_equal_lem.ensures ∙ left.if1.false)) written.put-clock.ensures
+    test_one (field s) s.args.out.now (not (clocks_equal (plan s))) (ap not (sym left.clocks_equal.ensures ∙ left.if-clocks_equal.false)) written.put_clock.ensures
 
 pub put_clocks_spec : {M : Type 1} → statement M
 put_clocks_spec =
-    tie.close (tie.spec (λ c κs. search rules) returns (λ c κs. search rules) (λ c. search rules) returns_2)
+    tie.close (tie.spec
+    (search rules)
+    returns
+    (search rules)
+    (search rules)
+    returns_2)

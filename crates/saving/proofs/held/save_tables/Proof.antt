@@ -31,60 +31,60 @@ abbrev given : tie.Start → List ℕ
 given s = s.args.buffer.now
 
 -- past the test of the tables
-abbrev start : tie.After-valid-tables → tie.Start
+abbrev start : tie.After-valid_tables → tie.Start
 start c = c.before.before
 
-valid : (c : tie.Else1) → valid_plan (plan (start c.before)) ≡ true
-valid c = sym c.before.valid-tables.ensures ∙ not-false _ c.if1.false
+valid : (c : tie.Else-not-valid_tables) → valid_plan (plan (start c.before)) ≡ true
+valid c = sym c.valid_tables.ensures ∙ c.if-not-valid_tables.false
 
 -- the length needed
-abbrev begin : tie.After-saved-size → tie.Start
+abbrev begin : tie.After-saved_size-needed → tie.Start
 begin c = start c.before.before
 
-needed : (c : tie.After-saved-size) → c.saved-size.result ≡ length (form_bytes (form (begin c)) (plan (begin c)))
-needed c = c.saved-size.ensures ∙ size_needed (form (begin c)) (plan (begin c))
+needed : (c : tie.After-saved_size-needed) → c.saved_size-needed.result ≡ length (form_bytes (form (begin c)) (plan (begin c)))
+needed c = c.saved_size-needed.ensures ∙ size_needed (form (begin c)) (plan (begin c))
 
-room : (c : tie.Else2) → c.before.before.saved-size.result ≤ length (given (begin c.before.before))
-room c = leb-true _ _ (sym c.before.has_room.ensures ∙ not-false _ c.if2.false)
+room : (c : tie.Else-not-has_room) → c.saved_size-needed.result ≤ length (given (begin c.before.before))
+room c = leb-true _ _ (sym c.has_room.ensures ∙ c.if-not-has_room.false)
 
-returns : tie.Need-returns
+returns : tie.Need-returns-then-not-valid_tables
 returns c =
     let s = start c.before in
-    saves_none (form s) (plan s) (given s) (sym c.before.valid-tables.ensures ∙ not-true _ c.if1.true)
+    saves_none (form s) (plan s) (given s) (sym c.valid_tables.ensures ∙ c.if-not-valid_tables.true)
 
-saved-size-requires : tie.Need-saved-size-requires
+saved-size-requires : tie.Need-saved_size-needed-requires
 saved-size-requires c κs = valid_range (plan (start c.before)) (valid c)
 
-returns_2 : tie.Need-returns-2
+returns_2 : tie.Need-returns-then-not-has_room
 returns_2 c =
     let at = c.before.before in
     let s = begin at in
-    let short = leb-false _ _ (sym c.before.has_room.ensures ∙ not-true _ c.if2.true) in
-    saves_short (form s) (plan s) (given s) (valid at.before) at.saved-size.result (needed at) short
+    let short = leb-false _ _ (sym c.has_room.ensures ∙ c.if-not-has_room.true) in
+    saves_short (form s) (plan s) (given s) (valid at.before) at.saved_size-needed.result (needed at) short
 
-put-fields-requires : tie.Need-put-fields-requires
+put-fields-requires : tie.Need-put_fields-requires
 put-fields-requires c κs =
     let at = c.before.before.before in
     let s = begin at in
     (valid_range (plan s) (valid at.before), omega (arith, needed at, room c.before))
 
-returns_3 : tie.Need-returns-3
+returns_3 : tie.Need-returns
 returns_3 c =
     let put = c.before.before in
     let left = put.before.before in
     let at = left.before.before in
     let s = begin at in
-    saves_written (form s) (plan s) (given s) (valid at.before) at.saved-size.result (needed at) (room left) put.put-fields.ensures
+    saves_written (form s) (plan s) (given s) (valid at.before) at.saved_size-needed.result (needed at) (room left) put.put_fields.ensures
 
 pub save_tables_spec : {M : Type 1} → statement M
 save_tables_spec =
     tie.close
     (tie.spec
-    (λ c κs. search rules)
+    (search rules)
     returns
     saved-size-requires
     (λ c κs. tt)
     returns_2
     put-fields-requires
-    (λ c. search rules)
+    (search rules)
     returns_3)

@@ -15,11 +15,11 @@ use Rattle.saving.specs.laws.Sizes.{most_size, slots_few, slot_most, sum_next}
 use Rattle.saving.proofs.size.slots_size.Statement.{statement}
 use Rattle.saving.proofs.size.slots_size.Tie as tie
 
-abbrev invariant-loop : tie.invariant-loop
+abbrev invariant-loop : tie.invariant-loop-slot
 invariant-loop kind clock rates extras periods jitters hops count size₀ slot₀ size slot =
     (slot ≤ count) × (size ≡ sum_to slot (slot_size kind (columns (clock_of clock) rates [] extras periods [] [] jitters hops [])))
 
-abbrev decreases-loop : tie.decreases-loop
+abbrev decreases-loop : tie.decreases-loop-slot
 decreases-loop kind clock rates extras periods jitters hops count size₀ slot₀ size slot = count - slot
 
 -- the plan of the columns
@@ -28,42 +28,42 @@ plan s =
     columns (clock_of s.args.clock) s.args.rates.now [] s.args.extras.now s.args.periods.now [] [] s.args.jitters.now s.args.hops.now []
 
 -- the slot at hand is one of the kind's
-below : (c : tie.In-loop invariant-loop decreases-loop) → c.before.loop.slot < slots_of c.before.before.before.args.kind
-below c = omega (arith, c.before.before.slots.ensures)
+below : (c : tie.In-loop-slot invariant-loop decreases-loop) → c.loop-slot.slot < slots_of c.args.kind
+below c = omega (arith, c.slots-count.ensures)
 
 -- the sum so far is small
-small : (c : tie.In-loop invariant-loop decreases-loop) → c.before.loop.size ≤ flow_slots * most_size
+small : (c : tie.In-loop-slot invariant-loop decreases-loop) → c.loop-slot.size ≤ flow_slots * most_size
 small c =
     let s = c.before.before.before in
     let k = s.args.kind in
-    let i = c.before.loop.slot in
-    omega (arith, c.before.loop.invariant.1, below c, slots_few k, sum_to_most i (slot_size k (plan s)) most_size (λ j l. slot_most k (plan s) j s.requires (omega (arith, below c))))
+    let i = c.loop-slot.slot in
+    omega (arith, c.loop-slot.invariant.1, below c, slots_few k, sum_to_most i (slot_size k (plan s)) most_size (λ j l. slot_most k (plan s) j s.requires (omega (arith, below c))))
 
-loop-holds : tie.Need-loop-init invariant-loop decreases-loop
+loop-holds : tie.Need-loop-slot-init invariant-loop decreases-loop
 unfolding sum_to
 loop-holds c = (omega arith, refl)
 
-slot-size-requires : tie.Need-slot-size-requires invariant-loop decreases-loop
-slot-size-requires c κs = (below c, c.before.before.before.requires)
+slot-size-requires : tie.Need-slot_size-size-requires invariant-loop decreases-loop
+slot-size-requires c κs = (below c, c.requires)
 
-add-size : tie.Need-overflow-add-size invariant-loop decreases-loop
+add-size : tie.Need-overflow_add-size invariant-loop decreases-loop
 add-size c =
     let at = c.before in
     let s = at.before.before.before in
-    omega (arith, small at, c.slot-size.ensures, slot_most s.args.kind (plan s) at.before.loop.slot s.requires (below at))
+    omega (arith, small at, c.slot_size-size.ensures, slot_most s.args.kind (plan s) at.loop-slot.slot s.requires (below at))
 
-loop-again : tie.Need-loop-preserved invariant-loop decreases-loop
+loop-again : tie.Need-loop-slot-preserved invariant-loop decreases-loop
 loop-again c =
     let at = c.before in
     let s = at.before.before.before in
-    let i = at.before.loop.slot in
-    (omega arith, omega (arith, at.before.loop.invariant.1, c.slot-size.ensures, sum_next i (slot_size s.args.kind (plan s))))
+    let i = at.loop-slot.slot in
+    (omega arith, omega (arith, at.loop-slot.invariant.1, c.slot_size-size.ensures, sum_next i (slot_size s.args.kind (plan s))))
 
 returns : tie.Need-returns invariant-loop decreases-loop
 returns c =
     let s = c.before.before.before in
-    let all : c.before.loop.slot ≡ slots_of s.args.kind = omega (arith, c.before.before.slots.ensures) in
-    c.before.loop.invariant.1 ∙ ap (λ (n : ℕ). sum_to n (slot_size s.args.kind (plan s))) all
+    let all : c.loop-slot.slot ≡ slots_of s.args.kind = omega (arith, c.slots-count.ensures) in
+    c.loop-slot.invariant.1 ∙ ap (λ (n : ℕ). sum_to n (slot_size s.args.kind (plan s))) all
 
 pub slots_size_spec : {M : Type 1} → statement M
 slots_size_spec =
@@ -75,7 +75,7 @@ slots_size_spec =
     loop-holds
     slot-size-requires
     add-size
-    (λ c. search rules)
-    (λ c. search rules)
+    (search rules)
+    (search rules)
     loop-again
     returns)

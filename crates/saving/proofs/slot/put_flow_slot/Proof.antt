@@ -24,23 +24,23 @@ plan s =
 abbrev field : tie.Start → Entry
 field s = field_in Kind.Flow (plan s) s.args.slot
 
-returns : tie.Need-returns
+returns : tie.Need-returns-then-period-eq0
 returns c =
     let s = c.before.before.before in
-    slot_none (field s) s.args.out.now (period_of (plan s) s.args.slot) (omega arith)
+    slot_none (field s.before) s.args.out.now (period_of (plan s.before) s.args.slot) (omega arith)
 
-returns_2 : tie.Need-returns-2
+returns_2 : tie.Need-returns
 returns_2 c =
     let written = c.before.before in
     let ended = written.before.before.before.before.before in
     let left = ended.before.before.before in
     let s = left.before.before.before in
-    let p = plan s in
+    let p = plan s.before.before.before.before in
     let f = s.args.slot in
     let e = s.args.out.now in
-    let end = ended.route-end in
-    slot_one (field s) e (period_of p f) left.if1.false
-    (written.put-flow.ensures
+    let end = ended.route_end-end in
+    slot_one (field s.before.before.before.before) e (period_of p f) left.if-period-eq0.false
+    (written.put_flow.ensures
     ∙ ap (λ (bs : List ℕ). laid bs e)
     (flow_part wire.Kind.flow f (period_of p f ∷ count_of p f ∷ length_of p f ∷ []) p.routes (f * route_stride) (hops_of p f) end.result end.ensures (omega (arith, end.ensures)) s.requires.1))
 
@@ -48,21 +48,21 @@ pub put_flow_slot_spec : {M : Type 1} → statement M
 put_flow_slot_spec =
     tie.close
     (tie.spec
-    (λ c. search rules)
-    (λ c. search rules)
+    (search rules)
+    (search rules)
     returns
-    (λ c. search rules)
-    (λ c. search rules)
-    (λ c κs. search rules)
-    (λ c. search rules)
-    (λ c. search rules)
-    (λ c. search rules)
-    (λ c. search rules)
-    (λ c. search rules)
-    (λ c. search rules)
-    (λ c. search rules)
-    (λ c. search rules)
-    (λ c. search rules)
-    (λ c κs. search rules)
-    (λ c. search rules)
+    (search rules)
+    (search rules)
+    (search rules)
+    (search rules)
+    (search rules)
+    (search rules)
+    (search rules)
+    (search rules)
+    (search rules)
+    (search rules)
+    (search rules)
+    (search rules)
+    (search rules)
+    (search rules)
     returns_2)

@@ -24,30 +24,30 @@ plan s = columns equal_clocks [] [] [] [] [] [] s.args.jitters.now [] []
 abbrev field : tie.Start → Entry
 field s = field_in Kind.Jitter (plan s) s.args.slot
 
-returns : tie.Need-returns
+returns : tie.Need-returns-then-ns-eq0
 returns c =
     let s = c.before.before.before in
-    slot_none (field s) s.args.out.now (jitter_of (plan s) s.args.slot) (omega arith)
+    slot_none (field s.before) s.args.out.now (jitter_of (plan s.before) s.args.slot) (omega arith)
 
-returns_2 : tie.Need-returns-2
+returns_2 : tie.Need-returns
 returns_2 c =
     let written = c.before.before in
     let s = written.before.before.before.before.before in
-    let p = plan s in
+    let p = plan s.before in
     let q = s.args.slot in
     let e = s.args.out.now in
-    slot_one (field s) e (jitter_of p q) written.before.before.if1.false
-    (written.put-jitter.ensures ∙ ap (λ (n : ℕ). laid (field_bytes (jitter n (jitter_of p q))) e) (add-one q))
+    slot_one (field s.before) e (jitter_of p q) written.if-ns-eq0.false
+    (written.put_jitter.ensures ∙ ap (λ (n : ℕ). laid (field_bytes (jitter n (jitter_of p q))) e) (add-one q))
 
 pub put_jitter_slot_spec : {M : Type 1} → statement M
 put_jitter_slot_spec =
     tie.close
     (tie.spec
-    (λ c. search rules)
-    (λ c. search rules)
+    (search rules)
+    (search rules)
     returns
-    (λ c. search rules)
-    (λ c. search rules)
-    (λ c κs. search rules)
-    (λ c. search rules)
+    (search rules)
+    (search rules)
+    (search rules)
+    (search rules)
     returns_2)

@@ -1,0 +1,14 @@
+-- `store_port` meets its contract.
+use borrow.Author.Rules.{rules}
+use Rattle.cqf.specs.Limits.{port_slots}
+use Rattle.plan_reading.specs.laws.fields.Within.{within_low, slot_below}
+use Rattle.loading.proofs.slots.store_port.Goals as goal
+
+pub overflow_sub-slot : goal.overflow_sub-slot
+overflow_sub-slot c = within_low 1 port_slots _ c.requires.number
+
+pub bounds-rates-slot : goal.bounds-rates-slot
+bounds-rates-slot c = slot_below port_slots _ c.requires.number
+
+pub bounds-blockings-slot : goal.bounds-blockings-slot
+bounds-blockings-slot c = slot_below port_slots _ c.requires.number

@@ -1,0 +1,25 @@
+-- `match_items` meets its contract. The loop's invariant: the first i numbers are read and stored.
+use Prim.Native.Nat.{ℕ, ◌+◌, ◌-◌, ◌≤◌, ◌<◌}
+use mathlib.Core.Path.{◌≡◌, refl, sym, ap, ◌∙◌}
+use native.Mathlib.Omega.{arith}
+use borrow.Author.Rules.{rules}
+use borrow.Author.Tests.{not-true, not-false}
+use lib.ListN.{length, drop, set, length-set}
+use Rattle.words.specs.Words.{words}
+use Rattle.plan_text.specs.Kinds.{items}
+use Rattle.plan_text.specs.Line.{match}
+use Rattle.cqf.specs.Limits.{max_hops}
+use Rattle.plan_text.specs.laws.Line.{items_most}
+use Rattle.plan_text.specs.laws.Matching.{SoFar, so_far_none, so_far_wrong, so_far_more, so_far_all}
+use Rattle.plan_text.proofs.line.match_items.Given as goal
+
+abbrev pub invariant-loop-i : goal.invariant-loop-i
+invariant-loop-i l =
+    (l.i ≤ l.count)
+    × (l.count ≡ length (items l.kind))
+    × (length l.numbers ≡ length l.initial.numbers)
+    × (max_hops ≤ length l.numbers)
+    × SoFar l.kind l.line (match (items l.kind) (words (drop l.at l.line))) l.numbers l.next l.i
+
+abbrev pub decreases-loop-i : goal.decreases-loop-i
+decreases-loop-i l = l.count - l.i

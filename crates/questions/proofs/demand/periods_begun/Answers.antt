@@ -1,0 +1,11 @@
+-- `questions::demand::periods_begun` meets its contract.
+use mathlib.Core.Path.{ap}
+use Prim.Native.Nat.{ℕ, ◌+◌, ◌/◌}
+use native.Mathlib.Numerals.{sub-one}
+use borrow.Author.Rules.{rules}
+use Rattle.cqf.specs.Ceil.{ceil_div}
+use Rattle.questions.proofs.demand.periods_begun.Goals as goal
+
+pub returns : goal.returns
+unfolding ceil_div
+returns c = ap (λ (n : ℕ). (c.args.widened + c.args.jitter + n) / c.args.period) (sub-one c.args.period)

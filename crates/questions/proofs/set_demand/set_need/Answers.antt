@@ -1,0 +1,12 @@
+-- `questions::set_demand::set_need` meets its contract.
+use mathlib.Core.Path.{ap, ◌∙◌}
+use native.Mathlib.Nat.{le_trans, le_of_eq}
+use borrow.Author.Rules.{rules}
+use Rattle.cqf.specs.Need.{need_by}
+use Rattle.questions.specs.laws.FlowSets.{countable_set}
+use Rattle.questions.proofs.set_demand.set_need.Goals as goal
+
+pub returns : goal.returns
+returns c =
+    let a = c.args in
+    c.need.ensures ∙ ap (need_by a.guard a.rate a.blocking a.extra) c.set_demand-bits.ensures

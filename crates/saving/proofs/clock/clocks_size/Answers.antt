@@ -1,0 +1,10 @@
+-- `clocks_size` meets its contract, by whether the clocks are equal.
+use mathlib.Core.Path.{sym, ◌∙◌}
+use borrow.Author.Rules.{rules}
+use Rattle.saving.proofs.clock.clocks_size.Goals as goal
+
+pub returns-then-clocks_equal : goal.returns-then-clocks_equal
+returns-then-clocks_equal c = rw (sym c.clocks_equal.ensures ∙ c.if-clocks_equal.true)
+
+pub returns : goal.returns
+returns c = rw (sym c.clocks_equal.ensures ∙ c.if-clocks_equal.false)
