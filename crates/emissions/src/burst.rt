@@ -5,7 +5,7 @@ ghost use Rattle.cqf.specs.Limits.{port_slots, flow_slots, max_top, max_hops, ma
 ghost use Rattle.cqf.specs.Overflow.{most_begun};
 ghost use Rattle.cqf.specs.Plan.{valid_plan};
 ghost use Rattle.emissions.specs.BadEmission.{burst_frames};
-ghost use Rattle.answers.specs.Answer.{result};
+ghost use Rattle.answers.specs.Answer.{Answer};
 ghost use Rattle.numbers.specs.Clock.{clock_of};
 ghost use Rattle.tables.specs.Columns.{plan_by};
 ghost use Rattle.emissions.specs.Burst.{burst, burst_answer, burst_of, instant_is};
@@ -51,7 +51,7 @@ fn instant_in(
         × (0 < count)
         × (period ≤ max_period)
         × (frames ≤ max_count * most_begun) }
-    ensures* { λ r. ⌜ instant_is r ≡ cond (ltb k frames) (some (cycle * duration + (k / count * period - jitter))) none ⌝ }
+    ensures { instant_is result ≡ cond (ltb k frames) (some (cycle * duration + (k / count * period - jitter))) none }
 {
     if k < frames {
         return Instant::At(instant_of(cycle, duration, count, period, jitter, k));
@@ -61,7 +61,7 @@ fn instant_in(
 
 // The frames of a burst: all that the flow brings, where the port stands on its route before the end.
 fn frames_if(at: usize, length: usize, brought: u64) -> u64
-    ensures* { λ r. ⌜ r ≡ cond (ltb at length) brought 0 ⌝ }
+    ensures { result ≡ cond (ltb at length) brought 0 }
 {
     if at < length {
         return brought;
@@ -92,13 +92,11 @@ fn burst_of<'a>(
         (plan_by guard top (clock_of clock) rates.now blockings.now extras.now periods.now counts.now
         lengths.now jitters.now hops.now routes.now)
         ≡ true) × (duration ≤ top) × (q < port_slots) × (f < flow_slots) × (0 < get_or periods.now f 0) }
-    ensures* { λ r. ⌜
-        burst_of r ≡ result (burst
+    ensures { burst_of result ≡ Answer.result (burst
         (plan_by guard top (clock_of clock) rates.now blockings.now extras.now
         periods.now counts.now lengths.now jitters.now
         hops.now routes.now)
-        duration q f k)
-        ⌝ }
+        duration q f k) }
 {
     let length = hops[f] as usize;
     let at = hop_on(routes, f * STRIDE, length, q);
@@ -136,13 +134,11 @@ pub fn burst_tables<'a>(
     flow: u64,
     k: u64,
 ) -> BurstAnswer
-    ensures* { λ r. ⌜
-        burst_of r ≡ burst_answer
+    ensures { burst_of result ≡ burst_answer
         (plan_by guard top (clock_of clock) rates.now blockings.now extras.now
         periods.now counts.now lengths.now jitters.now
         hops.now routes.now)
-        duration port flow k
-        ⌝ }
+        duration port flow k }
 {
     if !valid_tables(
         guard, top, clock, rates, blockings, extras, periods, counts, lengths, jitters, hops,

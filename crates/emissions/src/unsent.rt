@@ -4,7 +4,7 @@ ghost use Rattle.std.proofs.Math.Option.{some};
 ghost use Rattle.cqf.specs.Limits.{port_slots};
 ghost use Rattle.cqf.specs.Plan.{valid_plan};
 ghost use Rattle.cqf.specs.Condition.{fails};
-ghost use Rattle.answers.specs.Answer.{result};
+ghost use Rattle.answers.specs.Answer.{Answer};
 ghost use Rattle.numbers.specs.Clock.{clock_of};
 ghost use Rattle.tables.specs.Columns.{plan_by};
 ghost use Rattle.emissions.specs.Unsent.{unsent, unsent_answer, unsent_of};
@@ -58,13 +58,11 @@ fn unsent_of<'a>(
         lengths.now jitters.now hops.now routes.now)
         duration q
         ≡ true) }
-    ensures* { λ r. ⌜
-        unsent_of r ≡ result (some (unsent
+    ensures { unsent_of result ≡ Answer.result (some (unsent
         (plan_by guard top (clock_of clock) rates.now blockings.now extras.now
         periods.now counts.now lengths.now jitters.now
         hops.now routes.now)
-        duration q))
-        ⌝ }
+        duration q)) }
 {
     let latest = latest_hop(hops, routes, q) as u64;
     let cycle = first_unsent(
@@ -105,20 +103,16 @@ pub fn unsent_tables<'a>(
     routes: &'a columns::Routes,
     duration: u64,
 ) -> UnsentAnswer
-    ensures* answers { λ r. ⌜
-        unsent_of r ≡ unsent_answer
+    ensures answers { unsent_of result ≡ unsent_answer
         (plan_by guard top (clock_of clock) rates.now blockings.now extras.now
         periods.now counts.now lengths.now jitters.now
         hops.now routes.now)
-        duration
-        ⌝ }
-    ensures* means { λ r. ⌜
-        UnsentMeans
+        duration }
+    ensures means { UnsentMeans
         (plan_by guard top (clock_of clock) rates.now blockings.now extras.now
         periods.now counts.now lengths.now jitters.now
         hops.now routes.now)
-        duration (unsent_of r)
-        ⌝ }
+        duration (unsent_of result) }
 {
     let verdict = check_tables(
         guard, top, clock, rates, blockings, extras, periods, counts, lengths, jitters, hops,
