@@ -1,6 +1,4 @@
 -- `is_late` meets its contract.
-use borrow.Author.Rules.{rules}
-use borrow.Author.Tests.{not-true, not-false}
 use Rattle.loading.proofs.field.is_late.Goals as goal
 
 pub returns-then-not-strict : goal.returns-then-not-strict

@@ -2,7 +2,6 @@
 use mathlib.Core.Path.{sym, ◌∙◌}
 use Rattle.plan.specs.laws.Whole.{part_whole}
 use Rattle.plan_reading.specs.laws.reading.Absent.{absent_plain, absent_extra}
-use borrow.Author.Rules.{rules}
 use Rattle.loading.proofs.first.extra_absent.Goals as goal
 
 pub returns-then-tag-ne-EXTRA_TAG : goal.returns-then-tag-ne-EXTRA_TAG

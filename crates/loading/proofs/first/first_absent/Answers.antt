@@ -1,6 +1,5 @@
 -- `first_absent` meets its contract: routes first, then jitter, then extra bytes.
 use mathlib.Core.Path.{sym, ◌∙◌}
-use borrow.Author.Rules.{rules}
 use Rattle.plan_reading.specs.laws.reading.Absent.{first_route, first_jitter, first_extra}
 use Rattle.loading.proofs.first.first_absent.Goals as goal
 
@@ -12,18 +11,15 @@ returns-then-route-plan c =
 
 pub returns-then-jitter-plan : goal.returns-then-jitter-plan
 returns-then-jitter-plan c =
-    let past = c.before.before in
-    let a = past.args in
-    let f = past.first_field-route.ensures in
+    let a = c.args in
+    let f = c.first_field-route.ensures in
     let g = c.first_field-jitter.ensures in
-    g ∙ sym (first_jitter a.rates.now a.periods.now a.plan.now (rw f at past.if-route-plan.false) (rw g at c.if-jitter-plan.true))
+    g ∙ sym (first_jitter a.rates.now a.periods.now a.plan.now (rw f at c.if-route-plan.false) (rw g at c.if-jitter-plan.true))
 
 pub returns : goal.returns
 returns c =
-    let second = c.before.before in
-    let past = second.before in
-    let a = past.args in
-    let f = past.first_field-route.ensures in
-    let g = second.first_field-jitter.ensures in
+    let a = c.args in
+    let f = c.first_field-route.ensures in
+    let g = c.first_field-jitter.ensures in
     c.first_field.ensures
-    ∙ sym (first_extra a.rates.now a.periods.now a.plan.now (rw f at past.if-route-plan.false) (rw g at c.if-jitter-plan.false))
+    ∙ sym (first_extra a.rates.now a.periods.now a.plan.now (rw f at c.if-route-plan.false) (rw g at c.if-jitter-plan.false))

@@ -2,7 +2,6 @@
 use mathlib.Core.Path.{◌≡◌, sym, ◌∙◌}
 use mathlib.Core.Bool.{true}
 use borrow.Author.Rules.{rules}
-use borrow.Author.Tests.{not-true, not-false}
 use Rattle.cqf.specs.Limits.{port_slots, port_ok}
 use Rattle.cqf.specs.laws.Route.{rate_at}
 use Rattle.plan_reading.specs.laws.fields.Within.{within_low, slot_below}

@@ -2,7 +2,6 @@
 use mathlib.Core.Path.{sym, ◌∙◌}
 use Rattle.plan.specs.laws.Whole.{part_whole}
 use Rattle.plan_reading.specs.laws.reading.Absent.{absent_steady, absent_jitter}
-use borrow.Author.Rules.{rules}
 use Rattle.loading.proofs.first.jitter_absent.Goals as goal
 
 pub returns-then-tag-ne-JITTER_TAG : goal.returns-then-tag-ne-JITTER_TAG

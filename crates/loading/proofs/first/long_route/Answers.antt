@@ -1,6 +1,5 @@
 -- `long_route` meets its contract: the route is the one in the part that the splitter gives.
 use mathlib.Core.Path.{sym, ap, ◌∙◌}
-use borrow.Author.Rules.{rules}
 use lib.Dec.{ltb}
 use lib.ListN.{drop}
 use Rattle.cqf.specs.Form.{older, most_hops_in}

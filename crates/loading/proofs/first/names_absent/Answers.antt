@@ -3,7 +3,6 @@ use mathlib.Core.Path.{sym, ◌∙◌}
 use Rattle.plan.specs.Field.{route_in}
 use Rattle.plan.specs.laws.Whole.{part_whole}
 use Rattle.plan_reading.specs.laws.reading.Absent.{absent_other, absent_flow, absent_flow2}
-use borrow.Author.Rules.{rules}
 use Rattle.loading.proofs.first.names_absent.Goals as goal
 
 pub returns-then-tag-eq-FLOW_TAG : goal.returns-then-tag-eq-FLOW_TAG

@@ -1,6 +1,5 @@
 -- `read_form` meets its contract: the columns that were read go into the planner where the plan is accepted.
 use mathlib.Core.Path.{refl, sym, ap, ◌∙◌}
-use borrow.Author.Rules.{rules}
 use Rattle.cqf.specs.Plan.{no_plan}
 use Rattle.plan_reading.specs.laws.reading.Fits.{accepted_fits}
 use Rattle.tables.specs.laws.Forms.{fits_plan}
@@ -15,15 +14,12 @@ read_columns-read-requires c = refl
 
 pub returns-in-Held : goal.returns-in-Held
 returns-in-Held c =
-    let e = sym c.read_columns-read.ensures ∙ ap (answer_of _) c.enum_told.given.1 in
+    let e = sym c.read_columns-read.ensures ∙ ap (answer_of _) c.in-Held.is in
     let number = c.form_number-number.ensures in
     let fits = accepted_fits _ _ _ _ _ _ e in
-    accepted_loads _ _ _ _ _ _ _ e (fits_plan _ (rw number fits)) number (ap load_of c.enum_told.given.1)
+    accepted_loads _ _ _ _ _ _ _ e (fits_plan _ (rw number fits)) number (ap load_of c.in-Held.is)
 
 pub returns-in-Refused : goal.returns-in-Refused
 returns-in-Refused c =
-    let e = sym c.read_columns-read.ensures ∙ ap (answer_of _) c.enum-told2.given.1 in
-    refused_loads _ _ _ _ _ _ e refl refl (ap load_of c.enum-told2.given.1)
-
-pub form_number-number-requires : goal.form_number-number-requires
-form_number-number-requires = (λ c. tt)
+    let e = sym c.read_columns-read.ensures ∙ ap (answer_of _) c.in-Refused.is in
+    refused_loads _ _ _ _ _ _ e refl refl (ap load_of c.in-Refused.is)

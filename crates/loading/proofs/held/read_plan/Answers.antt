@@ -1,5 +1,4 @@
 -- `read_plan` meets its contract: the form is the one that the bytes tell.
-use borrow.Author.Rules.{rules}
 use Rattle.loading.specs.laws.Load.{told_loads}
 use Rattle.loading.proofs.held.read_plan.Goals as goal
 

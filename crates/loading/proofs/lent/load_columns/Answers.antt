@@ -1,6 +1,5 @@
 -- `load_columns` meets its contract: the columns that were read are stored where the plan is accepted.
 use mathlib.Core.Path.{refl, sym, ap, ◌∙◌}
-use borrow.Author.Rules.{rules}
 use Rattle.cqf.specs.Plan.{no_plan}
 use Rattle.plan_reading.specs.laws.reading.Fits.{accepted_fits}
 use Rattle.loading.specs.laws.Lent.{refused_lent, accepted_lent}
@@ -14,18 +13,10 @@ read_columns-read-requires c = refl
 
 pub returns-in-Held : goal.returns-in-Held
 returns-in-Held c =
-    let told = c.form_by-told.ensures in
-    let e = sym c.read_columns-read.ensures ∙ ap (answer_of _) c.enum_told.given.1 in
-    accepted_lent _ _ _ told _ _ _ _ e c.form_number-number.ensures (accepted_fits _ _ _ _ _ _ e) (ap load_of c.enum_told.given.1)
+    let e = sym c.read_columns-read.ensures ∙ ap (answer_of _) c.in-Held.is in
+    accepted_lent _ _ _ c.form_by-told.ensures _ _ _ _ e c.form_number-number.ensures (accepted_fits _ _ _ _ _ _ e) (ap load_of c.in-Held.is)
 
 pub returns-in-Refused : goal.returns-in-Refused
 returns-in-Refused c =
-    let told = c.form_by-told.ensures in
-    let e = sym c.read_columns-read.ensures ∙ ap (answer_of _) c.enum-told2.given.1 in
-    refused_lent _ _ _ told _ _ _ e (ap load_of c.enum-told2.given.1)
-
-pub form_by-told-requires : goal.form_by-told-requires
-form_by-told-requires = (λ c. tt)
-
-pub form_number-number-requires : goal.form_number-number-requires
-form_number-number-requires = (λ c. tt)
+    let e = sym c.read_columns-read.ensures ∙ ap (answer_of _) c.in-Refused.is in
+    refused_lent _ _ _ c.form_by-told.ensures _ _ _ e (ap load_of c.in-Refused.is)

@@ -1,7 +1,6 @@
 -- `low_byte` meets its contract: a number of two bytes that is at most 64 is its low byte.
 use native.Mathlib.Omega.{arith}
 use lib.ListN.{get_or}
-use borrow.Author.Rules.{rules}
 use Rattle.cqf.specs.Limits.{port_slots, port_ok}
 use Rattle.cqf.specs.laws.Lists.{every-at}
 use Rattle.plan.specs.Bytes.{number2}

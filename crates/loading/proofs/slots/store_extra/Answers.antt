@@ -1,6 +1,5 @@
 -- `store_extra` meets its contract.
 use native.Mathlib.Omega.{arith}
-use borrow.Author.Rules.{rules}
 use Rattle.cqf.specs.Limits.{port_slots, max_extra}
 use Rattle.plan_reading.specs.laws.fields.Within.{within_low, within_high, slot_below}
 use Rattle.loading.proofs.slots.store_extra.Goals as goal

@@ -1,7 +1,6 @@
 -- `store_flow` meets its contract.
 use Rattle.cqf.specs.Limits.{flow_slots}
 use Rattle.plan_reading.specs.laws.fields.Within.{within_low, slot_below, sublist_below}
-use borrow.Author.Rules.{rules}
 use Rattle.loading.proofs.slots.store_flow.Goals as goal
 
 pub overflow_sub-slot : goal.overflow_sub-slot

@@ -1,6 +1,5 @@
 -- `store_jitter` meets its contract.
 use native.Mathlib.Omega.{arith}
-use borrow.Author.Rules.{rules}
 use Rattle.cqf.specs.Limits.{flow_slots}
 use Rattle.plan_reading.specs.laws.fields.Within.{within_low, within_high}
 use Rattle.loading.proofs.slots.store_jitter.Goals as goal

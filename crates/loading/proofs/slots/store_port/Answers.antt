@@ -1,5 +1,4 @@
 -- `store_port` meets its contract.
-use borrow.Author.Rules.{rules}
 use Rattle.cqf.specs.Limits.{port_slots}
 use Rattle.plan_reading.specs.laws.fields.Within.{within_low, slot_below}
 use Rattle.loading.proofs.slots.store_port.Goals as goal
