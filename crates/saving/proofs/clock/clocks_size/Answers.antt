@@ -1,6 +1,5 @@
 -- `clocks_size` meets its contract, by whether the clocks are equal.
 use mathlib.Core.Path.{sym, ◌∙◌}
-use borrow.Author.Rules.{rules}
 use Rattle.saving.proofs.clock.clocks_size.Goals as goal
 
 pub returns-then-clocks_equal : goal.returns-then-clocks_equal

@@ -1,6 +1,5 @@
 -- `field_size` meets its contract, by whether the number is 0.
 use native.Mathlib.Omega.{arith}
-use borrow.Author.Rules.{rules}
 use borrow.Author.Tests.{le-ltb, lt-ltb}
 use Rattle.saving.proofs.size.field_size.Goals as goal
 
