@@ -7,7 +7,6 @@ ghost use Rattle.field_writing.specs.Answer.{write_of};
 ghost use Rattle.field_writing.specs.Writes.{WritesBytes};
 
 use crate::WriteAnswer;
-use bytes::copy;
 use plan::layout::route_start;
 use plan::read::field_at;
 use plan::route::{route_bytes, route_repeats};
@@ -24,7 +23,8 @@ fn put_whole(field: &[u8], buffer: &mut [u8]) -> WriteAnswer
     if !has_room(buffer.len(), needed) {
         return WriteAnswer::ShortBuffer(needed);
     }
-    WriteAnswer::Written(copy(field, buffer))
+    buffer[..needed].copy_from_slice(field);
+    WriteAnswer::Written(needed)
 }
 
 // The bytes of a field of this form: tests 2 to 5 and 7, then 13.

@@ -1,12 +1,12 @@
 -- The bytes of a field that is to be written, read back: its numbers whether they are in range or not, and which test refuses it.
-use Rattle.std.specs.Prelude.{ℕ, suc, ◌+◌, ◌*◌, ◌/◌, ◌%◌, ◌≤◌, ◌<◌, ◌≡◌, List, [], ◌∷◌, ◌++◌, Bool, true, false, ◌&&◌}
+use Rattle.std.specs.Prelude.{ℕ, ◌+◌, ◌*◌, ◌/◌, ◌%◌, ◌≡◌, List, [], ◌∷◌, ◌++◌, true}
 use Rattle.std.proofs.Math.Path.{refl}
-use Rattle.std.proofs.Common.{sym, ap, ap₂, ◌∙◌, append_assoc, arith, get_or-append-add, drop_at}
+use Rattle.std.proofs.Common.{ap, ap₂, ◌∙◌, append_assoc, arith, get_or-append-add}
 use Rattle.std.proofs.Math.ListN.{length, length-append}
 use Rattle.std.proofs.Math.Seq.{take_all}
 use Rattle.plan.specs.Bytes.{byte_at, head_size, number2, number4, tag_at, size_at, whole_at, value_at}
 use Rattle.plan.specs.Layout.{Width, two, four, bytes_in, Number, widths, Kind, layout, numbers_size}
-use Rattle.plan.specs.Field.{Field, number_in, numbers_at, in_ranges, value_in, field_at}
+use Rattle.plan.specs.Field.{Field, number_in, numbers_at, value_in, field_at}
 use Rattle.plan.specs.laws.Whole.{whole}
 use Rattle.plan.specs.laws.Tested.{field_whole, tag_known}
 use Rattle.plan_reading.specs.FieldBytes.{bytes2s, bytes_by, numbers_bytes, value_of, bytes_of}
