@@ -16,7 +16,7 @@ use Rattle.gate_writing.proofs.gates.gates_tables.Statement.{statement}
 use Rattle.gate_writing.proofs.gates.gates_tables.Tie as tie
 
 -- the answer, known before anything is written
-module _ (c : tie.After-answer-by) where
+module _ (c : tie.After-answer_by-answer) where
   abbrev begin : tie.Start
   begin = c.before.before.before.before.before
 
@@ -28,52 +28,52 @@ module _ (c : tie.After-answer-by) where
   abbrev given : List ℕ
   given = begin.args.buffer.now
 
-  said : gates_of c.answer-by.result ≡ gates_answer plan begin.args.duration begin.args.even begin.args.odd given
+  said : gates_of c.answer_by-answer.result ≡ gates_answer plan begin.args.duration begin.args.even begin.args.odd given
   said =
       let a = begin.args in
       let sized = c.before.before in
-      c.answer-by.ensures
-      ∙ answer_is plan a.duration a.even a.odd given sized.before.check-tables.ensures c.before.queues-ok.ensures sized.list-size.ensures
+      c.answer_by-answer.ensures
+      ∙ answer_is plan a.duration a.even a.odd given sized.check_tables-verdict.ensures c.queues_ok.ensures sized.list_size-needed.ensures
 
 -- a list is to be written
-module _ (c : tie.Else1) where
-  abbrev answered : tie.After-answer-by
+module _ (c : tie.Else-not-writes) where
+  abbrev answered : tie.After-answer_by-answer
   answered = c.before.before
 
-  is_list : is_result (gates_of answered.answer-by.result) ≡ true
-  is_list = sym c.before.writes.ensures ∙ not-false _ c.if1.false
+  is_list : is_result (gates_of answered.answer_by-answer.result) ≡ true
+  is_list = sym c.writes.ensures ∙ c.if-not-writes.false
 
-returns : tie.Need-returns
+returns : tie.Need-returns-then-not-writes
 returns c =
     let at = c.before.before in
     let a = (begin at).args in
-    let none = sym c.before.writes.ensures ∙ not-true _ c.if1.true in
+    let none = sym c.writes.ensures ∙ c.if-not-writes.true in
     (said at, refused_leaves (plan at) a.duration a.even a.odd (given at) (said at) none)
 
-put-list-requires : tie.Need-put-list-requires
+put-list-requires : tie.Need-put_list-requires
 put-list-requires c κs =
     let at = answered c.before in
     let a = (begin at).args in
     writable (plan at) a.duration a.even a.odd (given at) (said at) (is_list c.before)
 
-returns_2 : tie.Need-returns-2
+returns_2 : tie.Need-returns
 returns_2 c =
     let put = c.before.before in
     let left = put.before.before in
     let at = answered left in
     let a = (begin at).args in
-    (said at, written_leaves (plan at) a.duration a.even a.odd (given at) (said at) (is_list left) put.put-list.ensures)
+    (said at, written_leaves (plan at) a.duration a.even a.odd (given at) (said at) (is_list left) put.put_list.ensures)
 
 pub gates_tables_spec : {M : Type 1} → statement M
 gates_tables_spec =
     tie.close
     (tie.spec
-    (λ c κs. search rules)
-    (λ c κs. search rules)
-    (λ c κs. search rules)
-    (λ c κs. search rules)
-    (λ c κs. search rules)
+    (search rules)
+    (search rules)
+    (search rules)
+    (search rules)
+    (search rules)
     returns
     put-list-requires
-    (λ c. search rules)
+    (search rules)
     returns_2)

@@ -16,7 +16,7 @@ use Rattle.gate_writing.proofs.list.put_list.Statement.{statement}
 use Rattle.gate_writing.proofs.list.put_list.Tie as tie
 
 -- the size of a cycle
-module _ (c : tie.After-cycle-size) where
+module _ (c : tie.After-cycle_size-cycle) where
   abbrev begin : tie.Start
   begin = c.before.before.before
 
@@ -26,41 +26,41 @@ module _ (c : tie.After-cycle-size) where
   abbrev list : List ℕ
   list = let a = begin.args in list_of a.guard a.duration a.even a.odd
 
-  size_is : c.cycle-size.result ≡ cycle_size begin.args.guard (window_of begin.args.guard begin.args.duration)
-  size_is = c.cycle-size.ensures ∙ ap (cycle_size begin.args.guard) c.before.window.ensures
+  size_is : c.cycle_size-cycle.result ≡ cycle_size begin.args.guard (window_of begin.args.guard begin.args.duration)
+  size_is = c.cycle_size-cycle.ensures ∙ ap (cycle_size begin.args.guard) c.window-lasts.ensures
 
-  list_is : length list ≡ 2 * c.cycle-size.result
+  list_is : length list ≡ 2 * c.cycle_size-cycle.result
   list_is = let a = begin.args in list_length a.guard a.duration a.even a.odd ∙ ap (λ (n : ℕ). 2 * n) (sym size_is)
 
-mul-if1 : tie.Need-overflow-mul-if1
+mul-if1 : tie.Need-overflow_mul-cycle
 mul-if1 c = omega (arith, size_is c, cycle_most (begin c).args.guard (window_of (begin c).args.guard (begin c).args.duration))
 
-returns : tie.Need-returns
-returns c = sym (laid_short (list c.before) (entry c.before) (omega (arith, list_is c.before, c.if1.true)))
+returns : tie.Need-returns-then-out-cycle
+returns c = sym (laid_short (list c.before) (entry c.before) (omega (arith, list_is c.before, c.if-out-cycle.true)))
 
-queue-bit-requires : tie.Need-queue-bit-requires
+queue-bit-requires : tie.Need-queue_bit-requires
 queue-bit-requires c κs =
     let s = begin c.before.before.before in
-    omega (arith, even_below s.args.even s.args.odd s.pre.queues, odd_below s.args.even s.args.odd s.pre.queues)
+    omega (arith, even_below s.args.even s.args.odd s.requires.queues, odd_below s.args.even s.args.odd s.requires.queues)
 
-add-put-cycle : tie.Need-overflow-add-put-cycle
+add-put-cycle : tie.Need-overflow_add-closed
 add-put-cycle c =
     let closed = c.before.before in
     let s = begin closed.before.before in
-    omega (arith, even_fits s.args.even s.args.odd s.pre.queues, odd_fits s.args.even s.args.odd s.pre.queues, closed.both_closed_lem.ensures, c.queue-bit.ensures)
+    omega (arith, even_fits s.args.even s.args.odd s.requires.queues, odd_fits s.args.even s.args.odd s.requires.queues, closed.both_closed-closed.ensures, c.queue_bit.ensures)
 
-queue-bit-requires-2 : tie.Need-queue-bit-requires-2
+queue-bit-requires-2 : tie.Need-queue_bit-requires-2
 queue-bit-requires-2 c κs =
     let s = c.before.before.before.before.before.before.before.before.before.before.before in
     omega (arith, even_below s.args.even s.args.odd s.requires.queues, odd_below s.args.even s.args.odd s.requires.queues)
 
-add-put-cycle-2 : tie.Need-overflow-add-put-cycle-2
+add-put-cycle-2 : tie.Need-overflow_add-closed-2
 add-put-cycle-2 c =
     let closed = c.before.before.before.before.before.before.before in
     let s = begin closed.before.before in
-    omega (arith, even_fits s.args.even s.args.odd s.pre.queues, odd_fits s.args.even s.args.odd s.pre.queues, closed.both_closed_lem.ensures, c.queue-bit2.ensures)
+    omega (arith, even_fits s.args.even s.args.odd s.requires.queues, odd_fits s.args.even s.args.odd s.requires.queues, closed.both_closed-closed.ensures, c.queue_bit-2.ensures)
 
-returns_2 : tie.Need-returns-2
+returns_2 : tie.Need-returns
 unfolding list_of
 returns_2 c =
     let second = c.before.before in
@@ -73,34 +73,34 @@ returns_2 c =
     let w = window_of a.guard a.duration in
     let even = cycle_of (both_closed a.even a.odd) (one_open a.even a.odd a.even) a.guard w in
     let odd = cycle_of (both_closed a.even a.odd) (one_open a.even a.odd a.odd) a.guard w in
-    let even_is = cycle_is a.even a.odd a.even a.guard a.duration closed.both_closed_lem.ensures first.before.queue-bit.ensures at.before.window.ensures in
-    let odd_is = cycle_is a.even a.odd a.odd a.guard a.duration closed.both_closed_lem.ensures second.before.queue-bit2.ensures at.before.window.ensures in
-    let even-size : length even ≡ at.cycle-size.result = cycle_length _ _ a.guard w ∙ sym (size_is at) in
-    let odd-size : length odd ≡ at.cycle-size.result = cycle_length _ _ a.guard w ∙ sym (size_is at) in
-    let room : length (list at) ≤ length e = omega (arith, list_is at, left.if1.false) in
-    let there = laid_as _ even e even_is first.put-cycle.ensures ∙ laid-over even e (omega (arith, list_is at, room, even-size)) in
-    lay_next even odd e at.cycle-size.result even-size there (omega (arith, list_is at, room, odd-size)) (laid_as _ odd _ odd_is second.put-cycle2.ensures)
+    let even_is = cycle_is a.even a.odd a.even a.guard a.duration closed.both_closed-closed.ensures first.queue_bit.ensures at.window-lasts.ensures in
+    let odd_is = cycle_is a.even a.odd a.odd a.guard a.duration closed.both_closed-closed.ensures second.queue_bit-2.ensures at.window-lasts.ensures in
+    let even-size : length even ≡ at.cycle_size-cycle.result = cycle_length _ _ a.guard w ∙ sym (size_is at) in
+    let odd-size : length odd ≡ at.cycle_size-cycle.result = cycle_length _ _ a.guard w ∙ sym (size_is at) in
+    let room : length (list at) ≤ length e = omega (arith, list_is at, left.if-out-cycle.false) in
+    let there = laid_as _ even e even_is first.put_cycle.ensures ∙ laid-over even e (omega (arith, list_is at, room, even-size)) in
+    lay_next even odd e at.cycle_size-cycle.result even-size there (omega (arith, list_is at, room, odd-size)) (laid_as _ odd _ odd_is second.put_cycle-2.ensures)
     ∙ sym (laid-over (list at) e room)
 
 pub put_list_spec : {M : Type 1} → statement M
 put_list_spec =
     tie.close
     (tie.spec
-    (λ c κs. search rules)
-    (λ c. search rules)
-    (λ c. search rules)
-    (λ c κs. search rules)
+    (search rules)
+    (search rules)
+    (search rules)
+    (search rules)
     mul-if1
     returns
-    (λ c κs. search rules)
+    (search rules)
     queue-bit-requires
     add-put-cycle
-    (λ c κs. search rules)
-    (λ c. search rules)
-    (λ c. search rules)
-    (λ c. search rules)
+    (search rules)
+    (search rules)
+    (search rules)
+    (search rules)
     queue-bit-requires-2
     add-put-cycle-2
-    (λ c κs. search rules)
-    (λ c. search rules)
+    (search rules)
+    (search rules)
     returns_2)

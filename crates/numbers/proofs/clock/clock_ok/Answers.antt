@@ -1,8 +1,6 @@
 -- `clock_ok` meets its contract: each way out has decided the tests before it.
 use mathlib.Core.Path.{◌≡◌, sym, ◌∙◌}
 use mathlib.Core.Bool.{Bool, true, ◌&&◌, and-false}
-use borrow.Author.Rules.{rules}
-use borrow.Author.Tests.{not-true, not-false}
 use Rattle.numbers.proofs.clock.clock_ok.Goals as goal
 
 pub returns-then-not-drift_ok : goal.returns-then-not-drift_ok

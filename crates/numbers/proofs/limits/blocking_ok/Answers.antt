@@ -1,6 +1,5 @@
 -- `blocking_ok` meets its contract: 0, or the range of a frame's length.
 use mathlib.Core.Path.{sym, ◌∙◌}
-use borrow.Author.Rules.{rules}
 use borrow.Author.Tests.{eq-eqb, ne_eqb}
 use Rattle.numbers.proofs.limits.blocking_ok.Goals as goal
 

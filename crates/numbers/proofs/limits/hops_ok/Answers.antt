@@ -1,5 +1,4 @@
 -- `hops_ok` meets its contract: its ends are those of the range.
-use borrow.Author.Rules.{rules}
 use Rattle.numbers.proofs.limits.hops_ok.Goals as goal
 
 pub returns : goal.returns

@@ -1,7 +1,6 @@
 -- `numbers::port::failing_ports` meets its contract.
 use native.Mathlib.Omega.{arith}
 use lib.Count.{leading_le, trailing_le}
-use borrow.Author.Rules.{rules}
 use Rattle.numbers.proofs.port.failing_ports.Goals as goal
 
 pub overflow_add-result : goal.overflow_add-result
