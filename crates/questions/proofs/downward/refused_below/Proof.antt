@@ -40,8 +40,8 @@ module _ (c : tie.After-larger-most invariant-loop decreases-loop) where
   most = c.larger-most.ensures ∙ ap (max begin.args.low) asked.need_within.ensures
 
   -- the demands' array is as long as it was
-  kept : length asked.need_within.new.out.1.1.1.1.1.1.1.1.1.1.1.1.1.0 ≡ port_slots
-  kept = asked.need_within.kept.1.1.1.1.1.1.1.1.1.1.1.1.1.1.0 ∙ turn.loop-below.invariant.1
+  kept : length asked.need_within.new.out ≡ port_slots
+  kept = asked.need_within.auto.out ∙ turn.loop-below.invariant.1
 
 loop-holds : tie.Need-loop-below-init invariant-loop decreases-loop
 loop-holds c =

@@ -30,7 +30,7 @@ abbrev asked : tie.After-slice_known-in-loop-at-1 invariant-loop decreases-loop 
 asked c = c.before.before
 
 kept : (c : tie.After-need_within-most invariant-loop decreases-loop) → length c.need_within-most.new.out ≡ port_slots
-kept c = c.need_within-most.auto.out.1.1.1.1.1.1.1.1.1.1.1.1.1.0 ∙ c.loop-at.invariant.1
+kept c = c.need_within-most.auto.out ∙ c.loop-at.invariant.1
 
 -- past the test: more than at is needed there
 module _ (c : tie.Else-most-at invariant-loop decreases-loop) where
@@ -71,7 +71,7 @@ loop-again c =
     let s = begin past in
     let e = grown.outgrown-at.ensures in (
       lowered_next (plan s) s.requires.0 (turn past).loop-at.invariant.0 grown.outgrown-at.result e.0 e.1 e.2 _ (omega (arith, e.0)),
-      grown.outgrown-at.auto.out.1.1.1.1.1.1.1.1.1.1.1.1.0 ∙ kept (asked past.before),
+      grown.outgrown-at.auto.out ∙ kept (asked past.before),
     )
 
 same_length : tie.Need-shape_of-out invariant-loop decreases-loop

@@ -37,7 +37,7 @@ abbrev turn : tie.After-need_within-most invariant-loop decreases-loop → tie.I
 turn c = c.before.before
 
 kept : (c : tie.After-need_within-most invariant-loop decreases-loop) → length c.need_within-most.new.out ≡ port_slots
-kept c = c.need_within-most.auto.out.1.1.1.1.1.1.1.1.1.1.1.1.1.0 ∙ (turn c).loop-under.invariant.1
+kept c = c.need_within-most.auto.out ∙ (turn c).loop-under.invariant.1
 
 loop-holds : tie.Need-loop-under-init invariant-loop decreases-loop
 loop-holds c =

@@ -52,7 +52,7 @@ first-from-requires : tie.Need-first_from-first-requires
 first-from-requires c κs =
     let below = c.before.before in
     let at = below.before.before in
-    (valid (first at), within_low _ _ _ (ranged at), within_high _ _ _ (ranged at), below.last_upto-last.auto.out.1.1.1.1.1.1.1.1.1.1.1.1.0)
+    (valid (first at), within_low _ _ _ (ranged at), within_high _ _ _ (ranged at), below.last_upto-last.auto.out)
 
 returns_3 : tie.Need-returns
 returns_3 c =

@@ -75,13 +75,13 @@ returns_2 c =
 first-of-requires : tie.Need-first_of-first-requires
 first-of-requires c κs =
     let at = c.before in
-    (((begin at).requires.0, (begin at).requires.1, omega (arith, is at, (found at).from), omega (arith, at.if-limit-start.false), (searched at).first_from-start.auto.out.1.1.1.1.1.1.1.1.1.1.1.1.0), good at)
+    (((begin at).requires.0, (begin at).requires.1, omega (arith, is at, (found at).from), omega (arith, at.if-limit-start.false), (searched at).first_from-start.auto.out), good at)
 
 last-from-requires : tie.Need-last_from-last-requires
 last-from-requires c κs =
     let first = c.before.before in
     let at = first.before.before in
-    (((begin at).requires.0, omega (arith, (begin at).requires.1, is at, (found at).from), omega (arith, at.if-limit-start.false), first.first_of-first.auto.out.1.1.1.1.1.1.1.1.1.1.1.1.1.0 ∙ (searched at).first_from-start.auto.1.1.1.1.1.1.1.1.1.1.1.1.1.0), good at)
+    (((begin at).requires.0, omega (arith, (begin at).requires.1, is at, (found at).from), omega (arith, at.if-limit-start.false), first.first_of-first.auto.out ∙ (searched at).first_from-start.auto.out), good at)
 
 returns_3 : tie.Need-returns
 returns_3 c =

@@ -64,7 +64,7 @@ abbrev second : tie.Else-not-between-2 → tie.Else-not-between
 second c = c.before.before
 
 number : (c : tie.Else-not-between-2) → port_ok (begin (second c)).args.port ≡ true
-number c = sym c.between-2.ensures ∙ c.if3.false
+number c = sym c.between-2.ensures ∙ c.if-not-between-2.false
 
 -- the slot of the port asked for, and its demand
 module _ (c : tie.Else-not-between-2) where
@@ -105,7 +105,7 @@ returns_3 : tie.Need-returns-then-not-between-2
 returns_3 c =
     let at = c.before.before in
     sym
-    (slack_no_port (held (begin at)) _ _ (valid (first at)) (ranged at) (sym c.between-2.ensures ∙ c.if3.true))
+    (slack_no_port (held (begin at)) _ _ (valid (first at)) (ranged at) (sym c.between-2.ensures ∙ c.if-not-between-2.true))
 
 sub-q : tie.Need-overflow_sub-q
 sub-q c = within_low 1 port_slots _ (number c)
@@ -155,7 +155,7 @@ returns-5 c =
     let yes = crossed-demand p (valid (first at)) T (within_low _ _ _ (ranged at)) q ∙ lt-ltb 0 (demand p q T) some in
     let products =
     ap₂ (λ (w bits : ℕ). sub_ℕ (rate_of p q * w) (workload_of (blocking_of p q) (extra_of p q) bits)) c.window-available.ensures (bits_are demands.before.before.before) in
-    ap result (to_z-of_z w64 c.port_slack.result (record { sfits = c.port_slack.type-inv }))
+    ap result (to_z-of_z w64 c.port_slack.result (record { sfits = c.port_slack.type_inv }))
     ∙ sym
     (slack-crossed p (begin at).args.port T (valid (first at)) (ranged at) (number (past demands)) yes
     (c.port_slack.ensures ∙ products ∙ sym (slack_is p q T)))

@@ -185,7 +185,7 @@ loop-again c =
           (to_z w64 (of_z w64 c.port_slack-slack.result))
           at.loop-i.invariant.2
           (next at).0
-          (to_z-of_z w64 c.port_slack-slack.result (record { sfits = c.port_slack-slack.type-inv }) ∙ is),
+          (to_z-of_z w64 c.port_slack-slack.result (record { sfits = c.port_slack-slack.type_inv }) ∙ is),
     )
 
 same_length : tie.Need-shape_of-out invariant-loop decreases-loop

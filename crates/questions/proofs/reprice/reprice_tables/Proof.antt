@@ -8,7 +8,7 @@ use lib.Dec.{ltb}
 use lib.IntN.{ℤ}
 use lib.ListN.{length}
 use borrow.Author.Rules.{rules}
-use borrow.Author.Tests.{not-true, not-false, leb-true, leb-false}
+use borrow.Author.Tests.{lt-leb}
 use Rattle.cqf.specs.Bounded.{within}
 use Rattle.cqf.specs.Limits.{port_slots, flow_slots, max_length, length_ok, flow_ok}
 use Rattle.cqf.specs.Plan.{Plan, period_of, present, valid_plan}
@@ -76,7 +76,7 @@ module _ (c : tie.After-holds_flow-known) where
 
 -- a list of at least 64 numbers, a length in range, a flow in the plan
 long : (c : tie.Else-not-long) → port_slots ≤ length (given (start c.before))
-long c = leb-true port_slots _ (c.if-not-long.false)
+long c = c.if-not-long.false
 
 in_range : (c : tie.Else-not-fits) → length_ok (bytes (start c.before.before)) ≡ true
 in_range c = sym (fits_is c.before.before) ∙ c.if-not-fits.false
@@ -130,7 +130,7 @@ returns_3 : tie.Need-returns-then-not-long
 returns_3 c =
     let f = c.before in
     let s = start f in
-    reprice_short (plan s) (T s) (n s) (bytes s) (given s) (valid (first (second f))) (ranged (second f)) (leb-false port_slots _ (c.if-not-long.true))
+    reprice_short (plan s) (T s) (n s) (bytes s) (given s) (valid (first (second f))) (ranged (second f)) (lt-leb _ _ (c.if-not-long.true))
 
 returns-4 : tie.Need-returns-then-not-fits
 returns-4 c =

@@ -37,7 +37,7 @@ abbrev turn : tie.After-refused_below-below invariant-loop decreases-loop → ti
 turn c = (probed c).before.before
 
 kept : (c : tie.After-refused_below-below invariant-loop decreases-loop) → length c.refused_below-below.new.out ≡ port_slots
-kept c = c.refused_below-below.auto.out.1.1.1.1.1.1.1.1.1.1.1.1.1.0 ∙ (turn c).loop-held.invariant.1
+kept c = c.refused_below-below.auto.out ∙ (turn c).loop-held.invariant.1
 
 add-over : tie.Need-overflow_add-over invariant-loop decreases-loop
 add-over c = omega arith

@@ -38,7 +38,7 @@ failing-at-requires : tie.Need-failing_at-ports-requires
 failing-at-requires c κs =
     let sought = none c.before in
     let s = start sought in
-    (s.requires.0, sought.seek-found.kept.1.1.1.1.1.1.1.1.1.1.1.1.1.0 ∙ s.requires.1)
+    (s.requires.0, sought.seek-found.auto.out ∙ s.requires.1)
 
 returns_2 : tie.Need-returns
 returns_2 c =

@@ -42,7 +42,7 @@ abbrev start_of : tie.After-need_within-most invariant-loop decreases-loop → t
 start_of c = c.before.before
 
 kept : (c : tie.After-need_within-most invariant-loop decreases-loop) → length c.need_within-most.new.out ≡ port_slots
-kept c = c.need_within-most.auto.out.1.1.1.1.1.1.1.1.1.1.1.1.1.0 ∙ (start_of c).loop-t.invariant.1
+kept c = c.need_within-most.auto.out ∙ (start_of c).loop-t.invariant.1
 
 module _ (c : tie.After-smaller-t invariant-loop decreases-loop) where
   abbrev turn : tie.At-loop-t invariant-loop decreases-loop
