@@ -1,7 +1,5 @@
 -- `questions::nearest::told` meets its contract: a number from 1 to top is a duration.
-use mathlib.Core.Path.{◌≡◌, sym, ◌∙◌}
-use borrow.Author.Rules.{rules}
-use borrow.Author.Tests.{not-true, not-false}
+use mathlib.Core.Path.{sym, ◌∙◌}
 use Rattle.questions.specs.laws.Nearest.{found_out, found_in}
 use Rattle.questions.proofs.nearest.told.Goals as goal
 

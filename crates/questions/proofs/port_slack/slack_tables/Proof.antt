@@ -119,21 +119,21 @@ mul-port-slack : tie.Need-offset_bounds-rates-q
 mul-port-slack c = omega (arith, small (past c.before.before))
 
 element-copy-out-port-slack : tie.Need-bounds-rates-q
-element-copy-out-port-slack c = small (past c.before.before)
+element-copy-out-port-slack c = small (past c.before.before.before)
 
 mul-port-slack-2 : tie.Need-offset_bounds-blockings-q
-mul-port-slack-2 c = omega (arith, small (past c.before.before.before))
+mul-port-slack-2 c = omega (arith, small (past c.before.before.before.before))
 
 element-copy-out-port-slack-2 : tie.Need-bounds-blockings-q
-element-copy-out-port-slack-2 c = small (past c.before.before.before)
+element-copy-out-port-slack-2 c = small (past c.before.before.before.before.before)
 
 element-copy-out-port-slack-3 : tie.Need-bounds-extras-q
-element-copy-out-port-slack-3 c = small (past c.before.before.before.before)
+element-copy-out-port-slack-3 c = small (past c.before.before.before.before.before.before.before)
 
 port-slack-requires : tie.Need-port_slack-requires
 port-slack-requires c κs =
-    let demands = c.before.before.before.before.before in
-    (omega (arith, c.window-available.ensures, short (second (past demands.before.before.before))), bits_most demands)
+    let demands = c.before.before.before.before.before.before.before.before in
+    (omega (arith, c.window-available.ensures, short (second (past demands))), bits_most demands)
 
 returns-4 : tie.Need-returns-then-bits-eq0
 returns-4 c =
@@ -146,15 +146,15 @@ returns-4 c =
 
 returns-5 : tie.Need-returns-else-bits-eq0
 returns-5 c =
-    let demands = c.before.before.before.before.before.before in
-    let at = second (past demands.before.before.before) in
+    let demands = c.before.before.before.before.before.before.before.before.before in
+    let at = second (past demands) in
     let p = held (begin at) in
     let T = (begin at).args.duration in
-    let q = slot (past demands.before.before.before) in
-    let some : 0 < demand p q T = omega (arith, bits_are demands.before.before.before, c.if-bits-eq0.false) in
+    let q = slot (past demands) in
+    let some : 0 < demand p q T = omega (arith, bits_are demands, c.if-bits-eq0.false) in
     let yes = crossed-demand p (valid (first at)) T (within_low _ _ _ (ranged at)) q ∙ lt-ltb 0 (demand p q T) some in
     let products =
-    ap₂ (λ (w bits : ℕ). sub_ℕ (rate_of p q * w) (workload_of (blocking_of p q) (extra_of p q) bits)) c.window-available.ensures (bits_are demands.before.before.before) in
+    ap₂ (λ (w bits : ℕ). sub_ℕ (rate_of p q * w) (workload_of (blocking_of p q) (extra_of p q) bits)) c.window-available.ensures (bits_are demands) in
     ap result (to_z-of_z w64 c.port_slack.result (record { sfits = c.port_slack.type_inv }))
     ∙ sym
     (slack-crossed p (begin at).args.port T (valid (first at)) (ranged at) (number (past demands)) yes

@@ -8,7 +8,6 @@ use lib.Dec.{ltb}
 use lib.IntN.{ℤ}
 use lib.ListN.{length}
 use borrow.Author.Rules.{rules}
-use borrow.Author.Tests.{lt-leb}
 use Rattle.cqf.specs.Bounded.{within}
 use Rattle.cqf.specs.Limits.{port_slots, flow_slots, max_length, length_ok, flow_ok}
 use Rattle.cqf.specs.Plan.{Plan, period_of, present, valid_plan}
@@ -130,7 +129,7 @@ returns_3 : tie.Need-returns-then-not-long
 returns_3 c =
     let f = c.before in
     let s = start f in
-    reprice_short (plan s) (T s) (n s) (bytes s) (given s) (valid (first (second f))) (ranged (second f)) (lt-leb _ _ (c.if-not-long.true))
+    reprice_short (plan s) (T s) (n s) (bytes s) (given s) (valid (first (second f))) (ranged (second f)) c.if-not-long.true
 
 returns-4 : tie.Need-returns-then-not-fits
 returns-4 c =

@@ -1,7 +1,5 @@
 -- `questions::rise::before_rise` is safe. Round the loop nearest is at most what it starts with.
 use Prim.Native.Nat.{◌-◌, ◌≤◌}
-use native.Mathlib.Omega.{arith}
-use borrow.Author.Rules.{rules}
 use Rattle.cqf.specs.Limits.{flow_slots}
 use Rattle.questions.specs.Run.{far}
 use Rattle.questions.proofs.rise.before_rise.Given as goal

@@ -1,11 +1,11 @@
 -- `questions::span_columns::spans_columns` meets its contract: there is a plan where a span is listed, and the list is filled by one more in a turn.
 use Rattle.std.specs.Prelude.{List, ℕ, suc, set}
-use Rattle.std.proofs.Common.{◌≡◌, ◌+◌, length, refl, sym, ap, ◌∙◌, add-one, arith}
+use Rattle.std.proofs.Common.{◌≡◌, ◌<◌, ◌+◌, length, refl, sym, ap, ◌∙◌, add-one, arith}
 use Rattle.cqf.specs.Plan.{Plan}
 use Rattle.cqf.specs.Form.{held_top}
 use Rattle.tables.specs.Columns.{plan_by}
 use Rattle.questions.specs.Spans.{record_of}
-use Rattle.questions.specs.SpanList.{after, nth, filled}
+use Rattle.questions.specs.SpanList.{after, nth, filled, listed_in}
 use Rattle.questions.specs.laws.SpanList.{filled_length}
 use Rattle.questions.specs.laws.Counted.{listed_fits, listed_valid, counted_answer, listed-leaves}
 use Rattle.questions.specs.declared.one_span.SpanRecord.{SpanRecord}
@@ -31,7 +31,9 @@ next_span_columns-span-requires c =
     let p =
     plan_by a.guard.now (held_top a.form.now a.hops.now a.top.now) (record { drift = a.drift.now; timing_jitter_of = a.timing_jitter.now; sync_error_of = a.sync_error.now }) a.rates.now a.blockings.now
     a.extras.now a.periods.now a.counts.now a.lengths.now a.jitters.now a.hops.now a.routes.now in
-    listed_valid p _ c.loop-i.i (omega (arith, c.span_count_columns-counted.ensures.listed))
+    let size = length a.list.now in
+    let here : c.loop-i.i < listed_in p size = omega (arith, c.span_count_columns-counted.ensures.listed) in
+    listed_valid p size c.loop-i.i here
 
 pub bounds-list-i : goal.bounds-list-i
 bounds-list-i c =
@@ -58,8 +60,7 @@ returns c =
     plan_by a.guard.now (held_top a.form.now a.hops.now a.top.now) (record { drift = a.drift.now; timing_jitter_of = a.timing_jitter.now; sync_error_of = a.sync_error.now }) a.rates.now a.blockings.now
     a.extras.now a.periods.now a.counts.now a.lengths.now a.jitters.now a.hops.now a.routes.now in
     let xs = c.args.list.now in
-    let counted = c.span_count_columns-counted.ensures in
-    (
+    let counted = c.span_count_columns-counted.ensures in (
       c.count_answer.ensures ∙ counted_answer p (length xs) counted,
       c.loop-i.invariant.2 ∙ ap (filled p xs) (omega (arith, counted.listed)) ∙ listed-leaves p xs,
     )

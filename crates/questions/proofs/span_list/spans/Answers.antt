@@ -1,10 +1,10 @@
 -- `questions::span_list::spans` meets its contract: there is a plan where a span is listed, and the list is filled by one more in a turn.
 use Rattle.std.specs.Prelude.{List, ℕ, suc, set}
-use Rattle.std.proofs.Common.{◌≡◌, ◌+◌, length, refl, sym, ap, ◌∙◌, add-one, arith}
+use Rattle.std.proofs.Common.{◌≡◌, ◌<◌, ◌+◌, length, refl, sym, ap, ◌∙◌, add-one, arith}
 use Rattle.cqf.specs.Plan.{Plan}
 use Rattle.tables.specs.Tables.{plan_of}
 use Rattle.questions.specs.Spans.{record_of}
-use Rattle.questions.specs.SpanList.{after, nth, filled}
+use Rattle.questions.specs.SpanList.{after, nth, filled, listed_in}
 use Rattle.questions.specs.laws.SpanList.{filled_length}
 use Rattle.questions.specs.laws.Counted.{listed_fits, listed_valid, counted_answer, listed-leaves}
 use Rattle.questions.specs.declared.one_span.SpanRecord.{SpanRecord}
@@ -25,7 +25,11 @@ unfolding nth filled
 loop-i-init c = (omega arith, ap record_of c.no_span-span.ensures, refl)
 
 pub next_span-span-requires : goal.next_span-span-requires
-next_span-span-requires c = listed_valid (plan_of c.args.planner) _ c.loop-i.i (omega (arith, c.span_count-counted.ensures.listed))
+next_span-span-requires c =
+    let p = plan_of c.args.planner in
+    let size = length c.args.list.now in
+    let here : c.loop-i.i < listed_in p size = omega (arith, c.span_count-counted.ensures.listed) in
+    listed_valid p size c.loop-i.i here
 
 pub bounds-list-i : goal.bounds-list-i
 bounds-list-i c =
@@ -43,8 +47,7 @@ pub returns : goal.returns
 returns c =
     let p = plan_of c.args.planner in
     let xs = c.args.list.now in
-    let counted = c.span_count-counted.ensures in
-    (
+    let counted = c.span_count-counted.ensures in (
       c.count_answer.ensures ∙ counted_answer p (length xs) counted,
       c.loop-i.invariant.2 ∙ ap (filled p xs) (omega (arith, counted.listed)) ∙ listed-leaves p xs,
     )
