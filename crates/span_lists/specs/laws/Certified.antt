@@ -1,5 +1,5 @@
 -- All spans of a plan, shown by a few evaluations: runs by pieces, gaps by climbs.
-use Rattle.std.specs.Prelude.{◌≡◌, refl, Bool, ◌&&◌, ℕ, suc, ◌+◌, ◌-◌, ◌≤◌, ◌<◌, ltb}
+use Rattle.std.specs.Prelude.{◌≡◌, Bool, ◌&&◌, ℕ, suc, ◌-◌, ◌≤◌, ◌<◌, ltb}
 use Rattle.std.proofs.Common.{sym, ◌∙◌, le_refl, add-one, arith}
 use Rattle.std.proofs.Math.Path.{ap}
 use Rattle.std.proofs.Math.Bool.{true, false, and-eq-true_iff}
@@ -9,8 +9,8 @@ use Rattle.std.proofs.Math.Dec.{leb}
 use borrow.Author.Tests.{leb-true, ltb-true}
 use Rattle.cqf.specs.Plan.{Plan, valid_plan}
 use Rattle.cqf.specs.Condition.{admissible}
-use Rattle.cqf.specs.Need.{largest_need, least_from}
-use Rattle.span_lists.specs.Span.{Span, Holds, IsSpan, spans, ending_from}
+use Rattle.cqf.specs.Need.{largest_need}
+use Rattle.span_lists.specs.Span.{Span, IsSpan, spans, ending_from}
 use Rattle.span_lists.specs.results.Theorem.{spans_are, spans_sound}
 use Rattle.span_lists.specs.laws.Ending.{ending_all, ending_next}
 use Rattle.cqf.specs.laws.LeastFrom.{least_from_above}

@@ -1,20 +1,19 @@
 -- Runs by pieces: where no port needs more than m for its demand at u, every duration from m to u is admissible. What a search up or
 -- down by the largest need has shown at the duration that it has reached, and where it may go from there.
 use Rattle.std.specs.Prelude.{◌≡◌, refl, Bool, true, false, cond, ◌&&◌, ℕ, suc, max, min, ◌-◌, ◌≤◌, ◌<◌, leb}
-use Rattle.std.proofs.Common.{sym, ap, ◌∙◌, le_refl, arith, le-leb, leb-true}
-use Rattle.std.proofs.Math.Bool.{and-eq-true_iff}
+use Rattle.std.proofs.Common.{sym, ap, ◌∙◌, le_refl, arith, le-leb}
 use Rattle.std.proofs.Math.Nat.{le_trans}
-use Rattle.std.proofs.Math.Decide.{dec_lt, dec_le}
+use Rattle.std.proofs.Math.Decide.{dec_le}
 use Rattle.std.proofs.lemmas.Bool.{lt-leb}
-use Rattle.cqf.specs.Bounded.{max_to, within}
+use Rattle.cqf.specs.Bounded.{within}
 use Rattle.cqf.specs.Limits.{port_slots}
 use Rattle.cqf.specs.Plan.{Plan, valid_plan}
 use Rattle.cqf.specs.Condition.{demand, admissible}
 use Rattle.cqf.specs.Need.{need, largest_need, least_from}
-use Rattle.span_lists.specs.Span.{Span, IsSpan, last_from}
+use Rattle.span_lists.specs.Span.{last_from}
 use Rattle.cqf.specs.laws.Bounds.{max_to_most}
 use Rattle.cqf.specs.laws.Condition.{demand_pos}
-use Rattle.cqf.specs.laws.Need.{need_for, need_some, admissible-none, not_admissible, jump_down}
+use Rattle.cqf.specs.laws.Need.{need_for, need_some, not_admissible, jump_down}
 use Rattle.cqf.specs.laws.Ranges.{crossed_rate}
 use Rattle.cqf.specs.laws.LeastFrom.{least_from_none, least_from_above}
 use Rattle.cqf.specs.laws.Search.{Ascended, ascent_found, ascent_next, ascent_over, largest-none, largest-fails}

@@ -1,11 +1,11 @@
 -- The run from a duration on: where it ends, where it begins, and that these make a span.
 use Rattle.std.specs.Prelude.{◌≡◌, Bool, true, ◌&&◌, leb, ltb}
 use Rattle.std.proofs.Math.Path.{refl, ap}
-use Rattle.std.proofs.Common.{sym, subst, ◌∙◌, true≢false, le_refl, arith, le-leb, leb-true, lt-ltb, ltb-true, le-ltb}
+use Rattle.std.proofs.Common.{sym, ◌∙◌, le_refl, arith, le-leb, leb-true, lt-ltb, ltb-true}
 use Rattle.std.proofs.Math.Bool.{false, not, false≢true, and-eq-true_iff}
 use mathlib.Mathlib.Data.Bool.Basic.{eq-false_of_not-eq-true}
 use Prim.Native.Nat.{ℕ, zero, suc, pred, ◌+◌, ◌≤◌, ◌<◌}
-use Rattle.std.proofs.Math.Decide.{dec_lt, dec_le}
+use Rattle.std.proofs.Math.Decide.{dec_le}
 use Rattle.std.proofs.lemmas.Bool.{not-true}
 use Rattle.cqf.specs.Plan.{Plan}
 use Rattle.cqf.specs.Condition.{admissible, smallest}

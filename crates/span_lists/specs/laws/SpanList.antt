@@ -1,17 +1,15 @@
 -- The list of the spans: it rises, and its members are the spans. And of any list that rises: those that end at a duration or later.
-use Rattle.std.specs.Prelude.{◌≡◌, ◌↔◌, Bool, leb}
+use Rattle.std.specs.Prelude.{◌≡◌, ◌↔◌, Bool}
 use Rattle.std.proofs.Math.Path.{refl, subst}
-use Rattle.std.proofs.Common.{sym, ap, ◌∙◌, le_refl, le_trans, arith, le-leb, leb-true}
+use Rattle.std.proofs.Common.{sym, ap, ◌∙◌, le_refl, arith}
 use Rattle.std.proofs.Math.Logic.{⊎_elim}
 use mathlib.Core.List.Memᴰ
-use mathlib.Core.List.{List, [], ◌∷◌, ◌++◌, Memᴰ}
+use mathlib.Core.List.{◌∷◌, Memᴰ}
 use Rattle.std.proofs.Math.Bool.{true, false}
-use Rattle.std.proofs.lemmas.Bool.{false≢true, lt-leb}
-use Prim.Native.Nat.{ℕ, zero, suc, pred, ◌+◌, ◌≤◌, ◌<◌}
-use Rattle.std.proofs.Math.Decide.{dec_lt, dec_le, ℕ_discrete}
+use Prim.Native.Nat.{ℕ, zero, suc, ◌+◌, ◌≤◌, ◌<◌}
+use Rattle.std.proofs.Math.Decide.{ℕ_discrete}
 use Rattle.cqf.specs.Plan.{Plan}
-use Rattle.cqf.specs.Condition.{admissible}
-use Rattle.span_lists.specs.Span.{Span, IsSpan, begins, span_from, and_where, spans_in, spans, ending_from, Rising}
+use Rattle.span_lists.specs.Span.{Span, IsSpan, begins, span_from, and_where, spans_in, spans, Rising}
 use Rattle.span_lists.specs.laws.Runs.{span_from_lem, span_begins, span_is, span-next}
 
 -- one more duration, at which a span begins or does not

@@ -27,41 +27,41 @@ module _ (s : tie.Start) where
   length_most = hops_within (plan s) s.requires.0 s.args.f s.requires.3
 
   flow : Held (plan s) s.args.f
-  flow = flow_held (plan s) s.pre.0 s.args.f s.pre.3 s.pre.4
+  flow = flow_held (plan s) s.requires.0 s.args.f s.requires.3 s.requires.4
 
   fits : widened_by (plan s).clock s.args.duration ≤ most_widened
-  fits = over_fits (plan s) s.pre.0 s.args.duration s.pre.1
+  fits = over_fits (plan s) s.requires.0 s.args.duration s.requires.1
 
-cast-length : tie.Need-overflow-cast-length
-cast-length c = omega (arith, length_most c.before)
+cast-length : tie.Need-overflow_cast-length
+cast-length c = omega (arith, length_most c.before.before)
 
-hop-on-requires : tie.Need-hop-on-requires
-hop-on-requires c κs = (omega (arith, length_most c.before), c.before.requires.2)
+hop-on-requires : tie.Need-hop_on-at-requires
+hop-on-requires c κs = (omega (arith, length_most c.before.before), c.requires.2)
 
-latest-hop-requires : tie.Need-latest-hop-requires
+latest-hop-requires : tie.Need-latest_hop-latest-requires
 latest-hop-requires c κs =
     let s = c.before.before in
-    (s.requires.2, λ f l. hops_within (plan s) s.requires.0 f l)
+    (s.requires.2, λ f l. hops_within (plan s.before) s.requires.0 f l)
 
-cast-over : tie.Need-overflow-cast-over
-cast-over c = omega (arith, c.widened.ensures, fits c.before.before.before.before.before)
+cast-over : tie.Need-overflow_cast-over
+cast-over c = omega (arith, c.widened-over.ensures, fits c.before.before.before.before.before.before)
 
-flow-frames-requires : tie.Need-flow-frames-requires
+flow-frames-requires : tie.Need-flow_frames-brought-requires
 flow-frames-requires c κs =
     let w = c.before.before.before in
     let s = w.before.before.before.before.before in
-    let h = flow s in
-    (h.period_least, h.period_most, h.count_most, h.jitter_most, omega (arith, w.widened.ensures, fits s))
+    let h = flow s.before.before.before.before in
+    (h.period_least, h.period_most, h.count_most, h.jitter_most, omega (arith, w.widened-over.ensures, fits s.before.before.before.before))
 
-instant-in-requires : tie.Need-instant-in-requires
+instant-in-requires : tie.Need-instant_in-instant-requires
 instant-in-requires c κs =
     let kept = c.before.before.before in
     let frames = kept.before in
     let cycle = frames.before.before.before.before.before in
     let latest = cycle.before in
     let s = latest.before.before.before in
-    let h = flow s in
-    (omega (arith, cycle.less.ensures, latest.latest-hop.ensures, latest_most (plan s) s.requires.0 s.args.q), omega (arith, s.requires.1, top_most (plan s) s.requires.0), h.count_least, h.period_most, omega (arith, kept.frames-if.ensures, kept_most latest.before.hop-on.result (hops_of (plan s) s.args.f) frames.flow-frames.result (max_count * most_begun) frames.flow-frames.ensures.1))
+    let h = flow s.before.before.before.before in
+    (omega (arith, cycle.less-cycle.ensures, latest.latest_hop-latest.ensures, latest_most (plan s.before.before.before.before) s.requires.0 s.args.q), omega (arith, s.requires.1, top_most (plan s.before.before.before.before) s.requires.0), h.count_least, h.period_most, omega (arith, kept.frames_if-frames.ensures, kept_most latest.hop_on-at.result (hops_of (plan s.before.before.before.before) s.args.f) frames.flow_frames-brought.result (max_count * most_begun) frames.flow_frames-brought.ensures.1))
 
 returns : tie.Need-returns
 returns c =
@@ -72,41 +72,41 @@ returns c =
     let latest = cycle.before in
     let at = latest.before in
     let s = at.before.before in
-    let p = plan s in
+    let p = plan s.before.before.before.before in
     let T = s.args.duration in
     let q = s.args.q in
     let f = s.args.f in
     burst_is p s.requires.0 T q f s.args.k
-    (cycle_is p s.requires.0 T q f latest.latest-hop.ensures at.hop-on.ensures cycle.less.ensures)
-    (frames_is p s.requires.0 T q f s.requires.3 s.requires.4 at.hop-on.ensures (brought_is p s.requires.0 T q f over.widened.ensures frames.flow-frames.ensures.0) kept.frames-if.ensures)
-    c.instant-in.ensures
+    (cycle_is p s.requires.0 T q f latest.latest_hop-latest.ensures at.hop_on-at.ensures cycle.less-cycle.ensures)
+    (frames_is p s.requires.0 T q f s.requires.3 s.requires.4 at.hop_on-at.ensures (brought_is p s.requires.0 T q f over.widened-over.ensures frames.flow_frames-brought.ensures.0) kept.frames_if-frames.ensures)
+    c.instant_in-instant.ensures
 
 pub burst_of_spec : {M : Type 1} → statement M
 burst_of_spec =
     tie.close
     (tie.spec
-    (λ c. search rules)
+    (search rules)
     cast-length
-    (λ c. search rules)
+    (search rules)
     hop-on-requires
     latest-hop-requires
-    (λ c κs. search rules)
-    (λ c. search rules)
-    (λ c κs. search rules)
+    (search rules)
+    (search rules)
+    (search rules)
     cast-over
-    (λ c. search rules)
-    (λ c. search rules)
-    (λ c. search rules)
-    (λ c. search rules)
-    (λ c. search rules)
-    (λ c. search rules)
+    (search rules)
+    (search rules)
+    (search rules)
+    (search rules)
+    (search rules)
+    (search rules)
     flow-frames-requires
-    (λ c κs. search rules)
-    (λ c. search rules)
-    (λ c. search rules)
-    (λ c. search rules)
-    (λ c. search rules)
-    (λ c. search rules)
-    (λ c. search rules)
+    (search rules)
+    (search rules)
+    (search rules)
+    (search rules)
+    (search rules)
+    (search rules)
+    (search rules)
     instant-in-requires
     returns)

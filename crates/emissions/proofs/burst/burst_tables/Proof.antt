@@ -21,31 +21,31 @@ plan s =
     let a = s.args in
     plan_by a.guard a.top (clock_of a.clock) a.rates.now a.blockings.now a.extras.now a.periods.now a.counts.now a.lengths.now a.jitters.now a.hops.now a.routes.now
 
-valid : (c : tie.Else1) → valid_plan (plan c.before.before) ≡ true
-valid c = sym c.before.valid-tables.ensures ∙ not-false _ c.if1.false
+valid : (c : tie.Else-not-valid_tables) → valid_plan (plan c.before.before) ≡ true
+valid c = sym c.valid_tables.ensures ∙ c.if-not-valid_tables.false
 
-ranged : (c : tie.Else2) → (let s = c.before.before.before.before in within 1 (plan s).top s.args.duration ≡ true)
-ranged c = sym c.before.between.ensures ∙ not-false _ c.if2.false
+ranged : (c : tie.Else-not-between) → (let s = c.before.before.before.before in within 1 (plan s).top s.args.duration ≡ true)
+ranged c = sym c.between.ensures ∙ c.if-not-between.false
 
-ported : (c : tie.Else3) → port_ok c.before.before.before.before.before.before.args.port ≡ true
-ported c = sym c.before.between2.ensures ∙ not-false _ c.if3.false
+ported : (c : tie.Else-not-between-2) → port_ok c.args.port ≡ true
+ported c = sym c.between-2.ensures ∙ c.if3.false
 
 -- past the four tests
-module _ (c : tie.Else4) where
-  abbrev third : tie.Else3
+module _ (c : tie.Else-not-between-3) where
+  abbrev third : tie.Else-not-between-2
   third = c.before.before
 
-  abbrev second : tie.Else2
+  abbrev second : tie.Else-not-between
   second = third.before.before
 
-  abbrev first : tie.Else1
+  abbrev first : tie.Else-not-valid_tables
   first = second.before.before
 
   abbrev begin : tie.Start
   begin = first.before.before
 
   numbered : flow_ok begin.args.flow ≡ true
-  numbered = sym c.before.between3.ensures ∙ not-false _ c.if4.false
+  numbered = sym c.between-3.ensures ∙ c.if4.false
 
   low : 1 ≤ begin.args.flow
   low = within_low _ _ _ numbered
@@ -53,27 +53,27 @@ module _ (c : tie.Else4) where
   high : begin.args.flow ≤ 256
   high = within_high _ _ _ numbered
 
-returns : tie.Need-returns
+returns : tie.Need-returns-then-not-valid_tables
 returns c =
     let s = c.before.before in
     let a = s.args in
-    sym (burst-none (plan s) a.duration a.port a.flow a.k (sym c.before.valid-tables.ensures ∙ not-true _ c.if1.true))
+    sym (burst-none (plan s) a.duration a.port a.flow a.k (sym c.valid_tables.ensures ∙ c.if-not-valid_tables.true))
 
-returns_2 : tie.Need-returns-2
+returns_2 : tie.Need-returns-then-not-between
 returns_2 c =
     let at = c.before.before in
     let s = at.before.before in
     let a = s.args in
-    sym (burst_out (plan s) a.duration a.port a.flow a.k (valid at) (sym c.before.between.ensures ∙ not-true _ c.if2.true))
+    sym (burst_out (plan s) a.duration a.port a.flow a.k (valid at) (sym c.between.ensures ∙ c.if-not-between.true))
 
-returns_3 : tie.Need-returns-3
+returns_3 : tie.Need-returns-then-not-between-2
 returns_3 c =
     let at = c.before.before in
     let s = at.before.before.before.before in
     let a = s.args in
-    sym (burst-port (plan s) a.duration a.port a.flow a.k (valid at.before.before) (ranged at) (sym c.before.between2.ensures ∙ not-true _ c.if3.true))
+    sym (burst-port (plan s) a.duration a.port a.flow a.k (valid at.before.before) (ranged at) (sym c.between-2.ensures ∙ c.if3.true))
 
-returns-4 : tie.Need-returns-4
+returns-4 : tie.Need-returns-then-not-between-3
 returns-4 c =
     let at = c.before.before in
     let e = at.before.before in
@@ -81,63 +81,63 @@ returns-4 c =
     let a = s.args in
     sym
     (burst_absent (plan s) a.duration a.port a.flow a.k (valid e.before.before) (ranged e) (ported at)
-    (ap (λ (b : Bool). b && ltb 0 (period_of (plan s) (a.flow - 1))) (sym c.before.between3.ensures ∙ not-true _ c.if4.true)))
+    (ap (λ (b : Bool). b && ltb 0 (period_of (plan s) (a.flow - 1))) (sym c.between-3.ensures ∙ c.if4.true)))
 
-sub-f : tie.Need-overflow-sub-f
+sub-f : tie.Need-overflow_sub-f
 sub-f c = omega (arith, low c)
 
-mul-if5 : tie.Need-overflow-mul-if5
+mul-if5 : tie.Need-offset_bounds-periods-f
 mul-if5 c = omega (arith, low c, high c)
 
-element-copy-out-if5 : tie.Need-element-copy-out-if5
+element-copy-out-if5 : tie.Need-bounds-periods-f
 element-copy-out-if5 c = omega (arith, low c, high c)
 
-returns-5 : tie.Need-returns-5
+returns-5 : tie.Need-returns-then-periods-f-eq0
 returns-5 c =
     let at = c.before.before in
-    let s = begin at in
+    let s = begin at.before in
     let a = s.args in
     sym
-    (burst_absent (plan s) a.duration a.port a.flow a.k (valid (first at)) (ranged (second at)) (ported (third at))
-    (ap₂ (λ (b d : Bool). b && d) (numbered at) (le-ltb 0 (period_of (plan s) (a.flow - 1)) (omega (arith, c.if5.true)))))
+    (burst_absent (plan s) a.duration a.port a.flow a.k (valid (first at.before)) (ranged (second at.before)) (ported (third at))
+    (ap₂ (λ (b d : Bool). b && d) (numbered at) (le-ltb 0 (period_of (plan s) (a.flow - 1)) (omega (arith, c.if-periods-f-eq0.true)))))
 
 -- the flow is there
-there : (c : tie.Else5) → 0 < period_of (plan (begin c.before.before)) ((begin c.before.before).args.flow - 1)
-there c = omega (arith, c.if5.false)
+there : (c : tie.Else-periods-f-eq0) → 0 < period_of (plan (begin c.before.before.before)) ((begin c.before.before.before).args.flow - 1)
+there c = omega (arith, c.if-periods-f-eq0.false)
 
-sub-burst-of : tie.Need-overflow-sub-burst-of
+sub-burst-of : tie.Need-overflow_sub-port
 sub-burst-of c =
     let at = c.before.before in
-    omega (arith, within_low 1 64 (begin at).args.port (ported (third at)))
+    omega (arith, within_low 1 64 (begin at.before).args.port (ported (third at)))
 
-burst-of-requires : tie.Need-burst-of-requires
+burst-of-requires : tie.Need-burst_of-requires
 burst-of-requires c κs =
     let at = c.before.before in
     let p = ported (third at) in
     (valid (first at), within_high _ _ _ (ranged (second at)), omega (arith, within_low 1 64 (begin at).args.port p, within_high 1 64 (begin at).args.port p), omega (arith, low at, high at), there c)
 
-returns-6 : tie.Need-returns-6
+returns-6 : tie.Need-returns
 returns-6 c =
     let e = c.before in
     let at = e.before.before in
-    let s = begin at in
+    let s = begin at.before in
     let a = s.args in
-    c.burst-of.ensures
+    c.burst_of.ensures
     ∙ sym
-    (burst-found (plan s) a.duration a.port a.flow a.k (valid (first at)) (ranged (second at)) (ported (third at))
+    (burst-found (plan s) a.duration a.port a.flow a.k (valid (first at.before)) (ranged (second at.before)) (ported (third at))
     (ap₂ (λ (b d : Bool). b && d) (numbered at) (lt-ltb 0 (period_of (plan s) (a.flow - 1)) (there e))))
 
 pub burst_tables_spec : {M : Type 1} → statement M
 burst_tables_spec =
     tie.close
     (tie.spec
-    (λ c κs. search rules)
+    (search rules)
     returns
-    (λ c κs. search rules)
+    (search rules)
     returns_2
-    (λ c κs. search rules)
+    (search rules)
     returns_3
-    (λ c κs. search rules)
+    (search rules)
     returns-4
     sub-f
     mul-if5

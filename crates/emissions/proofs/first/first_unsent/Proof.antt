@@ -14,12 +14,12 @@ use Rattle.emissions.specs.laws.Over.{NoneBefore, none_yet, none_in, first_is, f
 use Rattle.emissions.proofs.first.first_unsent.Statement.{statement}
 use Rattle.emissions.proofs.first.first_unsent.Tie as tie
 
-abbrev invariant-loop : tie.invariant-loop
+abbrev invariant-loop : tie.invariant-loop-c
 invariant-loop guard top clock rates blockings extras periods counts lengths jitters hops routes duration q latest c₀ c =
     (c ≤ suc latest)
     × NoneBefore (plan_by guard top (clock_of clock) rates blockings extras periods counts lengths jitters hops routes) duration q c
 
-abbrev decreases-loop : tie.decreases-loop
+abbrev decreases-loop : tie.decreases-loop-c
 decreases-loop guard top clock rates blockings extras periods counts lengths jitters hops routes duration q latest c₀ c = suc latest - c
 
 -- the plan of the tables
@@ -32,36 +32,36 @@ plan s =
 short : (s : tie.Start invariant-loop decreases-loop) → s.args.latest ≤ max_hops
 short s = rw s.requires.3 (latest_within (plan s) s.requires.0 0 s.args.q)
 
-loop-holds : tie.Need-loop-init invariant-loop decreases-loop
+loop-holds : tie.Need-loop-c-init invariant-loop decreases-loop
 loop-holds c = (omega arith, none_yet (plan c) c.args.duration c.args.q)
 
-overrun-in-requires : tie.Need-overrun-in-requires invariant-loop decreases-loop
-overrun-in-requires c κs = c.before.before.requires
+overrun-in-requires : tie.Need-overrun_in-over-requires invariant-loop decreases-loop
+overrun-in-requires c κs = c.requires
 
-returns : tie.Need-returns invariant-loop decreases-loop
+returns : tie.Need-returns-then-slot-lt-PORTS invariant-loop decreases-loop
 returns c =
     let turn = c.before.before in
     let at = turn.before in
     let s = at.before in
-    first_is (plan s) s.args.duration s.args.q at.loop.c c.before.overrun-in.result.slot (omega (arith, turn.loop-test.true, s.requires.3)) at.loop.invariant.1 c.before.overrun-in.ensures.0 c.if1.true
+    first_is (plan s) s.args.duration s.args.q at.loop-c.c c.overrun_in-over.result.slot (omega (arith, turn.loop-c-test.true, s.requires.3)) at.loop-c.invariant.1 c.overrun_in-over.ensures.0 c.if-slot-lt-PORTS.true
 
-add-c : tie.Need-overflow-add-c invariant-loop decreases-loop
+add-c : tie.Need-overflow_add-c invariant-loop decreases-loop
 add-c c =
     let turn = c.before.before in
-    omega (arith, turn.loop-test.true, short turn.before.before)
+    omega (arith, turn.loop-c-test.true, short turn.before.before)
 
-loop-again : tie.Need-loop-preserved invariant-loop decreases-loop
+loop-again : tie.Need-loop-c-preserved invariant-loop decreases-loop
 loop-again c =
     let turn = c.before.before in
     let at = turn.before in
     let s = at.before in
-    (omega (arith, turn.loop-test.true), below_more _ _ at.loop.invariant.1 (none_in (plan s) s.args.duration s.args.q at.loop.c c.before.overrun-in.result.slot c.before.overrun-in.ensures.0 (λ l. omega (arith, l, c.if1.false))))
+    (omega (arith, turn.loop-c-test.true), below_more _ _ at.loop-c.invariant.1 (none_in (plan s) s.args.duration s.args.q at.loop-c.c c.overrun_in-over.result.slot c.overrun_in-over.ensures.0 (λ l. omega (arith, l, c.if-slot-lt-PORTS.false))))
 
-returns_2 : tie.Need-returns-2 invariant-loop decreases-loop
+returns_2 : tie.Need-returns invariant-loop decreases-loop
 returns_2 c =
     let at = c.before in
     let s = at.before in
-    first_last (plan s) s.args.duration s.args.q at.loop.c (omega (arith, c.loop-test.false, at.loop.invariant.0, s.requires.3)) at.loop.invariant.1
+    first_last (plan s) s.args.duration s.args.q at.loop-c.c (omega (arith, c.loop-c-test.false, at.loop-c.invariant.0, s.requires.3)) at.loop-c.invariant.1
 
 pub first_unsent_spec : {M : Type 1} → statement M
 first_unsent_spec =
@@ -73,6 +73,6 @@ first_unsent_spec =
     overrun-in-requires
     returns
     add-c
-    (λ c. search rules)
+    (search rules)
     loop-again
     returns_2)

@@ -10,18 +10,22 @@ use Rattle.cqf.specs.laws.Begun.{begun_most}
 use Rattle.emissions.proofs.frames.flow_frames.Statement.{statement}
 use Rattle.emissions.proofs.frames.flow_frames.Tie as tie
 
-most : (c : tie.After-periods-begun) → c.before.args.count * c.periods-begun.result ≤ max_count * most_begun
+most : (c : tie.After-periods_begun-begun) → c.args.count * c.periods_begun-begun.result ≤ max_count * most_begun
 most c =
     let s = c.before in
-    let few : c.periods-begun.result ≤ most_begun =
-    rw c.periods-begun.ensures (begun_most s.args.widened s.args.jitter s.requires.4 s.requires.3 s.requires.0) in
+    let few : c.periods_begun-begun.result ≤ most_begun =
+    rw c.periods_begun-begun.ensures (begun_most s.args.widened s.args.jitter s.requires.4 s.requires.3 s.requires.0) in
     mul-le-mul s.requires.2 few
 
-mul-result : tie.Need-overflow-mul-result
+mul-result : tie.Need-overflow_mul-result
 mul-result c = omega (arith, most c)
 
 returns : tie.Need-returns
-returns c = (ap (λ (n : ℕ). c.before.args.count * n) c.periods-begun.ensures, most c)
+returns c = (ap (λ (n : ℕ). c.args.count * n) c.periods_begun-begun.ensures, most c)
 
 pub flow_frames_spec : {M : Type 1} → statement M
-flow_frames_spec = tie.close (tie.spec (λ c κs. search rules) (λ c. search rules) mul-result returns)
+flow_frames_spec = tie.close (tie.spec
+    (search rules)
+    (search rules)
+    mul-result
+    returns)

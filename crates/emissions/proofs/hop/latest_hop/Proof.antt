@@ -11,37 +11,37 @@ use Rattle.emissions.specs.laws.Hops.{late, latest_of, latest_next}
 use Rattle.emissions.proofs.hop.latest_hop.Statement.{statement}
 use Rattle.emissions.proofs.hop.latest_hop.Tie as tie
 
-abbrev invariant-loop : tie.invariant-loop
+abbrev invariant-loop : tie.invariant-loop-f
 invariant-loop hops routes q latest₀ f₀ latest f = (f ≤ flow_slots) × (latest ≡ max_to f (late (routes_only hops routes) q))
 
-abbrev decreases-loop : tie.decreases-loop
+abbrev decreases-loop : tie.decreases-loop-f
 decreases-loop hops routes q latest₀ f₀ latest f = flow_slots - f
 
 -- the route of the flow at hand is no longer than a route can be
-hops_within : (c : tie.In-loop invariant-loop decreases-loop) → get_or c.before.before.args.hops.now c.before.loop.f 0 ≤ max_hops
-hops_within c = c.before.before.requires.1 c.before.loop.f c.loop-test.true
+hops_within : (c : tie.In-loop-f invariant-loop decreases-loop) → get_or c.args.hops.now c.loop-f.f 0 ≤ max_hops
+hops_within c = c.requires.1 c.loop-f.f c.loop-f-test.true
 
-loop-holds : tie.Need-loop-init invariant-loop decreases-loop
+loop-holds : tie.Need-loop-f-init invariant-loop decreases-loop
 unfolding max_to
 loop-holds c = search rules
 
-cast-late-on : tie.Need-overflow-cast-late-on invariant-loop decreases-loop
-cast-late-on c = omega (arith, hops_within c.before)
+cast-late-on : tie.Need-overflow_cast-hops invariant-loop decreases-loop
+cast-late-on c = omega (arith, hops_within c.before.before)
 
-late-on-requires : tie.Need-late-on-requires invariant-loop decreases-loop
-late-on-requires c κs = (omega (arith, hops_within c.before), c.before.before.before.requires.0)
+late-on-requires : tie.Need-late_on-requires invariant-loop decreases-loop
+late-on-requires c κs = (omega (arith, hops_within c.before.before), c.requires.0)
 
-loop-again : tie.Need-loop-preserved invariant-loop decreases-loop
+loop-again : tie.Need-loop-f-preserved invariant-loop decreases-loop
 loop-again c =
     let l = c.before.before.before in
-    let a = l.before.before.args in
-    (omega arith, c.later.ensures ∙ latest_next (routes_only a.hops.now a.routes.now) a.q l.before.loop.f l.before.loop.invariant.1 c.before.late-on.ensures)
+    let a = l.args in
+    (omega arith, c.later-latest.ensures ∙ latest_next (routes_only a.hops.now a.routes.now) a.q l.loop-f.f l.loop-f.invariant.1 c.late_on.ensures)
 
 returns : tie.Need-returns invariant-loop decreases-loop
 returns c =
-    let a = c.before.before.args in
-    let all : c.before.loop.f ≡ flow_slots = omega arith in
-    rw all at c.before.loop.invariant.1 ∙ sym (latest_of (routes_only a.hops.now a.routes.now) a.q)
+    let a = c.args in
+    let all : c.loop-f.f ≡ flow_slots = omega arith in
+    rw all at c.loop-f.invariant.1 ∙ sym (latest_of (routes_only a.hops.now a.routes.now) a.q)
 
 pub latest_hop_spec : {M : Type 1} → statement M
 latest_hop_spec =
@@ -50,12 +50,12 @@ latest_hop_spec =
     invariant-loop
     decreases-loop
     loop-holds
-    (λ c. search rules)
-    (λ c. search rules)
+    (search rules)
+    (search rules)
     cast-late-on
     late-on-requires
-    (λ c κs. search rules)
-    (λ c. search rules)
-    (λ c. search rules)
+    (search rules)
+    (search rules)
+    (search rules)
     loop-again
     returns)

@@ -20,13 +20,13 @@ use Rattle.emissions.specs.laws.Queued.{Sums, sums_none, sums_skip, sums_add, su
 use Rattle.emissions.proofs.queued.cycle_bits.Statement.{statement}
 use Rattle.emissions.proofs.queued.cycle_bits.Tie as tie
 
-abbrev invariant-loop : tie.invariant-loop
+abbrev invariant-loop : tie.invariant-loop-f
 invariant-loop guard top rates blockings extras periods counts lengths jitters hops routes duration q latest c bits₀ over f₀ bits f =
     (f ≤ flow_slots)
     × (length bits ≡ port_slots)
     × Sums (columns equal_clocks [] [] extras periods counts lengths jitters hops routes) over q latest c f bits
 
-abbrev decreases-loop : tie.decreases-loop
+abbrev decreases-loop : tie.decreases-loop-f
 decreases-loop guard top rates blockings extras periods counts lengths jitters hops routes duration q latest c bits₀ over f₀ bits f =
     flow_slots - f
 
@@ -40,120 +40,120 @@ fits : (s : tie.Start invariant-loop decreases-loop) → widened_by (plan s).clo
 fits s = over_fits (plan s) s.requires.0 s.args.duration s.requires.1
 
 -- the flow at hand, and the port at which its burst is queued
-module _ (c : tie.After-queued-port invariant-loop decreases-loop) where
-  abbrev turn : tie.In-loop invariant-loop decreases-loop
-  turn = c.before.before
+module _ (c : tie.After-queued_port-n invariant-loop decreases-loop) where
+  abbrev turn : tie.In-loop-f invariant-loop decreases-loop
+  turn = c.before.before.before
 
   abbrev begin : tie.Start invariant-loop decreases-loop
   begin = turn.before.before.before
 
   abbrev flow : ℕ
-  flow = turn.before.loop.f
+  flow = turn.loop-f.f
 
-  within : c.queued-port.result ≤ port_slots
+  within : c.queued_port-n.result ≤ port_slots
   within =
       let a = begin.args in
-      rw c.queued-port.ensures (port-within (plan begin) begin.pre.0 a.q a.latest a.c flow turn.loop-test.taken)
+      rw c.queued_port-n.ensures (port-within (plan begin) begin.requires.0 a.q a.latest a.c flow turn.loop-f-test.true)
 
-  held : (c.queued-port.result ≡ 0 → ⊥) → Held (plan begin) flow
+  held : (c.queued_port-n.result ≡ 0 → ⊥) → Held (plan begin) flow
   held some =
       let a = begin.args in
-      port_held (plan begin) begin.pre.0 a.q a.latest a.c flow turn.loop-test.taken (omega (arith, c.queued-port.ensures, some))
+      port_held (plan begin) begin.requires.0 a.q a.latest a.c flow turn.loop-f-test.true (omega (arith, c.queued_port-n.ensures, some))
 
-  over_most : turn.before.before.widened.result ≤ most_widened
-  over_most = omega (arith, turn.before.before.widened.ensures, fits begin)
+  over_most : turn.widened-over.result ≤ most_widened
+  over_most = omega (arith, turn.widened-over.ensures, fits begin)
 
-abbrev asked : tie.After-flow-bits invariant-loop decreases-loop → tie.After-queued-port invariant-loop decreases-loop
-asked c = c.before.before.before.before.before.before.before
+abbrev asked : tie.After-flow_bits-more invariant-loop decreases-loop → tie.After-queued_port-n invariant-loop decreases-loop
+asked c = c.before.before.before.before.before.before.before.before.before.before.before.before
 
 -- the slot of that port
-in_slots : (c : tie.After-queued-port invariant-loop decreases-loop) → (c.queued-port.result ≡ 0 → ⊥) → c.queued-port.result - 1 < port_slots
+in_slots : (c : tie.After-queued_port-n invariant-loop decreases-loop) → (c.queued_port-n.result ≡ 0 → ⊥) → c.queued_port-n.result - 1 < port_slots
 in_slots c some = omega (arith, within c, some)
 
 -- its number is that of the burst's port
 port_is
-    : (c : tie.After-queued-port invariant-loop decreases-loop)
-    → (c.queued-port.result ≡ 0 → ⊥)
-    → (let a = (begin c).args in queued_port (route_of (plan (begin c)) (flow c)) a.q a.latest a.c ≡ suc (c.queued-port.result - 1))
-port_is c some = omega (arith, c.queued-port.ensures, some)
+    : (c : tie.After-queued_port-n invariant-loop decreases-loop)
+    → (c.queued_port-n.result ≡ 0 → ⊥)
+    → (let a = (begin c).args in queued_port (route_of (plan (begin c)) (flow c)) a.q a.latest a.c ≡ suc (c.queued_port-n.result - 1))
+port_is c some = omega (arith, c.queued_port-n.ensures, some)
 
-cast-widened : tie.Need-overflow-cast-widened invariant-loop decreases-loop
+cast-widened : tie.Need-overflow_cast-duration invariant-loop decreases-loop
 cast-widened c = omega (arith, c.requires.1, top_most (plan c) c.requires.0)
 
-cast-over : tie.Need-overflow-cast-over invariant-loop decreases-loop
-cast-over c = omega (arith, c.widened.ensures, fits c.before)
+cast-over : tie.Need-overflow_cast-over invariant-loop decreases-loop
+cast-over c = omega (arith, c.widened-over.ensures, fits c.before)
 
-loop-holds : tie.Need-loop-init invariant-loop decreases-loop
+loop-holds : tie.Need-loop-f-init invariant-loop decreases-loop
 loop-holds c =
     let s = c.before in
-    (omega arith, s.requires.4, sums_none (plan s) c.widened.result s.args.q s.args.latest s.args.c s.args.bits.now s.requires.5)
+    (omega arith, s.requires.4, sums_none (plan s) c.widened-over.result s.args.q s.args.latest s.args.c s.args.bits.now s.requires.5)
 
-cast-queued-port : tie.Need-overflow-cast-queued-port invariant-loop decreases-loop
+cast-queued-port : tie.Need-overflow_cast-hops invariant-loop decreases-loop
 cast-queued-port c =
     let s = c.before.before.before.before in
-    omega (arith, hops_within (plan s) s.requires.0 c.before.before.loop.f c.before.loop-test.true)
+    omega (arith, hops_within (plan s.before) s.requires.0 c.loop-f.f c.loop-f-test.true)
 
-queued-port-requires : tie.Need-queued-port-requires invariant-loop decreases-loop
+queued-port-requires : tie.Need-queued_port-n-requires invariant-loop decreases-loop
 queued-port-requires c κs =
     let s = c.before.before.before.before in
-    (omega (arith, hops_within (plan s) s.requires.0 c.before.before.loop.f c.before.loop-test.true, c.before.loop-test.true), s.requires.2)
+    (omega (arith, hops_within (plan s.before) s.requires.0 c.loop-f.f c.loop-f-test.true, c.loop-f-test.true), s.requires.2)
 
-sub-r : tie.Need-overflow-sub-r invariant-loop decreases-loop
-sub-r c = omega (arith, c.if1.true)
+sub-r : tie.Need-overflow_sub-r invariant-loop decreases-loop
+sub-r c = omega (arith, c.if-n-ne0.true)
 
-element-copy-out-flow-bits-5 : tie.Need-element-copy-out-flow-bits-5 invariant-loop decreases-loop
+element-copy-out-flow-bits-5 : tie.Need-bounds-extras-r invariant-loop decreases-loop
 element-copy-out-flow-bits-5 c =
     let then = c.before.before.before.before in
-    in_slots then.before then.if1.true
+    in_slots then.before.before.before.before.before.before then.if-n-ne0.true
 
-flow-bits-requires : tie.Need-flow-bits-requires invariant-loop decreases-loop
+flow-bits-requires : tie.Need-flow_bits-more-requires invariant-loop decreases-loop
 flow-bits-requires c κs =
     let then = c.before.before.before.before.before in
     let at = then.before in
-    let h = held at then.if1.true in
-    (h.period_least, h.period_most, h.count_most, h.bytes_most, h.jitter_most, extra_most (plan (begin at)) (begin at).requires.0 _ (in_slots at then.if1.true), over_most at)
+    let h = held at.before.before.before.before.before then.if-n-ne0.true in
+    (h.period_least, h.period_most, h.count_most, h.bytes_most, h.jitter_most, extra_most (plan (begin at.before.before.before.before.before)) (begin at.before.before.before.before.before).requires.0 _ (in_slots at.before.before.before.before.before then.if-n-ne0.true), over_most at.before.before.before.before.before)
 
-element-copy-out-bits : tie.Need-element-copy-out-bits invariant-loop decreases-loop
-element-copy-out-bits c = in_slots (asked c) c.before.before.before.before.before.before.if1.true
+element-copy-out-bits : tie.Need-bounds-bits-r invariant-loop decreases-loop
+element-copy-out-bits c = in_slots (asked c.before) c.if-n-ne0.true
 
-add-bits : tie.Need-overflow-add-bits invariant-loop decreases-loop
+add-bits : tie.Need-overflow_add-bits invariant-loop decreases-loop
 add-bits c =
     let then = c.before.before.before.before.before.before.before in
     let at = then.before in
-    let s = begin at in
+    let s = begin at.before.before.before.before.before.before in
     let a = s.args in
-    let some = then.if1.true in
-    let slot = in_slots at some in
+    let some = then.if-n-ne0.true in
+    let slot = in_slots at.before.before.before.before.before.before some in
     omega
-    (arith, (turn at).before.loop.invariant.2 (at.queued-port.result - 1) slot, c.before.flow-bits.ensures, next_most (plan s) s.pre.0 a.q a.latest a.c (turn at).before.before.widened.result (over_most at) (at.queued-port.result - 1) slot (flow at) (turn at).loop-test.true (port_is at some))
+    (arith, (turn at.before.before.before.before.before.before).loop-f.invariant.2 (at.queued_port-n.result - 1) slot, c.flow_bits-more.ensures, next_most (plan s) s.requires.0 a.q a.latest a.c (turn at.before.before.before.before.before.before).widened-over.result (over_most at.before.before.before.before.before.before) (at.queued_port-n.result - 1) slot (flow at) (turn at).loop-f-test.true (port_is at some))
 
-element-write-bits : tie.Need-element-write-bits invariant-loop decreases-loop
-element-write-bits c = in_slots (asked c.before) c.before.before.before.before.before.before.before.if1.true
+element-write-bits : tie.Need-bounds-bits-r-then-n-ne0 invariant-loop decreases-loop
+element-write-bits c = in_slots (asked c.before.before) c.if-n-ne0.true
 
-loop-again : tie.Need-loop-preserved invariant-loop decreases-loop
+loop-again : tie.Need-loop-f-preserved invariant-loop decreases-loop
 loop-again c =
     let at = c.before in
     let a = (begin at).args in
     let p = plan (begin at) in
-    let over = (turn at).before.before.widened.result in
-    let bits = (turn at).before.loop.bits in
-    let inv = (turn at).before.loop.invariant in
+    let over = (turn at).widened-over.result in
+    let bits = (turn at).loop-f.bits in
+    let inv = (turn at).loop-f.invariant in
     ⊎_elim
     (λ w.
-    let slot = in_slots at w.0.taken in (
+    let slot = in_slots at w.0.true in (
       omega arith,
       rw w.8 (simp length-set inv.1),
-      rw w.8 (sums_add p over a.q a.latest a.c (flow at) bits (at.queued-port.result - 1) w.6.result (omega (arith, slot, inv.1)) slot (port_is at w.0.taken) w.6.ensures inv.2),
+      rw w.8 (sums_add p over a.q a.latest a.c (flow at) bits (at.queued_port-n.result - 1) w.6.result (omega (arith, slot, inv.1)) slot (port_is at w.0.true) w.6.ensures inv.2),
     ))
     (λ w.
-    (omega arith, rw w.1 inv.1, rw w.1 (sums_skip p over a.q a.latest a.c (flow at) bits (sym at.queued-port.ensures ∙ w.0.left) inv.2)))
-    c.if1.branch
+    (omega arith, rw w.1 inv.1, rw w.1 (sums_skip p over a.q a.latest a.c (flow at) bits (sym at.queued_port-n.ensures ∙ w.0.left) inv.2)))
+    c.if-n-ne0.branch
 
 returns : tie.Need-returns invariant-loop decreases-loop
 returns c =
     let s = c.before.before.before in
-    let all : c.before.loop.f ≡ flow_slots = omega arith in
-    sums_all (plan s) s.requires.0 s.args.duration s.args.q s.args.c c.before.loop.bits c.before.before.widened.ensures s.requires.3 (rw all at c.before.loop.invariant.2)
+    let all : c.loop-f.f ≡ flow_slots = omega arith in
+    sums_all (plan s) s.requires.0 s.args.duration s.args.q s.args.c c.loop-f.bits c.widened-over.ensures s.requires.3 (rw all at c.loop-f.invariant.2)
 
 pub cycle_bits_spec : {M : Type 1} → statement M
 cycle_bits_spec =
@@ -162,31 +162,31 @@ cycle_bits_spec =
     invariant-loop
     decreases-loop
     cast-widened
-    (λ c κs. search rules)
+    (search rules)
     cast-over
     loop-holds
-    (λ c. search rules)
-    (λ c. search rules)
+    (search rules)
+    (search rules)
     cast-queued-port
     queued-port-requires
-    (λ c. search rules)
+    (search rules)
     sub-r
-    (λ c. search rules)
-    (λ c. search rules)
-    (λ c. search rules)
-    (λ c. search rules)
-    (λ c. search rules)
-    (λ c. search rules)
-    (λ c. search rules)
-    (λ c. search rules)
+    (search rules)
+    (search rules)
+    (search rules)
+    (search rules)
+    (search rules)
+    (search rules)
+    (search rules)
+    (search rules)
     element-copy-out-flow-bits-5
     flow-bits-requires
-    (λ c. search rules)
+    (search rules)
     element-copy-out-bits
     add-bits
-    (λ c. search rules)
+    (search rules)
     element-write-bits
-    (λ c. search rules)
-    (λ c. search rules)
+    (search rules)
+    (search rules)
     loop-again
     returns)

@@ -11,47 +11,47 @@ use Rattle.emissions.specs.laws.Hops.{port-apart, port-before, port-found}
 use Rattle.emissions.proofs.queued.queued_port.Statement.{statement}
 use Rattle.emissions.proofs.queued.queued_port.Tie as tie
 
-returns : tie.Need-returns
+returns : tie.Need-returns-then-hops-at
 returns c =
     let s = c.before.before in
     let a = s.args in
-    let e = c.before.hop-on.ensures in
-    sym (port-apart (sublist a.routes.now a.base a.hops) a.q a.latest a.c (λ l. omega (arith, e, l, sublist_length a.routes.now a.base a.hops, c.if1.true)))
+    let e = c.hop_on-at.ensures in
+    sym (port-apart (sublist a.routes.now a.base a.hops) a.q a.latest a.c (λ l. omega (arith, e, l, sublist_length a.routes.now a.base a.hops, c.if-hops-at.true)))
 
 -- past the first test: the burst's own cycle
 own_is
-    : (c : tie.After-less)
-    → (let a = c.before.before.before.args in
-    c.less.result ≡ a.latest - hop_on (sublist a.routes.now a.base a.hops) a.q)
+    : (c : tie.After-less-own)
+    → (let a = c.args in
+    c.less-own.result ≡ a.latest - hop_on (sublist a.routes.now a.base a.hops) a.q)
 own_is c =
-    let a = c.before.before.before.args in
-    c.less.ensures ∙ ap (λ (n : ℕ). a.latest - n) c.before.before.hop-on.ensures
+    let a = c.args in
+    c.less-own.ensures ∙ ap (λ (n : ℕ). a.latest - n) c.hop_on-at.ensures
 
-returns_2 : tie.Need-returns-2
+returns_2 : tie.Need-returns-then-c-own
 returns_2 c =
-    let a = c.before.before.before.before.args in
-    sym (port-before (sublist a.routes.now a.base a.hops) a.q a.latest a.c (omega (arith, own_is c.before, c.if2.true)))
+    let a = c.args in
+    sym (port-before (sublist a.routes.now a.base a.hops) a.q a.latest a.c (omega (arith, own_is c.before, c.if-c-own.true)))
 
-returns_3 : tie.Need-returns-3
+returns_3 : tie.Need-returns
 returns_3 c =
     let less = c.before.before in
     let at = less.before.before in
-    let a = at.before.args in
+    let a = at.args in
     let route = sublist a.routes.now a.base a.hops in
     let long = sublist_length a.routes.now a.base a.hops in
-    c.port-at.ensures
+    c.port_at.ensures
     ∙ ap (λ (i : ℕ). get_or route i 0) (omega (arith, own_is less))
-    ∙ sym (port-found route a.q a.latest a.c (omega (arith, at.hop-on.ensures, long, less.before.if1.false)) (omega (arith, own_is less, c.before.if2.false)))
+    ∙ sym (port-found route a.q a.latest a.c (omega (arith, at.hop_on-at.ensures, long, less.if-hops-at.false)) (omega (arith, own_is less, c.if-c-own.false)))
 
 pub queued_port_spec : {M : Type 1} → statement M
 queued_port_spec =
     tie.close
     (tie.spec
-    (λ c κs. search rules)
+    (search rules)
     returns
-    (λ c κs. search rules)
+    (search rules)
     returns_2
-    (λ c. search rules)
-    (λ c. search rules)
-    (λ c κs. search rules)
+    (search rules)
+    (search rules)
+    (search rules)
     returns_3)

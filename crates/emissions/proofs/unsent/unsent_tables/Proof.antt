@@ -24,23 +24,23 @@ plan s =
     plan_by a.guard a.top (clock_of a.clock) a.rates.now a.blockings.now a.extras.now a.periods.now a.counts.now a.lengths.now a.jitters.now a.hops.now a.routes.now
 
 -- what the plain question said, where it refused the duration
-module _ (c : tie.After-known-told) where
+module _ (c : tie.In-Failing) where
   abbrev begin : tie.Start
-  begin = c.before.before.before.before
+  begin = c.before.before
 
   abbrev port : ℕ
-  port = c.before.verdict.given.0.0
+  port = c.verdict.given.0.0
 
-  said : refusal not_admissible (port ∷ c.before.verdict.given.0.1.0 ∷ []) ≡ check_answer (plan begin) begin.args.duration
-  said = ap check_of (sym c.before.verdict.given.1) ∙ c.before.before.before.check-tables.ensures
+  said : refusal not_admissible (port ∷ c.verdict.given.0.1.0 ∷ []) ≡ check_answer (plan begin) begin.args.duration
+  said = ap check_of (sym c.verdict.given.1) ∙ c.check_tables-verdict.ensures
 
   at : Refused (plan begin) begin.args.duration port
   at = refused (plan begin) begin.args.duration port _ said
 
-sub-unsent-of : tie.Need-overflow-sub-unsent-of
+sub-unsent-of : tie.Need-overflow_sub-port
 sub-unsent-of c = omega (arith, (at c).lowest, failing-least (plan (begin c)) (begin c).args.duration)
 
-unsent-of-requires : tie.Need-unsent-of-requires
+unsent-of-requires : tie.Need-unsent_of-requires
 unsent-of-requires c κs =
     let p = plan (begin c) in
     let T = (begin c).args.duration in
@@ -48,38 +48,38 @@ unsent-of-requires c κs =
     let slot = failing_slot p T r.bad in
     (r.valid, within_low 1 p.top T r.ranged, within_high 1 p.top T r.ranged, rw r.lowest slot.0, rw r.lowest slot.1)
 
-returns : tie.Need-returns
+returns : tie.Need-returns-in-NoPlan
 returns c =
-    let s = c.before.before.before in
-    unsent_told (plan s) s.args.duration _ (unsent-none (plan s) s.args.duration (ap check_of (sym c.enum_told.given.1) ∙ c.before.before.check-tables.ensures))
+    let s = c.before.before in
+    unsent_told (plan s) s.args.duration _ (unsent-none (plan s) s.args.duration (ap check_of (sym c.enum_told.given.1) ∙ c.check_tables-verdict.ensures))
 
-returns_2 : tie.Need-returns-2
+returns_2 : tie.Need-returns-in-BadDuration
 returns_2 c =
-    let s = c.before.before.before in
-    unsent_told (plan s) s.args.duration _ (unsent_out (plan s) s.args.duration (ap check_of (sym c.enum-told2.given.1) ∙ c.before.before.check-tables.ensures))
+    let s = c.before.before in
+    unsent_told (plan s) s.args.duration _ (unsent_out (plan s) s.args.duration (ap check_of (sym c.enum-told2.given.1) ∙ c.check_tables-verdict.ensures))
 
-returns_3 : tie.Need-returns-3
+returns_3 : tie.Need-returns-in-Admissible
 returns_3 c =
-    let s = c.before.before.before in
-    unsent_told (plan s) s.args.duration _ (unsent-admissible (plan s) s.args.duration (ap check_of (sym c.enum-told3.given.1) ∙ c.before.before.check-tables.ensures))
+    let s = c.before.before in
+    unsent_told (plan s) s.args.duration _ (unsent-admissible (plan s) s.args.duration (ap check_of (sym c.enum-told3.given.1) ∙ c.check_tables-verdict.ensures))
 
-returns-4 : tie.Need-returns-4
+returns-4 : tie.Need-returns-in-Failing
 returns-4 c =
     let k = c.before in
     let s = begin k in
-    unsent_told (plan s) s.args.duration _ (c.unsent-of.ensures ∙ unsent-found (plan s) s.args.duration (port k) _ (said k))
+    unsent_told (plan s) s.args.duration _ (c.unsent_of.ensures ∙ unsent-found (plan s) s.args.duration (port k) _ (said k))
 
 pub unsent_tables_spec : {M : Type 1} → statement M
 unsent_tables_spec =
     tie.close
     (tie.spec
-    (λ c κs. search rules)
-    (λ c. search rules)
-    (λ c. search rules)
-    (λ c. search rules)
-    (λ c. search rules)
+    (search rules)
+    (search rules)
+    (search rules)
+    (search rules)
+    (search rules)
     sub-unsent-of
-    (λ c. search rules)
+    (search rules)
     unsent-of-requires
     returns
     returns_2

@@ -1,7 +1,6 @@
 use mathlib.Core.Path.{◌≡◌, sym}
-use mathlib.Core.Bool.{false, and-false}
-use mathlib.Core.List.{[]}
-use Prim.Native.Nat.{◌-◌, ◌≤◌, ◌<◌}
+use mathlib.Core.Bool.{and-false}
+use Prim.Native.Nat.{◌<◌}
 use native.Mathlib.Omega.{arith}
 use lib.ListN.{get_or}
 use lib.Dec.{ltb}
@@ -9,10 +8,8 @@ use borrow.Author.Rules.{rules}
 use borrow.Author.Tests.{lt-ltb}
 use Rattle.cqf.specs.Bounded.{any_to}
 use Rattle.cqf.specs.Limits.{flow_slots}
-use Rattle.cqf.specs.Plan.{equal_clocks, present}
 use Rattle.cqf.specs.laws.Bounded.{any_to_some}
 use Rattle.cqf.specs.laws.Bounds.{any_to-next}
-use Rattle.tables.specs.Columns.{columns}
 use Rattle.tables.proofs.flows.any_present.Goals as goal
 
 pub loop-f-init : goal.loop-f-init

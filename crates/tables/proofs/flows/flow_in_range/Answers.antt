@@ -1,8 +1,6 @@
 -- `tables::flows::flow_in_range` meets its contract: each way out has decided the tests before it.
 use mathlib.Core.Path.{◌≡◌, sym, ◌∙◌}
 use mathlib.Core.Bool.{Bool, true, ◌&&◌, and-false}
-use borrow.Author.Rules.{rules}
-use borrow.Author.Tests.{not-true, not-false}
 use Rattle.tables.proofs.flows.flow_in_range.Goals as goal
 
 pub returns-then-not-period_ok : goal.returns-then-not-period_ok

@@ -1,15 +1,9 @@
 use mathlib.Core.Path.{◌≡◌, sym, ◌∙◌}
-use mathlib.Core.Bool.{true}
-use mathlib.Core.List.{[]}
-use Prim.Native.Nat.{◌-◌, ◌≤◌}
 use native.Mathlib.Omega.{arith}
 use borrow.Author.Rules.{rules}
-use borrow.Author.Tests.{not-true, not-false}
 use Rattle.cqf.specs.Bounded.{all_to}
 use Rattle.cqf.specs.Limits.{flow_slots}
-use Rattle.cqf.specs.Plan.{equal_clocks, valid_flow}
 use Rattle.cqf.specs.laws.Bounds.{all_to-next, all_to_false}
-use Rattle.tables.specs.Columns.{columns}
 use Rattle.tables.proofs.flows.valid_flows.Goals as goal
 
 pub loop-f-init : goal.loop-f-init

@@ -1,19 +1,14 @@
 -- `tables::flows::valid_route` meets its contract. The loop's invariant: every port passed is in the plan and new, and `seen`
 -- has 1 for each of them.
-use mathlib.Core.Path.{◌≡◌, refl, sym, ◌∙◌}
-use mathlib.Core.Bool.{Bool, true, false, not, ◌&&◌, and-false}
+use mathlib.Core.Path.{◌≡◌}
+use mathlib.Core.Bool.{Bool, true, not, ◌&&◌}
 use mathlib.Core.List.{List, []}
-use Prim.Native.Nat.{ℕ, ◌+◌, ◌-◌, ◌≤◌, ◌<◌}
-use native.Mathlib.Omega.{arith}
-use lib.ListN.{length, get_or, length-set, get_or-replicate}
-use borrow.Author.Rules.{rules}
-use Rattle.cqf.specs.Bounded.{all_to, elem, every, distinct, sublist}
+use Prim.Native.Nat.{ℕ, ◌+◌, ◌-◌, ◌≤◌}
+use lib.ListN.{length, get_or}
+use Rattle.cqf.specs.Bounded.{all_to, elem, sublist}
 use Rattle.cqf.specs.Limits.{port_slots}
 use Rattle.cqf.specs.Plan.{port_in}
-use Rattle.cqf.specs.laws.Bounds.{all_to-next, all_to_false}
-use Rattle.cqf.specs.laws.Route.{route_test, port_in_low, port_in_high, port_in_absent, port_in_there}
 use Rattle.tables.specs.Columns.{Marked}
-use Rattle.tables.specs.laws.Marks.{mark_next, marked_new, marked_again}
 use Rattle.tables.proofs.flows.valid_route.Given as goal
 
 -- the test of the port at i of a route: it is in the plan, and stands nowhere before

@@ -1,7 +1,6 @@
 -- `tables::forms::most_hops` meets its contract: any form but the first is the newer one.
 use mathlib.Core.Path.{◌≡◌, refl, sym, ap}
 use Prim.Native.Nat.{ℕ, zero, suc}
-use borrow.Author.Rules.{rules}
 use Rattle.cqf.specs.Form.{newer, form_from, most_hops_in}
 use Rattle.tables.proofs.forms.most_hops.Goals as goal
 

@@ -1,8 +1,7 @@
 -- `tables::ports::valid_port` meets its contract: each way out has decided the tests of a port's slot.
 use mathlib.Core.Path.{sym, ◌∙◌}
 use mathlib.Core.Bool.{or-false, and-false}
-use borrow.Author.Rules.{rules}
-use borrow.Author.Tests.{ne_eqb, not-true, not-false}
+use borrow.Author.Tests.{ne_eqb}
 use Rattle.tables.proofs.ports.valid_port.Goals as goal
 
 pub returns-then-blocking-ne0 : goal.returns-then-blocking-ne0

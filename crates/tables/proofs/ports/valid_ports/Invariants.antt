@@ -1,15 +1,11 @@
 -- `tables::ports::valid_ports` meets its contract. The loop's invariant: every slot passed is valid.
-use mathlib.Core.Path.{◌≡◌, sym, ◌∙◌}
+use mathlib.Core.Path.{◌≡◌}
 use mathlib.Core.Bool.{true}
 use mathlib.Core.List.{[]}
 use Prim.Native.Nat.{◌-◌, ◌≤◌}
-use native.Mathlib.Omega.{arith}
-use borrow.Author.Rules.{rules}
-use borrow.Author.Tests.{not-true, not-false}
 use Rattle.cqf.specs.Bounded.{all_to}
 use Rattle.cqf.specs.Limits.{port_slots}
 use Rattle.cqf.specs.Plan.{equal_clocks, valid_port}
-use Rattle.cqf.specs.laws.Bounds.{all_to-next, all_to_false}
 use Rattle.tables.specs.Columns.{columns}
 use Rattle.tables.proofs.ports.valid_ports.Given as goal
 

@@ -1,7 +1,6 @@
 -- `tables::valid::valid_tables` meets its contract: each way out has decided the tests before it.
 use mathlib.Core.Path.{refl, sym, ◌∙◌}
 use mathlib.Core.Bool.{and-false}
-use borrow.Author.Tests.{not-true, not-false}
 use Rattle.cqf.specs.Plan.{Plan, valid_port, valid_flow}
 use Rattle.cqf.specs.laws.Valid.{valid_by}
 use Rattle.numbers.specs.Clock.{clock_of}
