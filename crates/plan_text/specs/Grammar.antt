@@ -1,5 +1,5 @@
 -- The numbers of a plan's text: the word before each, its range, and what it is where it is left out.
-use Rattle.std.specs.Prelude.{ℕ, Bool, true, false, List, [], ◌∷◌}
+use Rattle.std.specs.Prelude.{ℕ, Bool, true, false, List, []}
 use Rattle.std.proofs.Math.Option.{Option, some, none}
 use Rattle.cqf.specs.Bounded.{within}
 use Rattle.cqf.specs.Limits.{guard_ok, top_ok, drift_ok, timing_jitter_ok, sync_error_ok, port_ok, rate_ok, length_ok, blocking_ok, extra_ok, flow_ok, period_ok, count_ok, jitter_ok, hops_ok}

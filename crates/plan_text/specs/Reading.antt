@@ -1,5 +1,5 @@
 -- What the code's reading of a line tells of the line's words.
-use Rattle.std.specs.Prelude.{ℕ, ◌≤◌, ◌≡◌, Bool, true, false, cond, ◌&&◌, List, [], ◌∷◌, map, eqb, leb, length, take, drop}
+use Rattle.std.specs.Prelude.{ℕ, ◌≤◌, ◌≡◌, Bool, true, false, cond, ◌&&◌, List, ◌∷◌, map, eqb, leb, length, take, drop}
 use Rattle.std.proofs.Math.Option.{Option, some, none}
 use Rattle.cqf.specs.Form.{Form, most_hops_in}
 use Rattle.cqf.specs.Limits.{max_hops}

@@ -1,5 +1,5 @@
 -- What a text says: its lines from the front, each tested and stored, then what is missing, then ports that are not in the plan.
-use Rattle.std.specs.Prelude.{ℕ, zero, suc, ◌-◌, ◌*◌, Bool, true, false, not, cond, ◌||◌, List, [], ◌∷◌, eqb, leb, ltb, length, get_or, set, replicate}
+use Rattle.std.specs.Prelude.{ℕ, zero, suc, ◌-◌, ◌*◌, Bool, false, not, cond, ◌||◌, List, [], ◌∷◌, eqb, leb, ltb, length, get_or, set, replicate}
 use Rattle.cqf.specs.Bounded.{distinct, sublist}
 use Rattle.cqf.specs.Form.{Form}
 use Rattle.cqf.specs.Limits.{flow_slots, route_stride}

@@ -1,10 +1,9 @@
 -- Laws of ports that are not in the plan.
-use Rattle.std.specs.Prelude.{ℕ, zero, suc, ◌+◌, ◌-◌, ◌*◌, ◌≤◌, ◌<◌, ◌≡◌, List, [], ◌∷◌, get_or, eqb}
+use Rattle.std.specs.Prelude.{ℕ, zero, suc, ◌-◌, ◌≤◌, ◌≡◌, List, ◌∷◌, get_or, eqb}
 use Rattle.std.proofs.Math.Path.{refl, ap}
-use Rattle.std.proofs.Common.{sym, ap₂, ◌∙◌, arith, add-one, eq-eqb, ne_eqb}
+use Rattle.std.proofs.Common.{sym, ◌∙◌, arith, eq-eqb, ne_eqb}
 use Rattle.std.proofs.Math.Bool.{true, false, not}
 use Rattle.cqf.specs.Bounded.{sublist}
-use Rattle.cqf.specs.Limits.{route_stride}
 use Rattle.cqf.specs.Plan.{port_in}
 use Rattle.plan_text.specs.Line.{form_by}
 use Rattle.plan_text.specs.Text.{Draft, Absent, missing, missing_of, lower, absent_to, absent_in, reads, rejected, closing}

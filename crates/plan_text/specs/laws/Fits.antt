@@ -1,15 +1,15 @@
 -- Laws of a line that passed its tests: its numbers are in range.
-use Rattle.std.specs.Prelude.{ℕ, suc, ◌+◌, ◌≤◌, ◌<◌, ◌≡◌, refl, Bool, true, false, not, ◌&&◌, ◌||◌, List, [], ◌∷◌, leb, eqb, length, get_or, take, drop}
-use Rattle.std.proofs.Common.{sym, subst, ◌∙◌, arith, add-one, le-leb, leb-false, eq-eqb, ne_eqb, drop_of_length-le, get_or-take, length-take-le, drop-cons}
+use Rattle.std.specs.Prelude.{ℕ, ◌+◌, ◌≤◌, ◌<◌, ◌≡◌, true, false, not, ◌&&◌, ◌||◌, List, ◌∷◌, eqb, length, get_or, drop}
+use Rattle.std.proofs.Common.{sym, subst, ◌∙◌, arith, add-one, le-leb, leb-false, drop_of_length-le, get_or-take, drop-cons}
 use Rattle.std.proofs.Math.Path.{ap}
 use Rattle.cqf.specs.Bounded.{elem, distinct}
 use Rattle.cqf.specs.Form.{Form}
-use Rattle.cqf.specs.Limits.{max_hops, hops_ok, guard_ok, top_ok}
+use Rattle.cqf.specs.Limits.{max_hops, guard_ok, top_ok}
 use Rattle.cqf.specs.Plan.{clock_ok}
 use Rattle.plan_reading.specs.Ranges.{PortOk, FlowOk, ExtraOk, JitterOk}
 use Rattle.plan_text.specs.Grammar.{range_of}
 use Rattle.plan_text.specs.Kinds.{items}
-use Rattle.plan_text.specs.Line.{item_at, first_failing, range_test, port_test}
+use Rattle.plan_text.specs.Line.{item_at, range_test}
 use Rattle.plan_text.specs.Reading.{numbers_by, Fits}
 use Rattle.plan_text.specs.Text.{clock_in}
 use Rattle.plan_text.specs.laws.Ranges.{none-failing}

@@ -1,13 +1,11 @@
 -- Laws of the routes' lengths in a draft: each fits its places.
-use Rattle.std.specs.Prelude.{ℕ, ◌-◌, ◌≤◌, ◌<◌, ◌≡◌, refl, List, length, get_or, set}
-use Rattle.std.proofs.Common.{sym, ap, subst, ◌∙◌, arith, length-set, get_or-set_same, get_or-set_other}
+use Rattle.std.specs.Prelude.{ℕ, ◌-◌, ◌≤◌, ◌<◌, ◌≡◌, List, length, get_or, set}
+use Rattle.std.proofs.Common.{ap, subst, arith, get_or-set_same, get_or-set_other}
 use Rattle.std.proofs.Math.Decide.{ℕ_discrete, dec_lt}
 use Rattle.std.proofs.Math.Seq.{set_out}
-use Rattle.cqf.specs.Form.{Form}
-use Rattle.cqf.specs.Limits.{max_hops, flow_slots}
+use Rattle.cqf.specs.Limits.{max_hops}
 use Rattle.plan_reading.specs.Store.{store_all, store}
 use Rattle.plan_text.specs.Line.{form_by}
-use Rattle.plan_text.specs.Reading.{Fits}
 use Rattle.plan_text.specs.Text.{Draft, own, added, stored}
 use Rattle.plan_text.specs.Drafting.{HopsWithin, Goes, idle, takes}
 use Rattle.plan_text.specs.laws.Says.{most_hops}

@@ -1,6 +1,6 @@
 -- Laws of the reading of a route's ports.
-use Rattle.std.specs.Prelude.{ℕ, ◌+◌, ◌≤◌, ◌<◌, ◌≡◌, refl, Bool, true, false, not, ◌||◌, List, [], ◌∷◌, ◌++◌, map, length, take, set}
-use Rattle.std.proofs.Common.{sym, ap, ap₂, ◌∙◌, append-nil, arith, add-one, take-suc-set}
+use Rattle.std.specs.Prelude.{ℕ, ◌+◌, ◌≤◌, ◌≡◌, refl, Bool, true, false, not, ◌||◌, List, [], ◌∷◌, ◌++◌, map, length, take, set}
+use Rattle.std.proofs.Common.{sym, ap, ◌∙◌, append-nil, arith, add-one, take-suc-set}
 use Rattle.std.proofs.Math.Bool.{or-false}
 use Rattle.std.proofs.Math.Option.{Option}
 use Rattle.std.proofs.Math.Seq.{append_snoc}

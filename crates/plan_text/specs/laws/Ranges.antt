@@ -1,9 +1,8 @@
 -- Laws of numbers that passed their tests.
-use Rattle.std.specs.Prelude.{ℕ, zero, suc, ◌≤◌, ◌<◌, ◌≡◌, refl, Bool, true, false, cond, List, [], ◌∷◌, eqb, length, get_or, take}
-use Rattle.std.proofs.Common.{sym, ap, ◌∙◌, arith, eqb-true, get_or-take}
+use Rattle.std.specs.Prelude.{ℕ, zero, suc, ◌≤◌, ◌<◌, ◌≡◌, refl, Bool, true, false, cond, List, [], ◌∷◌, eqb, length, get_or}
+use Rattle.std.proofs.Common.{arith, eqb-true}
 use Rattle.cqf.specs.Bounded.{every}
-use Rattle.cqf.specs.Limits.{blocking_ok, length_ok, port_ok, max_length, max_hops}
-use Rattle.cqf.specs.Plan.{clock_ok}
+use Rattle.cqf.specs.Limits.{blocking_ok, length_ok, port_ok, max_length}
 use Rattle.cqf.specs.laws.Bounded.{or_cases}
 use Rattle.plan_reading.specs.laws.fields.Within.{within_high}
 use Rattle.plan_text.specs.Line.{first_failing, port_test}

@@ -1,14 +1,13 @@
 -- Laws of the tests of a line whose numbers and whose route stand in arrays.
-use Rattle.std.specs.Prelude.{ℕ, ◌≤◌, ◌<◌, ◌≡◌, refl, Bool, true, false, cond, ◌&&◌, ◌||◌, List, [], ◌∷◌, map, leb, ltb, length, get_or, take}
+use Rattle.std.specs.Prelude.{ℕ, ◌≤◌, ◌<◌, ◌≡◌, refl, true, false, ◌&&◌, List, [], ◌∷◌, map, leb, ltb, length, get_or, take}
 use Rattle.std.proofs.Common.{sym, ap, ap₂, ◌∙◌, arith, lt-ltb, le-ltb, length-take-le, get_or-take}
-use Rattle.std.proofs.Math.Bool.{or-false}
 use Rattle.std.proofs.Math.Option.{Option}
 use Rattle.std.proofs.lemmas.List.{length-map}
 use Rattle.cqf.specs.Form.{Form, older, newer, most_hops_in}
 use Rattle.cqf.specs.Limits.{max_hops}
 use Rattle.plan_text.specs.Kinds.{items, is_routed}
-use Rattle.plan_text.specs.Line.{Line, Word, says, refused, coded, is_number, first_failing, item_at, number_test, range_test, port_test, lacks_ports, any_none, ranges_in, numbers_in}
-use Rattle.plan_text.specs.Reading.{decoded, numbers_by, line_read_of, Fits, LineReads}
+use Rattle.plan_text.specs.Line.{Line, says, refused, coded, is_number, first_failing, item_at, number_test, range_test, port_test, lacks_ports, ranges_in, numbers_in}
+use Rattle.plan_text.specs.Reading.{decoded, numbers_by, LineReads}
 use Rattle.plan_text.specs.laws.Line.{items_most, coded-decoded}
 use Rattle.plan_text.specs.laws.Failing.{failing_map}
 use Rattle.plan_text.specs.declared.grammar.Item.{Item}

@@ -9,9 +9,9 @@ use Rattle.cqf.specs.Bounded.{distinct}
 use Rattle.words.specs.Words.{words}
 use Rattle.plan_text.specs.Line.{Line, nothing, says, refused, form_by, line_of}
 use Rattle.plan_text.specs.Reading.{Fits}
-use Rattle.plan_text.specs.Text.{Draft, Step, stop, more, own, is_again, added, taken, step_at, Reading, rejected, closing, read_lines}
+use Rattle.plan_text.specs.Text.{Draft, Step, stop, more, own, is_again, added, taken, step_at, rejected, closing, read_lines}
 use Rattle.plan_text.specs.Kinds.{item_of}
-use Rattle.plan_text.specs.Drafting.{Goes, idle, takes, StepsAs}
+use Rattle.plan_text.specs.Drafting.{idle, takes, StepsAs}
 use Rattle.plan_text.specs.declared.grammar.Item.{Item}
 use Rattle.plan_text.specs.declared.grammar.Kind.{Kind}
 use Rattle.plan_text.specs.declared.grammar.Fault.{Fault}

@@ -1,11 +1,11 @@
 -- Laws of a line that is taken: its first number, and its last two tests.
 use Rattle.std.specs.Prelude.{ℕ, ◌≡◌, refl, true, false, not, List, get_or}
-use Rattle.std.proofs.Common.{sym, ap, ◌∙◌, true≢false, arith}
+use Rattle.std.proofs.Common.{sym, ap, true≢false, arith}
 use Rattle.std.proofs.lemmas.Bool.{false≢true}
 use Rattle.cqf.specs.Bounded.{distinct}
 use Rattle.plan_text.specs.Kinds.{is_other, item_of}
 use Rattle.plan_text.specs.Reading.{numbers_by}
-use Rattle.plan_text.specs.Text.{Draft, Step, stop, more, own, is_again, added, taken}
+use Rattle.plan_text.specs.Text.{Draft, stop, more, own, is_again, added, taken}
 use Rattle.plan_text.specs.laws.Fits.{at_number}
 use Rattle.plan_text.specs.declared.grammar.Item.{Item}
 use Rattle.plan_text.specs.declared.grammar.Kind.{Kind}

@@ -1,13 +1,12 @@
 -- Laws of the words of a line: those behind its numbers, and its first.
 use Rattle.std.specs.Prelude.{ℕ, ◌≡◌, refl, Bool, true, false, List, [], ◌∷◌, map}
-use Rattle.std.proofs.Common.{sym, ap, ◌∙◌}
 use Rattle.std.proofs.Math.Option.{Option, some}
 use Rattle.cqf.specs.Form.{Form}
 use Rattle.words.specs.Words.{same_bytes}
 use Rattle.words.specs.Decimal.{decimal_value}
 use Rattle.plan_text.specs.Names.{route_word}
 use Rattle.plan_text.specs.Kinds.{items, is_routed, is_other, kind_in}
-use Rattle.plan_text.specs.Line.{Word, Line, nothing, refused, Matched, wrong, matched, match, any_none, port_words, numbers_in, words_by, kindly, line_of}
+use Rattle.plan_text.specs.Line.{Word, nothing, refused, wrong, matched, match, any_none, port_words, numbers_in, words_by, kindly, line_of}
 use Rattle.plan_text.specs.declared.grammar.Item.{Item}
 use Rattle.plan_text.specs.declared.grammar.Kind.{Kind}
 use Rattle.plan_text.specs.declared.grammar.Fault.{Fault}

@@ -1,9 +1,8 @@
 -- `absent_port` meets its contract. The invariant: the ports from i on tell.
 use Prim.Native.Nat.{ℕ, suc, ◌+◌, ◌-◌, ◌≤◌}
-use mathlib.Core.Path.{◌≡◌, refl, sym, ap, ap₂, ◌∙◌}
+use mathlib.Core.Path.{◌≡◌, sym, ap, ap₂, ◌∙◌}
 use native.Mathlib.Omega.{arith}
 use borrow.Author.Rules.{rules}
-use borrow.Author.Tests.{not-true, not-false}
 use Rattle.cqf.specs.Bounded.{sublist}
 use Rattle.plan_text.specs.Text.{missing}
 use Rattle.plan_text.specs.laws.Absent.{missing_here, missing-next, missing-none}

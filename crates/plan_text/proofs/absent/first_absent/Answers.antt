@@ -1,12 +1,10 @@
-use Prim.Native.Nat.{ℕ, suc, ◌+◌, ◌-◌, ◌*◌, ◌≤◌}
-use mathlib.Core.Path.{◌≡◌, refl, sym, ap, ap₂, ◌∙◌}
+use Prim.Native.Nat.{ℕ}
+use mathlib.Core.Path.{◌≡◌, sym, ap, ap₂, ◌∙◌}
 use native.Mathlib.Omega.{arith}
 use native.Mathlib.Numerals.{add-one}
-use borrow.Author.Rules.{rules}
 use lib.ListN.{get_or}
-use Rattle.cqf.specs.Limits.{flow_slots, max_hops}
-use Rattle.plan_text.specs.Text.{Absent, missing_of, lower, absent_to}
-use Rattle.plan_text.specs.Drafting.{absent_of}
+use Rattle.cqf.specs.Limits.{flow_slots}
+use Rattle.plan_text.specs.Text.{Absent, lower, absent_to}
 use Rattle.plan_text.specs.laws.Absent.{absent_none, absent_more}
 use Rattle.plan_text.proofs.absent.first_absent.Goals as goal
 

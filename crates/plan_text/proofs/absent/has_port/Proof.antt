@@ -1,9 +1,7 @@
 -- `has_port` meets its contract.
-use Prim.Native.Nat.{ℕ}
-use mathlib.Core.Path.{◌≡◌, refl, sym, ap, ◌∙◌}
+use mathlib.Core.Path.{◌≡◌, sym, ◌∙◌}
 use mathlib.Core.Bool.{true}
 use borrow.Author.Rules.{rules}
-use borrow.Author.Tests.{not-true, not-false}
 use Rattle.cqf.specs.Limits.{port_slots, port_ok}
 use Rattle.plan_reading.specs.laws.fields.Within.{within_low, slot_below}
 use Rattle.plan_text.specs.laws.Absent.{rate_slot}

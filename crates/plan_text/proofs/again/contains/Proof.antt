@@ -1,12 +1,11 @@
 -- `contains` meets its contract. The invariant: the numbers from i on tell.
-use Prim.Native.Nat.{ℕ, ◌+◌, ◌-◌, ◌≤◌}
-use mathlib.Core.Path.{◌≡◌, refl, sym, ap, ◌∙◌}
-use mathlib.Core.Bool.{Bool, not, ◌&&◌, ◌||◌}
-use native.Mathlib.Omega.{arith}
+use Prim.Native.Nat.{◌+◌, ◌-◌}
+use mathlib.Core.Path.{◌≡◌, refl, sym, ◌∙◌}
+use mathlib.Core.Bool.{◌||◌}
 use borrow.Author.Rules.{rules}
 use borrow.Author.Tests.{eq-eqb, ne_eqb}
 use lib.ListN.{length, get_or, drop}
-use Rattle.cqf.specs.Bounded.{elem, distinct}
+use Rattle.cqf.specs.Bounded.{elem}
 use Rattle.plan_text.specs.laws.Fits.{elem_next, elem_past}
 use Rattle.plan_text.proofs.again.contains.Statement.{statement}
 use Rattle.plan_text.proofs.again.contains.Tie as tie

@@ -1,7 +1,5 @@
 -- `first_number` meets its contract.
-use mathlib.Core.Path.{◌≡◌, sym, ◌∙◌}
-use native.Mathlib.Omega.{arith}
-use borrow.Author.Rules.{rules}
+use mathlib.Core.Path.{sym, ◌∙◌}
 use Rattle.plan_text.specs.laws.Taken.{own-none, own_first}
 use Rattle.plan_text.proofs.again.first_number.Goals as goal
 

@@ -1,6 +1,5 @@
 -- `kind_in` meets its contract.
-use mathlib.Core.Path.{◌≡◌, refl, sym, ap, ◌∙◌}
-use borrow.Author.Rules.{rules}
+use mathlib.Core.Path.{ap, ◌∙◌}
 use Rattle.plan_text.specs.Kinds.{later_kind, kind_in}
 use Rattle.plan_text.proofs.kinds.kind_in.Goals as goal
 

@@ -1,9 +1,6 @@
 -- `item_number` meets its contract, by whether the number stands there and whether it may be left out.
-use Prim.Native.Nat.{◌≤◌}
-use mathlib.Core.Path.{◌≡◌, refl, sym, ap, ◌∙◌}
-use native.Mathlib.Omega.{arith}
-use borrow.Author.Rules.{rules}
-use lib.ListN.{length, drop}
+use mathlib.Core.Path.{sym, ◌∙◌}
+use lib.ListN.{drop}
 use Rattle.words.specs.Words.{words}
 use Rattle.plan_text.specs.laws.Line.{read_there, read_absent, read_wrong}
 use Rattle.plan_text.proofs.line.item_number.Goals as goal

@@ -1,15 +1,10 @@
-use Prim.Native.Nat.{ℕ, ◌+◌, ◌-◌, ◌≤◌, ◌<◌}
-use mathlib.Core.Path.{◌≡◌, refl, sym, ap, ◌∙◌}
+use Prim.Native.Nat.{◌<◌}
+use mathlib.Core.Path.{◌≡◌, refl, ◌∙◌}
 use native.Mathlib.Omega.{arith}
 use borrow.Author.Rules.{rules}
-use borrow.Author.Tests.{not-true, not-false}
-use lib.ListN.{length, drop, set, length-set}
-use Rattle.words.specs.Words.{words}
-use Rattle.plan_text.specs.Kinds.{items}
-use Rattle.plan_text.specs.Line.{match}
-use Rattle.cqf.specs.Limits.{max_hops}
+use lib.ListN.{length, set, length-set}
 use Rattle.plan_text.specs.laws.Line.{items_most}
-use Rattle.plan_text.specs.laws.Matching.{SoFar, so_far_none, so_far_wrong, so_far_more, so_far_all}
+use Rattle.plan_text.specs.laws.Matching.{so_far_none, so_far_wrong, so_far_more, so_far_all}
 use Rattle.plan_text.proofs.line.match_items.Goals as goal
 
 pub loop-i-init : goal.loop-i-init
@@ -25,7 +20,7 @@ pub returns-then-not-taken : goal.returns-then-not-taken
 returns-then-not-taken c =
     let turn = c.before.before.before.before.before in
     let a = turn.args in
-    so_far_wrong a.kind a.line.now a.at turn.loop-i.numbers turn.loop-i.next turn.loop-i.i turn.loop-i.invariant.4 c.item_at-item.result c.item_at-item.ensures (omega (arith, turn.loop-i.invariant.1)) c.item_number-taken.ensures.item_read (c.if-not-taken.true)
+    so_far_wrong a.kind a.line.now a.at turn.loop-i.numbers turn.loop-i.next turn.loop-i.i turn.loop-i.invariant.4 c.item_at-item.result c.item_at-item.ensures (omega (arith, turn.loop-i.invariant.1)) c.item_number-taken.ensures.item_read (search rules)
 
 pub offset_bounds-numbers-i : goal.offset_bounds-numbers-i
 offset_bounds-numbers-i c =
@@ -45,7 +40,7 @@ loop-i-preserved c =
     let a = turn.args in
     let room : turn.loop-i.i < length turn.loop-i.numbers = omega (arith, items_most a.kind, turn.loop-i.invariant.1, turn.loop-i.invariant.3) in
     let size : length (set turn.loop-i.numbers turn.loop-i.i c.item_number-taken.result.value) ≡ length turn.loop-i.numbers = simp length-set in
-    (omega arith, turn.loop-i.invariant.1, size ∙ turn.loop-i.invariant.2, omega (arith, size, turn.loop-i.invariant.3), so_far_more a.kind a.line.now a.at turn.loop-i.numbers turn.loop-i.next turn.loop-i.i turn.loop-i.invariant.4 c.item_at-item.result c.item_at-item.ensures (omega (arith, turn.loop-i.invariant.1)) room c.item_number-taken.ensures.item_read c.item_number-taken.ensures.next_in_bounds (c.if-not-taken.false))
+    (omega arith, turn.loop-i.invariant.1, size ∙ turn.loop-i.invariant.2, omega (arith, size, turn.loop-i.invariant.3), so_far_more a.kind a.line.now a.at turn.loop-i.numbers turn.loop-i.next turn.loop-i.i turn.loop-i.invariant.4 c.item_at-item.result c.item_at-item.ensures (omega (arith, turn.loop-i.invariant.1)) room c.item_number-taken.ensures.item_read c.item_number-taken.ensures.next_in_bounds (search rules))
 
 pub returns : goal.returns
 returns c =

@@ -1,16 +1,12 @@
 -- `match_items` meets its contract. The loop's invariant: the first i numbers are read and stored.
-use Prim.Native.Nat.{ℕ, ◌+◌, ◌-◌, ◌≤◌, ◌<◌}
-use mathlib.Core.Path.{◌≡◌, refl, sym, ap, ◌∙◌}
-use native.Mathlib.Omega.{arith}
-use borrow.Author.Rules.{rules}
-use borrow.Author.Tests.{not-true, not-false}
-use lib.ListN.{length, drop, set, length-set}
+use Prim.Native.Nat.{◌-◌, ◌≤◌}
+use mathlib.Core.Path.{◌≡◌}
+use lib.ListN.{length, drop}
 use Rattle.words.specs.Words.{words}
 use Rattle.plan_text.specs.Kinds.{items}
 use Rattle.plan_text.specs.Line.{match}
 use Rattle.cqf.specs.Limits.{max_hops}
-use Rattle.plan_text.specs.laws.Line.{items_most}
-use Rattle.plan_text.specs.laws.Matching.{SoFar, so_far_none, so_far_wrong, so_far_more, so_far_all}
+use Rattle.plan_text.specs.laws.Matching.{SoFar}
 use Rattle.plan_text.proofs.line.match_items.Given as goal
 
 abbrev pub invariant-loop-i : goal.invariant-loop-i

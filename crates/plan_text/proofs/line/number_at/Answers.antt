@@ -1,9 +1,5 @@
 -- `number_at` meets its contract: the first word lies within the line.
-use Prim.Native.Nat.{◌≤◌}
-use mathlib.Core.Path.{◌≡◌, refl, sym, ap, ◌∙◌}
 use native.Mathlib.Omega.{arith}
-use borrow.Author.Rules.{rules}
-use lib.ListN.{length}
 use Rattle.words.specs.laws.Words.{word_within}
 use Rattle.plan_text.specs.laws.Line.{number_there}
 use Rattle.plan_text.proofs.line.number_at.Goals as goal

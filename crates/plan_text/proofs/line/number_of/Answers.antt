@@ -1,8 +1,5 @@
 -- `number_of` meets its contract.
-use mathlib.Core.Path.{◌≡◌, refl, sym, ap, ◌∙◌}
 use borrow.Author.Rules.{rules}
-use Rattle.words.specs.Decimal.{parsed_of}
-use Rattle.plan_text.specs.Line.{coded}
 use Rattle.plan_text.proofs.line.number_of.Goals as goal
 
 pub decimal-requires : goal.decimal-requires

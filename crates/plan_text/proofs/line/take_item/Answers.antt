@@ -1,10 +1,7 @@
 -- `take_item` meets its contract, by whether the number's word stands at the position.
-use Prim.Native.Nat.{◌≤◌}
-use mathlib.Core.Path.{◌≡◌, refl, sym, ap, ◌∙◌}
+use mathlib.Core.Path.{sym, ◌∙◌}
 use native.Mathlib.Omega.{arith}
-use borrow.Author.Rules.{rules}
-use borrow.Author.Tests.{not-true, not-false}
-use lib.ListN.{length, drop}
+use lib.ListN.{drop}
 use Rattle.words.specs.Words.{words}
 use Rattle.words.specs.laws.Words.{word_there, word_missing, word_within}
 use Rattle.plan_text.specs.laws.Line.{item_own, item_none, item_word, item_other}

@@ -1,5 +1,5 @@
 -- `also_bad` meets its contract.
-use mathlib.Core.Path.{◌≡◌, refl, sym, ap, ◌∙◌}
+use mathlib.Core.Path.{sym, ap}
 use mathlib.Core.Bool.{not, ◌||◌}
 use mathlib.Core.Option.{Option}
 use Prim.Native.Nat.{ℕ}

@@ -1,6 +1,5 @@
 -- `keep` meets its contract: a store past the end is none.
 use mathlib.Core.Path.{sym}
-use borrow.Author.Rules.{rules}
 use lib.Seq.{set_out}
 use Rattle.plan_text.proofs.ports.keep.Goals as goal
 

@@ -1,11 +1,8 @@
 -- `in_range` meets its contract: 0 where it is allowed too, or the range.
 use Prim.Native.Nat.{ℕ}
-use mathlib.Core.Path.{◌≡◌, refl, sym, ap, ap₂, ◌∙◌}
-use mathlib.Core.Bool.{Bool, ◌&&◌, ◌||◌}
-use borrow.Author.Rules.{rules}
-use lib.Dec.{eqb}
+use mathlib.Core.Path.{◌≡◌, sym, ap₂, ◌∙◌}
 use Rattle.cqf.specs.Bounded.{within}
-use Rattle.plan_text.specs.Grammar.{zero_too, low_of, high_of}
+use Rattle.plan_text.specs.Grammar.{low_of, high_of}
 use Rattle.plan_text.specs.laws.Grammar.{range_by}
 use Rattle.plan_text.proofs.ranges.in_range.Goals as goal
 

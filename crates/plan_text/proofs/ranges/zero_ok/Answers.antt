@@ -1,7 +1,6 @@
 -- `zero_ok` meets its contract, by whether the number is 0.
-use mathlib.Core.Path.{◌≡◌, refl, sym, ap, ◌∙◌}
+use mathlib.Core.Path.{sym, ◌∙◌}
 use mathlib.Core.Bool.{and-false, and-true}
-use borrow.Author.Rules.{rules}
 use borrow.Author.Tests.{eq-eqb, ne_eqb}
 use Rattle.plan_text.specs.Grammar.{zero_too}
 use Rattle.plan_text.proofs.ranges.zero_ok.Goals as goal

@@ -1,6 +1,6 @@
 -- `clock_of` meets its contract: the numbers of the clocks are small.
-use Prim.Native.Nat.{ℕ, ◌≤◌}
-use mathlib.Core.Path.{◌≡◌, refl, sym, ap, ◌∙◌}
+use Prim.Native.Nat.{◌≤◌}
+use mathlib.Core.Path.{◌≡◌}
 use mathlib.Core.Bool.{true, ◌&&◌, and-eq-true_iff}
 use native.Mathlib.Omega.{arith}
 use Rattle.cqf.specs.Limits.{drift_ok, timing_jitter_ok, sync_error_ok, max_drift, max_timing_jitter, max_sync_error}

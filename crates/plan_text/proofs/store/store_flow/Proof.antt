@@ -1,8 +1,7 @@
 -- `store_flow` meets its contract: the numbers are in range, and so is the slot.
-use Prim.Native.Nat.{ℕ, ◌-◌, ◌*◌, ◌≤◌, ◌<◌}
-use mathlib.Core.Path.{◌≡◌, refl, sym, ap, ap₂, ◌∙◌}
+use Prim.Native.Nat.{ℕ, ◌*◌, ◌<◌}
+use mathlib.Core.Path.{ap, ap₂, ◌∙◌}
 use native.Mathlib.Omega.{arith}
-use borrow.Author.Rules.{rules}
 use lib.ListN.{get_or, take, set}
 use lib.Seq.{sets}
 use Rattle.cqf.specs.Limits.{flow_slots, route_stride, min_period, max_period, max_count, max_length, max_jitter, max_hops}

@@ -1,8 +1,7 @@
 -- `store_port` meets its contract: the numbers are in range, and so is the slot.
-use Prim.Native.Nat.{ℕ, ◌-◌, ◌≤◌, ◌<◌}
-use mathlib.Core.Path.{◌≡◌, refl, sym, ap, ap₂, ◌∙◌}
+use Prim.Native.Nat.{◌<◌}
+use mathlib.Core.Path.{ap₂}
 use native.Mathlib.Omega.{arith}
-use borrow.Author.Rules.{rules}
 use lib.ListN.{get_or, set}
 use Rattle.cqf.specs.Limits.{port_slots, max_extra}
 use Rattle.plan_reading.specs.laws.fields.Within.{within_low, within_high, slot_below}

@@ -1,11 +1,11 @@
 -- `store_route` meets its contract. The invariant: the first i ports are stored, and nothing else has changed.
-use Prim.Native.Nat.{ℕ, ◌+◌, ◌-◌, ◌≤◌, ◌<◌}
-use mathlib.Core.Path.{◌≡◌, refl, sym, ap, ap₂, ◌∙◌}
+use Prim.Native.Nat.{ℕ, ◌+◌, ◌-◌, ◌≤◌}
+use mathlib.Core.Path.{◌≡◌, refl, sym, ap, ◌∙◌}
 use mathlib.Core.List.{List}
 use native.Mathlib.Omega.{arith}
 use borrow.Author.Rules.{rules}
 use lib.ListN.{length, get_or, take, set}
-use lib.Seq.{sets, take-take, get_or-take, length-take-le}
+use lib.Seq.{sets, get_or-take, length-take-le}
 use Rattle.cqf.specs.Limits.{port_slots}
 use Rattle.plan_reading.specs.laws.fields.Within.{within_high}
 use Rattle.plan_text.specs.Line.{port_test}

@@ -1,6 +1,5 @@
 -- `failing_port` meets its contract.
 use mathlib.Core.Path.{sym}
-use borrow.Author.Rules.{rules}
 use lib.Seq.{length-take-le}
 use Rattle.plan_text.proofs.tested.failing_port.Goals as goal
 

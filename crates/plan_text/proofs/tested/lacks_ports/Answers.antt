@@ -1,8 +1,7 @@
 -- `lacks_ports` meets its contract.
-use mathlib.Core.Path.{◌≡◌, refl, sym, ap, ◌∙◌}
+use mathlib.Core.Path.{sym, ◌∙◌}
 use mathlib.Core.Bool.{and-false}
 use native.Mathlib.Omega.{arith}
-use borrow.Author.Rules.{rules}
 use borrow.Author.Tests.{le-leb, lt-leb}
 use Rattle.plan_text.specs.Kinds.{is_routed}
 use Rattle.plan_text.proofs.tested.lacks_ports.Goals as goal

@@ -1,5 +1,5 @@
 -- `test_numbers` meets its contract, test by test.
-use Prim.Native.Nat.{ℕ, ◌≤◌, ◌<◌}
+use Prim.Native.Nat.{ℕ, ◌≤◌}
 use mathlib.Core.Path.{◌≡◌, refl, sym, ap, ap₂, subst, ◌∙◌}
 use mathlib.Core.Bool.{Bool, true, false, ◌&&◌, ◌||◌, true≢false}
 use mathlib.Core.List.{List, map}
@@ -9,7 +9,7 @@ use borrow.Author.Rules.{rules}
 use lib.Dec.{leb}
 use lib.ListN.{length, length-map}
 use Rattle.plan_text.specs.Kinds.{items, is_routed}
-use Rattle.plan_text.specs.Line.{Line, form_by, coded, any_none, lacks_ports, ranges_in, numbers_in}
+use Rattle.plan_text.specs.Line.{Line, form_by, coded, any_none, lacks_ports, numbers_in}
 use Rattle.plan_text.specs.Reading.{decoded, numbers_by, LineReads}
 use Rattle.plan_text.specs.declared.grammar.Fault.{Fault}
 use Rattle.plan_text.specs.declared.grammar.Item.{Item}

@@ -1,12 +1,7 @@
-use Prim.Native.Nat.{ℕ, ◌+◌, ◌-◌, ◌≤◌, ◌<◌}
-use mathlib.Core.Path.{◌≡◌, refl, sym, ap, ◌∙◌}
+use mathlib.Core.Path.{sym, ◌∙◌}
 use native.Mathlib.Omega.{arith}
-use borrow.Author.Rules.{rules}
-use borrow.Author.Tests.{not-true, not-false}
-use lib.ListN.{length}
-use Rattle.plan_text.specs.Line.{first_failing}
 use Rattle.plan_text.specs.Reading.{test_by}
-use Rattle.plan_text.specs.laws.Failing.{from, failing_from, failing_more, failing_here, failing_end}
+use Rattle.plan_text.specs.laws.Failing.{failing_from, failing_more, failing_here, failing_end}
 use Rattle.plan_text.proofs.tests.first_failing.Goals as goal
 
 pub loop-i-init : goal.loop-i-init

@@ -1,13 +1,10 @@
 -- `first_failing` meets its contract. The invariant: the first i numbers pass, so the others tell.
-use Prim.Native.Nat.{ℕ, ◌+◌, ◌-◌, ◌≤◌, ◌<◌}
-use mathlib.Core.Path.{◌≡◌, refl, sym, ap, ◌∙◌}
-use native.Mathlib.Omega.{arith}
-use borrow.Author.Rules.{rules}
-use borrow.Author.Tests.{not-true, not-false}
+use Prim.Native.Nat.{◌-◌, ◌≤◌}
+use mathlib.Core.Path.{◌≡◌}
 use lib.ListN.{length}
 use Rattle.plan_text.specs.Line.{first_failing}
 use Rattle.plan_text.specs.Reading.{test_by}
-use Rattle.plan_text.specs.laws.Failing.{from, failing_from, failing_more, failing_here, failing_end}
+use Rattle.plan_text.specs.laws.Failing.{from}
 use Rattle.plan_text.proofs.tests.first_failing.Given as goal
 
 abbrev pub invariant-loop-i : goal.invariant-loop-i

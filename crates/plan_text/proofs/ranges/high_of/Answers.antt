@@ -1,4 +1,0 @@
--- `high_of` meets its contract, case by case.
-use mathlib.Core.Path.{sym, ◌∙◌}
-use borrow.Author.Rules.{rules}
-use Rattle.plan_text.proofs.ranges.high_of.Goals as goal

@@ -1,4 +1,0 @@
--- `low_of` meets its contract, case by case.
-use mathlib.Core.Path.{sym, ◌∙◌}
-use borrow.Author.Rules.{rules}
-use Rattle.plan_text.proofs.ranges.low_of.Goals as goal
