@@ -7,16 +7,21 @@ use Rattle.cqf.specs.Limits.{port_slots}
 use Rattle.questions.specs.Failing.{set_to, fails_in}
 use Rattle.questions.specs.laws.Sets.{set_or, set_skip}
 use Rattle.questions.proofs.failing.failing_set.Goals as goal
+use Rattle.questions.proofs.failing.failing_set.Goals.{then-port_fails, else-port_fails}
 
 pub loop-q-init : goal.loop-q-init
 unfolding set_to
 loop-q-init c = search rules
 
 pub port_fails-requires : goal.port_fails-requires
-port_fails-requires c =
-    let at = c.before.before.before.before in
-    let start = at.before.before.before in
-    (start.requires.1, start.requires.2 at.loop-q.q at.loop-q-test.true)
+port_fails-requires c = (c.requires.1, c.requires.2 c.loop-q.q c.loop-q-test.true)
+
+pub loop-q-preserved : goal.loop-q-preserved
+loop-q-preserved c =
+    elim c.if-port_fails.branch [
+      then-port_fails w ↦ (omega arith, w.set-is ∙ set_or c.loop-q.q _ c.loop-q-test.true c.loop-q.invariant.1 (sym c.port_fails.ensures ∙ w.if-port_fails.true))
+    | else-port_fails w ↦ (omega arith, w.set-is ∙ set_skip c.loop-q.q _ c.loop-q.invariant.1 (sym c.port_fails.ensures ∙ w.if-port_fails.false))
+    ]
 
 pub returns : goal.returns
 returns c =
