@@ -1,10 +1,5 @@
 -- `questions::check::check_tables` meets its contract: the answer goes by how many ports fail.
 use mathlib.Core.Path.{◌≡◌, refl, sym, ◌∙◌}
-use mathlib.Core.Bool.{true}
-use borrow.Author.Rules.{rules}
-use borrow.Author.Tests.{not-true, not-false}
-use Rattle.cqf.specs.Bounded.{within}
-use Rattle.cqf.specs.Plan.{Plan, valid_plan}
 use Rattle.cqf.specs.Condition.{failing}
 use Rattle.plan_reading.specs.laws.fields.Within.{within_low, within_high}
 use Rattle.numbers.specs.Clock.{clock_of}

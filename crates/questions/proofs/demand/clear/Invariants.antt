@@ -1,11 +1,7 @@
 -- `questions::demand::clear` meets its contract. The loop's invariant: every number passed is 0.
-use mathlib.Core.Path.{◌≡◌, ◌∙◌}
+use mathlib.Core.Path.{◌≡◌}
 use Prim.Native.Nat.{ℕ, ◌-◌, ◌≤◌, ◌<◌}
-use native.Mathlib.Omega.{arith}
-use lib.ListN.{length, get_or, length-set}
-use lib.Seq.{get_or-set_same, get_or-set_other}
-use borrow.Author.Count.{below_more}
-use borrow.Author.Rules.{rules}
+use lib.ListN.{length, get_or}
 use Rattle.cqf.specs.Limits.{port_slots}
 use Rattle.questions.proofs.demand.clear.Given as goal
 

@@ -3,7 +3,6 @@ use mathlib.Core.Path.{ap}
 use Prim.Native.Nat.{ℕ, ◌*◌, ◌≤◌}
 use native.Mathlib.Nat.{mul-le-mul}
 use native.Mathlib.Omega.{arith}
-use borrow.Author.Rules.{rules}
 use Rattle.cqf.specs.Overflow.{most_begun}
 use Rattle.cqf.specs.laws.Begun.{begun_most}
 use Rattle.questions.proofs.demand.flow_frames.Goals as goal

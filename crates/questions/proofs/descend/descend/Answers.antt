@@ -1,14 +1,10 @@
 use mathlib.Core.Path.{◌≡◌, sym, ap, ◌∙◌}
-use Prim.Native.Nat.{suc, max, ◌+◌}
+use Prim.Native.Nat.{max}
 use native.Mathlib.Numerals.{add-one}
 use native.Mathlib.Omega.{arith}
-use lib.ListN.{length}
-use Rattle.cqf.specs.Limits.{port_slots}
-use Rattle.cqf.specs.Plan.{Plan}
-use Rattle.cqf.specs.Condition.{margin_safe}
 use Rattle.cqf.specs.Need.{largest_need}
 use Rattle.cqf.specs.laws.Ranges.{extra_most}
-use Rattle.cqf.specs.laws.Search.{Descended, descent_start}
+use Rattle.cqf.specs.laws.Search.{descent_start}
 use Rattle.numbers.specs.Clock.{clock_of}
 use Rattle.tables.specs.Columns.{plan_by}
 use Rattle.questions.specs.laws.Sums.{slot_in_range}

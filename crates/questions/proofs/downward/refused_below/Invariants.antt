@@ -1,12 +1,8 @@
 -- `questions::downward::refused_below` meets its contract. Round the loop every duration from below + 1 to high is admissible.
-use mathlib.Core.Path.{◌≡◌, sym, ap, subst, ◌∙◌}
-use Prim.Native.Nat.{ℕ, max, ◌-◌}
-use native.Mathlib.Nat.{le_refl}
-use native.Mathlib.Omega.{arith}
+use mathlib.Core.Path.{◌≡◌}
 use lib.ListN.{length}
 use Rattle.cqf.specs.Limits.{port_slots}
-use Rattle.cqf.specs.Plan.{Plan}
-use Rattle.span_lists.specs.laws.Pieces.{need_within, Downward, downward_ends, downward_next}
+use Rattle.span_lists.specs.laws.Pieces.{Downward}
 use Rattle.numbers.specs.Clock.{clock_of}
 use Rattle.tables.specs.Columns.{plan_by}
 use Rattle.questions.proofs.downward.refused_below.Given as goal

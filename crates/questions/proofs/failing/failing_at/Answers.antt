@@ -1,15 +1,14 @@
 -- `questions::failing::failing_at` meets its contract.
-use mathlib.Core.Path.{sym, ◌∙◌}
+use mathlib.Core.Path.{◌∙◌}
 use native.Mathlib.Nat.{le_refl}
 use native.Mathlib.Omega.{arith}
-use Rattle.cqf.specs.Plan.{Plan}
 use Rattle.cqf.specs.laws.Ranges.{top_positive, extra_most}
 use Rattle.numbers.specs.Clock.{clock_of}
 use Rattle.tables.specs.Columns.{plan_by}
 use Rattle.questions.specs.laws.Sums.{slot_in_range}
 use Rattle.questions.specs.laws.Widened.{widened_fits}
 use Rattle.questions.specs.laws.Fails.{failing_set, set_lowest_failing, set_failing}
-use Rattle.questions.specs.laws.Scratch.{Filled, filled_by, filled_length, filled_short, filled_most}
+use Rattle.questions.specs.laws.Scratch.{filled_by, filled_length, filled_short, filled_most}
 use Rattle.questions.proofs.failing.failing_at.Goals as goal
 
 pub demands-requires : goal.demands-requires

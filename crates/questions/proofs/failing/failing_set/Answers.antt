@@ -1,10 +1,8 @@
 use mathlib.Core.Path.{◌≡◌, sym, ◌∙◌}
-use mathlib.Core.Logic.{⊎_elim}
-use Prim.Native.Nat.{◌-◌, ◌≤◌}
 use native.Mathlib.Omega.{arith}
 use borrow.Author.Rules.{rules}
 use Rattle.cqf.specs.Limits.{port_slots}
-use Rattle.questions.specs.Failing.{set_to, fails_in}
+use Rattle.questions.specs.Failing.{set_to}
 use Rattle.questions.specs.laws.Sets.{set_or, set_skip}
 use Rattle.questions.proofs.failing.failing_set.Goals as goal
 use Rattle.questions.proofs.failing.failing_set.Goals.{then-port_fails, else-port_fails}

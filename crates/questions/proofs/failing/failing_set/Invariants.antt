@@ -1,12 +1,8 @@
 -- `questions::failing::failing_set` meets its contract. The loop's invariant: `set` has the failing ports passed.
-use mathlib.Core.Path.{◌≡◌, sym, ◌∙◌}
-use mathlib.Core.Logic.{⊎_elim}
+use mathlib.Core.Path.{◌≡◌}
 use Prim.Native.Nat.{◌-◌, ◌≤◌}
-use native.Mathlib.Omega.{arith}
-use borrow.Author.Rules.{rules}
 use Rattle.cqf.specs.Limits.{port_slots}
 use Rattle.questions.specs.Failing.{set_to, fails_in}
-use Rattle.questions.specs.laws.Sets.{set_or, set_skip}
 use Rattle.questions.proofs.failing.failing_set.Given as goal
 
 abbrev pub invariant-loop-q : goal.invariant-loop-q

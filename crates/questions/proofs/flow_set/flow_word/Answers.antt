@@ -1,11 +1,7 @@
 use mathlib.Core.Path.{◌≡◌, sym, ◌∙◌}
-use mathlib.Core.Logic.{⊎_elim}
-use Prim.Native.Nat.{suc, ◌+◌, ◌*◌, ◌-◌, ◌≤◌}
+use Prim.Native.Nat.{◌+◌}
 use native.Mathlib.Omega.{arith}
-use lib.ListN.{get_or}
 use borrow.Author.Rules.{rules}
-use Rattle.cqf.specs.Bounded.{elem, sublist}
-use Rattle.cqf.specs.Limits.{max_hops, route_stride}
 use Rattle.questions.specs.Failing.{set_to}
 use Rattle.questions.specs.FlowSet.{word_slots}
 use Rattle.questions.specs.laws.Sets.{set_or, set_skip}

@@ -1,15 +1,11 @@
 -- `questions::flow_set::flow_word` meets its contract. The loop's invariant: `set` has the flows passed that cross the port.
-use mathlib.Core.Path.{◌≡◌, sym, ◌∙◌}
-use mathlib.Core.Logic.{⊎_elim}
+use mathlib.Core.Path.{◌≡◌}
 use Prim.Native.Nat.{suc, ◌+◌, ◌*◌, ◌-◌, ◌≤◌}
-use native.Mathlib.Omega.{arith}
 use lib.ListN.{get_or}
-use borrow.Author.Rules.{rules}
 use Rattle.cqf.specs.Bounded.{elem, sublist}
-use Rattle.cqf.specs.Limits.{max_hops, route_stride}
+use Rattle.cqf.specs.Limits.{route_stride}
 use Rattle.questions.specs.Failing.{set_to}
 use Rattle.questions.specs.FlowSet.{word_slots}
-use Rattle.questions.specs.laws.Sets.{set_or, set_skip}
 use Rattle.questions.proofs.flow_set.flow_word.Given as goal
 
 abbrev pub invariant-loop-i : goal.invariant-loop-i

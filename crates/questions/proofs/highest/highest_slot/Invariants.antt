@@ -1,13 +1,9 @@
 -- `questions::highest::highest_slot` meets its contract. The loop's invariant: no flow crosses a port from slot q on.
-use mathlib.Core.Path.{◌≡◌, sym, ◌∙◌}
+use mathlib.Core.Path.{◌≡◌}
 use mathlib.Core.Bool.{false}
-use Prim.Native.Nat.{ℕ, ◌-◌, ◌≤◌, ◌<◌}
-use native.Mathlib.Decide.{ℕ_discrete}
-use native.Mathlib.Omega.{arith}
+use Prim.Native.Nat.{ℕ, ◌≤◌, ◌<◌}
 use Rattle.cqf.specs.Limits.{port_slots}
-use Rattle.cqf.specs.Plan.{Plan}
 use Rattle.cqf.specs.Condition.{crossed}
-use Rattle.cqf.specs.laws.HighestCrossed.{highest_is, highest_none}
 use Rattle.questions.specs.PortSearch.{routes_only}
 use Rattle.questions.proofs.highest.highest_slot.Given as goal
 

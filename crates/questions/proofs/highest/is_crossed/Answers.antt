@@ -1,11 +1,8 @@
 use mathlib.Core.Path.{◌≡◌, sym, ◌∙◌}
-use mathlib.Core.Bool.{false}
-use Prim.Native.Nat.{◌-◌, ◌≤◌}
 use native.Mathlib.Omega.{arith}
-use lib.ListN.{get_or}
 use borrow.Author.Rules.{rules}
 use Rattle.cqf.specs.Bounded.{any_to}
-use Rattle.cqf.specs.Limits.{flow_slots, max_hops}
+use Rattle.cqf.specs.Limits.{flow_slots}
 use Rattle.cqf.specs.Plan.{crosses}
 use Rattle.cqf.specs.Condition.{crossed}
 use Rattle.cqf.specs.laws.Bounded.{any_to_some}

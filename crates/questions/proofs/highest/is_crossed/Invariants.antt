@@ -1,16 +1,10 @@
 -- `questions::highest::is_crossed` meets its contract. The loop's invariant: no flow passed crosses the port.
-use mathlib.Core.Path.{◌≡◌, sym, ◌∙◌}
+use mathlib.Core.Path.{◌≡◌}
 use mathlib.Core.Bool.{false}
 use Prim.Native.Nat.{◌-◌, ◌≤◌}
-use native.Mathlib.Omega.{arith}
-use lib.ListN.{get_or}
-use borrow.Author.Rules.{rules}
 use Rattle.cqf.specs.Bounded.{any_to}
-use Rattle.cqf.specs.Limits.{flow_slots, max_hops}
+use Rattle.cqf.specs.Limits.{flow_slots}
 use Rattle.cqf.specs.Plan.{crosses}
-use Rattle.cqf.specs.Condition.{crossed}
-use Rattle.cqf.specs.laws.Bounded.{any_to_some}
-use Rattle.cqf.specs.laws.Bounds.{any_to-next}
 use Rattle.questions.specs.PortSearch.{routes_only}
 use Rattle.questions.proofs.highest.is_crossed.Given as goal
 

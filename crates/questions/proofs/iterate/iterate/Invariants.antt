@@ -1,23 +1,14 @@
 -- `questions::iterate::iterate` meets its contract. Round the outer loop so many of the steps were made and t is reached; in the loop
 -- over the ports those below q do not fail at t.
-use mathlib.Core.Path.{◌≡◌, refl, sym, ap, subst, ◌∙◌}
-use mathlib.Core.Logic.{⊎_elim}
-use Prim.Native.Nat.{◌+◌, ◌-◌, ◌<◌}
-use native.Mathlib.Omega.{arith}
+use mathlib.Core.Path.{◌≡◌}
+use Prim.Native.Nat.{◌-◌}
 use lib.ListN.{length}
 use Rattle.cqf.specs.Limits.{port_slots}
-use Rattle.cqf.specs.Plan.{Plan}
 use Rattle.cqf.specs.Port.{window_of}
-use Rattle.cqf.specs.Need.{largest_need}
-use Rattle.cqf.specs.FixedPoint.{found, none, iterate}
-use Rattle.cqf.specs.laws.Ranges.{extra_most}
 use Rattle.numbers.specs.Clock.{clock_of}
 use Rattle.tables.specs.Columns.{plan_by}
-use Rattle.questions.specs.laws.Sums.{slot_in_range}
-use Rattle.questions.specs.laws.Widened.{widened_fits}
-use Rattle.questions.specs.laws.Scratch.{filled_by, filled_length, filled_short, filled_most, filled-served, filled-largest}
-use Rattle.questions.specs.laws.PortTest.{Passed, Left, passed_start, passed_all, port_tested, passed_until, passed_next, left_settles, left_more}
-use Rattle.questions.specs.laws.Iteration.{Stepped, Halted, stepped_start, stopped, settled, exceeded, steps_end, step_settles, step_exceeds, step_rises, halted_same, halted_length, halted_found, halted_none, halted_unfinished}
+use Rattle.questions.specs.laws.PortTest.{Passed}
+use Rattle.questions.specs.laws.Iteration.{Stepped}
 use Rattle.questions.proofs.iterate.iterate.Given as goal
 
 abbrev pub invariant-ports : goal.invariant-ports

@@ -1,9 +1,5 @@
 -- `questions::iteration::fixed_point_tables` meets its contract: the refusals before the steps, and what they answer.
-use mathlib.Core.Path.{◌≡◌, sym, ◌∙◌}
-use mathlib.Core.Bool.{true}
-use borrow.Author.Tests.{not-true, not-false}
-use Rattle.cqf.specs.Bounded.{within}
-use Rattle.cqf.specs.Plan.{Plan, valid_plan}
+use mathlib.Core.Path.{sym, ◌∙◌}
 use Rattle.plan_reading.specs.laws.fields.Within.{within_low, within_high}
 use Rattle.numbers.specs.Clock.{clock_of}
 use Rattle.tables.specs.Columns.{plan_by}

@@ -1,12 +1,8 @@
 -- `questions::iteration::steps_answer` meets its contract: each outcome of the steps has its answer.
 use mathlib.Core.Path.{ap}
-use borrow.Author.Rules.{rules}
-use Rattle.cqf.specs.Plan.{Plan}
-use Rattle.cqf.specs.FixedPoint.{Outcome}
 use Rattle.numbers.specs.Clock.{clock_of}
 use Rattle.tables.specs.Columns.{plan_by}
-use Rattle.answers.specs.Answer.{Answer}
-use Rattle.questions.specs.FixedPoint.{FixedPoint, outcome_answer}
+use Rattle.questions.specs.FixedPoint.{outcome_answer}
 use Rattle.questions.proofs.iteration.steps_answer.Goals as goal
 
 pub returns-in-Found : goal.returns-in-Found

@@ -1,13 +1,8 @@
-use mathlib.Core.Path.{◌≡◌, sym, ◌∙◌}
-use Prim.Native.Nat.{ℕ, suc, ◌-◌, ◌≤◌, ◌<◌}
+use mathlib.Core.Path.{sym, ◌∙◌}
 use native.Mathlib.Omega.{arith}
-use lib.ListN.{length}
-use Rattle.cqf.specs.Limits.{port_slots}
-use Rattle.cqf.specs.Plan.{Plan}
-use Rattle.cqf.specs.Need.{largest_need}
 use Rattle.numbers.specs.Clock.{clock_of}
 use Rattle.tables.specs.Columns.{plan_by}
-use Rattle.questions.specs.laws.Nearest.{Lowered, lowered_start, lowered_ends, lowered_next, needs_more}
+use Rattle.questions.specs.laws.Nearest.{lowered_start, lowered_ends, lowered_next, needs_more}
 use Rattle.questions.proofs.last_upto.last_upto.Goals as goal
 
 pub loop-at-init : goal.loop-at-init

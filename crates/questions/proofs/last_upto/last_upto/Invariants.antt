@@ -1,14 +1,10 @@
 -- `questions::last_upto::last_upto` meets its contract. Round the loop no duration above at is admissible.
-use mathlib.Core.Path.{◌≡◌, sym, ◌∙◌}
-use Prim.Native.Nat.{ℕ, suc, ◌-◌, ◌≤◌, ◌<◌}
-use native.Mathlib.Omega.{arith}
+use mathlib.Core.Path.{◌≡◌}
 use lib.ListN.{length}
 use Rattle.cqf.specs.Limits.{port_slots}
-use Rattle.cqf.specs.Plan.{Plan}
-use Rattle.cqf.specs.Need.{largest_need}
 use Rattle.numbers.specs.Clock.{clock_of}
 use Rattle.tables.specs.Columns.{plan_by}
-use Rattle.questions.specs.laws.Nearest.{Lowered, lowered_start, lowered_ends, lowered_next, needs_more}
+use Rattle.questions.specs.laws.Nearest.{Lowered}
 use Rattle.questions.proofs.last_upto.last_upto.Given as goal
 
 abbrev pub invariant-loop-at : goal.invariant-loop-at

@@ -1,12 +1,8 @@
-use mathlib.Core.Path.{◌≡◌, sym, ◌∙◌}
-use Prim.Native.Nat.{ℕ, ◌+◌, ◌-◌, ◌/◌, ◌<◌}
+use mathlib.Core.Path.{◌∙◌}
 use native.Mathlib.Omega.{arith}
-use lib.ListN.{length}
-use Rattle.cqf.specs.Limits.{port_slots}
-use Rattle.cqf.specs.Plan.{Plan}
 use Rattle.numbers.specs.Clock.{clock_of}
 use Rattle.tables.specs.Columns.{plan_by}
-use Rattle.questions.specs.laws.Nearest.{Halving, halving_start, halving_over, halving_under, middle_between}
+use Rattle.questions.specs.laws.Nearest.{halving_start, halving_over, halving_under, middle_between}
 use Rattle.questions.proofs.last_upto.outgrown.Goals as goal
 
 pub loop-under-init : goal.loop-under-init

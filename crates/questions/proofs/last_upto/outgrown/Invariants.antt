@@ -1,13 +1,11 @@
 -- `questions::last_upto::outgrown` meets its contract. Round the loop some port needs more than the duration at over.
-use mathlib.Core.Path.{◌≡◌, sym, ◌∙◌}
-use Prim.Native.Nat.{ℕ, ◌+◌, ◌-◌, ◌/◌, ◌<◌}
-use native.Mathlib.Omega.{arith}
+use mathlib.Core.Path.{◌≡◌}
+use Prim.Native.Nat.{◌-◌}
 use lib.ListN.{length}
 use Rattle.cqf.specs.Limits.{port_slots}
-use Rattle.cqf.specs.Plan.{Plan}
 use Rattle.numbers.specs.Clock.{clock_of}
 use Rattle.tables.specs.Columns.{plan_by}
-use Rattle.questions.specs.laws.Nearest.{Halving, halving_start, halving_over, halving_under, middle_between}
+use Rattle.questions.specs.laws.Nearest.{Halving}
 use Rattle.questions.proofs.last_upto.outgrown.Given as goal
 
 abbrev pub invariant-loop-under : goal.invariant-loop-under

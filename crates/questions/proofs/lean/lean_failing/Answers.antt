@@ -1,12 +1,10 @@
 use mathlib.Core.Path.{◌≡◌, refl, sym, ap₂, ◌∙◌}
-use mathlib.Core.Logic.{⊎_elim}
-use Prim.Native.Nat.{ℕ, ◌-◌, ◌≤◌}
 use native.Mathlib.Nat.{le_refl, le_trans, le_of_eq}
 use native.Mathlib.Omega.{arith}
 use Rattle.cqf.specs.Limits.{port_slots}
-use Rattle.cqf.specs.Plan.{Plan, rate_of, blocking_of, extra_of}
+use Rattle.cqf.specs.Plan.{rate_of, blocking_of, extra_of}
 use Rattle.cqf.specs.Port.{fails_by_of}
-use Rattle.cqf.specs.Condition.{demand, fails}
+use Rattle.cqf.specs.Condition.{fails}
 use Rattle.cqf.specs.laws.Ranges.{top_positive, top_most, extra_most}
 use Rattle.numbers.specs.Clock.{clock_of}
 use Rattle.tables.specs.Columns.{plan_by}

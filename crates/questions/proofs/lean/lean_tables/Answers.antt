@@ -1,14 +1,9 @@
 -- `questions::lean::lean_tables` meets its contract: the refusals before a search, and the first number of the scratch.
 use mathlib.Core.Path.{◌≡◌, sym, ap, ap₂, ◌∙◌}
-use mathlib.Core.Bool.{true}
-use mathlib.Core.List.{List}
 use Prim.Native.Nat.{ℕ, suc, ◌-◌, ◌≤◌}
 use native.Mathlib.Nat.{le_trans, le_of_eq}
 use native.Mathlib.Omega.{arith}
 use lib.ListN.{length}
-use borrow.Author.Rules.{rules}
-use borrow.Author.Tests.{not-true, not-false}
-use Rattle.cqf.specs.Plan.{Plan, valid_plan}
 use Rattle.cqf.specs.Condition.{demand}
 use Rattle.cqf.specs.PortSteps.{highest_crossed}
 use Rattle.cqf.specs.laws.HighestCrossed.{highest_slot}

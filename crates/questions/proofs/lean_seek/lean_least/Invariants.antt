@@ -1,14 +1,10 @@
 -- `questions::lean_seek::lean_least` meets its contract. Round the outer loop t was reached by steps of single ports; in the loop over
 -- the ports so many of them in turn pass at t.
-use mathlib.Core.Logic.{⊎_elim}
 use Prim.Native.Nat.{suc, ◌-◌, ◌<◌}
-use native.Mathlib.Omega.{arith}
 use Rattle.cqf.specs.Limits.{port_slots}
-use Rattle.cqf.specs.Plan.{Plan}
-use Rattle.cqf.specs.laws.Ranges.{top_most}
 use Rattle.numbers.specs.Clock.{clock_of}
 use Rattle.tables.specs.Columns.{plan_by}
-use Rattle.questions.specs.laws.LeanSearch.{Reached, reached_start, reached_first, reached_least, reached_stays, InTurn, turn_start, turn_next, turn_all, LeftTurn, all, further, left_further, left_next, left_above}
+use Rattle.questions.specs.laws.LeanSearch.{Reached, InTurn}
 use Rattle.questions.proofs.lean_seek.lean_least.Given as goal
 
 abbrev pub invariant-ports : goal.invariant-ports

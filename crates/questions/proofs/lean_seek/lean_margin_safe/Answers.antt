@@ -1,11 +1,8 @@
-use Prim.Native.Nat.{◌+◌, ◌-◌}
 use native.Mathlib.Omega.{arith}
-use Rattle.cqf.specs.Limits.{port_slots}
-use Rattle.cqf.specs.Plan.{Plan}
 use Rattle.cqf.specs.laws.Ranges.{top_positive}
 use Rattle.numbers.specs.Clock.{clock_of}
 use Rattle.tables.specs.Columns.{plan_by}
-use Rattle.questions.specs.laws.LeanSearch.{SafeTo, safe_start, safe_first, safe_within, safe_next, safe_all, safe_above}
+use Rattle.questions.specs.laws.LeanSearch.{safe_start, safe_first, safe_within, safe_next, safe_all, safe_above}
 use Rattle.questions.proofs.lean_seek.lean_margin_safe.Goals as goal
 
 pub loop-q-init : goal.loop-q-init

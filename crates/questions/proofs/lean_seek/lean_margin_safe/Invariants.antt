@@ -1,13 +1,10 @@
 -- `questions::lean_seek::lean_margin_safe` meets its contract. The loop's invariant: safe is the largest of the margin-safe durations
 -- of the ports passed.
-use Prim.Native.Nat.{◌+◌, ◌-◌}
-use native.Mathlib.Omega.{arith}
+use Prim.Native.Nat.{◌-◌}
 use Rattle.cqf.specs.Limits.{port_slots}
-use Rattle.cqf.specs.Plan.{Plan}
-use Rattle.cqf.specs.laws.Ranges.{top_positive}
 use Rattle.numbers.specs.Clock.{clock_of}
 use Rattle.tables.specs.Columns.{plan_by}
-use Rattle.questions.specs.laws.LeanSearch.{SafeTo, safe_start, safe_first, safe_within, safe_next, safe_all, safe_above}
+use Rattle.questions.specs.laws.LeanSearch.{SafeTo}
 use Rattle.questions.proofs.lean_seek.lean_margin_safe.Given as goal
 
 abbrev pub invariant-loop-q : goal.invariant-loop-q

@@ -1,14 +1,10 @@
 use mathlib.Core.Path.{◌≡◌, ap₂, sym, ◌∙◌}
-use mathlib.Core.List.{List}
-use Prim.Native.Nat.{ℕ, max, ◌-◌, ◌≤◌}
+use Prim.Native.Nat.{max}
 use native.Mathlib.Omega.{arith}
-use lib.ListN.{get_or}
 use borrow.Author.Rules.{rules}
 use Rattle.cqf.specs.Bounded.{max_to}
 use Rattle.cqf.specs.Limits.{port_slots}
-use Rattle.cqf.specs.Need.{need_by}
 use Rattle.cqf.specs.laws.Bounds.{max_to-next}
-use Rattle.questions.proofs.need.largest_need.Invariants.{need_in}
 use Rattle.questions.proofs.need.largest_need.Goals as goal
 
 pub loop-q-init : goal.loop-q-init

@@ -1,14 +1,11 @@
 -- `questions::need::largest_need` meets its contract. The loop's invariant: `most` is the most that a port passed needs.
-use mathlib.Core.Path.{◌≡◌, ap₂, sym, ◌∙◌}
+use mathlib.Core.Path.{◌≡◌}
 use mathlib.Core.List.{List}
-use Prim.Native.Nat.{ℕ, max, ◌-◌, ◌≤◌}
-use native.Mathlib.Omega.{arith}
+use Prim.Native.Nat.{ℕ, ◌-◌, ◌≤◌}
 use lib.ListN.{get_or}
-use borrow.Author.Rules.{rules}
 use Rattle.cqf.specs.Bounded.{max_to}
 use Rattle.cqf.specs.Limits.{port_slots}
 use Rattle.cqf.specs.Need.{need_by}
-use Rattle.cqf.specs.laws.Bounds.{max_to-next}
 use Rattle.questions.proofs.need.largest_need.Given as goal
 
 -- what the port in slot q needs, by the columns

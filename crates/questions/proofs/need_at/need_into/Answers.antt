@@ -1,13 +1,10 @@
 -- `questions::need_at::need_into` meets its contract: the demands are those of the duration, and the need is the largest of them.
-use native.Mathlib.Omega.{arith}
-use borrow.Author.Rules.{rules}
-use Rattle.cqf.specs.Plan.{Plan}
 use Rattle.cqf.specs.laws.Ranges.{extra_most}
 use Rattle.numbers.specs.Clock.{clock_of}
 use Rattle.tables.specs.Columns.{plan_by}
 use Rattle.questions.specs.laws.Sums.{slot_in_range}
 use Rattle.questions.specs.laws.Widened.{widened_fits}
-use Rattle.questions.specs.laws.Scratch.{Filled, filled_by, filled_length, filled_most, filled-served, filled-largest}
+use Rattle.questions.specs.laws.Scratch.{filled_by, filled_length, filled_most, filled-served, filled-largest}
 use Rattle.questions.proofs.need_at.need_into.Goals as goal
 
 pub demands-requires : goal.demands-requires

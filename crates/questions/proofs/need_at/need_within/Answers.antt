@@ -1,10 +1,7 @@
 -- `questions::need_at::need_within` meets its contract: at a duration out of the range nothing is worked out.
-use mathlib.Core.Path.{◌≡◌, sym, ap, ◌∙◌}
-use mathlib.Core.Bool.{Bool, true, cond}
+use mathlib.Core.Path.{sym, ap, ◌∙◌}
+use mathlib.Core.Bool.{Bool, cond}
 use Prim.Native.Nat.{ℕ}
-use borrow.Author.Rules.{rules}
-use borrow.Author.Tests.{not-true, not-false}
-use Rattle.cqf.specs.Bounded.{within}
 use Rattle.cqf.specs.Plan.{Plan}
 use Rattle.cqf.specs.Need.{largest_need}
 use Rattle.plan_reading.specs.laws.fields.Within.{within_high}

@@ -1,10 +1,5 @@
-use mathlib.Core.Logic.{⊎_elim}
-use Prim.Native.Nat.{◌-◌}
 use native.Mathlib.Omega.{arith}
-use borrow.Author.Rules.{rules}
-use Rattle.cqf.specs.Limits.{port_slots}
-use Rattle.questions.specs.PortSearch.{need_in}
-use Rattle.questions.specs.laws.Neediest.{Neediest, neediest_start, neediest_more, neediest_same, neediest_all}
+use Rattle.questions.specs.laws.Neediest.{neediest_start, neediest_more, neediest_same, neediest_all}
 use Rattle.questions.proofs.neediest.neediest.Goals as goal
 use Rattle.questions.proofs.neediest.neediest.Goals.{then-most-needed, else-most-needed}
 

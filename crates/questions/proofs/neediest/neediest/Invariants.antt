@@ -1,11 +1,8 @@
 -- `questions::neediest::neediest` meets its contract. The loop's invariant: of the ports passed the one in slot at needs most.
-use mathlib.Core.Logic.{⊎_elim}
 use Prim.Native.Nat.{◌-◌}
-use native.Mathlib.Omega.{arith}
-use borrow.Author.Rules.{rules}
 use Rattle.cqf.specs.Limits.{port_slots}
 use Rattle.questions.specs.PortSearch.{need_in}
-use Rattle.questions.specs.laws.Neediest.{Neediest, neediest_start, neediest_more, neediest_same, neediest_all}
+use Rattle.questions.specs.laws.Neediest.{Neediest}
 use Rattle.questions.proofs.neediest.neediest.Given as goal
 
 abbrev pub invariant-loop-q : goal.invariant-loop-q

@@ -1,12 +1,8 @@
 -- `questions::port_demand::route_holds` meets its contract. The loop's invariant: the port is none of those passed, an even number.
-use mathlib.Core.Path.{◌≡◌, sym, ap, ◌∙◌}
-use mathlib.Core.Bool.{Bool, true, false}
-use Prim.Native.Nat.{ℕ, suc, ◌+◌, ◌-◌, ◌%◌, ◌≤◌}
-use native.Mathlib.Omega.{arith}
-use borrow.Author.Rules.{rules}
-use lib.ListN.{get_or}
+use mathlib.Core.Path.{◌≡◌}
+use mathlib.Core.Bool.{false}
+use Prim.Native.Nat.{suc, ◌-◌, ◌%◌, ◌≤◌}
 use Rattle.cqf.specs.Bounded.{elem, sublist}
-use Rattle.questions.specs.laws.Sums.{elem_next, elem_here}
 use Rattle.questions.proofs.port_demand.route_holds.Given as goal
 
 abbrev pub invariant-loop-i : goal.invariant-loop-i

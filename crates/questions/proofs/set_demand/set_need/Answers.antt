@@ -1,7 +1,6 @@
 -- `questions::set_demand::set_need` meets its contract.
 use mathlib.Core.Path.{ap, ◌∙◌}
 use native.Mathlib.Nat.{le_trans, le_of_eq}
-use borrow.Author.Rules.{rules}
 use Rattle.cqf.specs.Need.{need_by}
 use Rattle.questions.specs.laws.FlowSets.{countable_set}
 use Rattle.questions.proofs.set_demand.set_need.Goals as goal
