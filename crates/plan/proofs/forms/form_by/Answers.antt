@@ -1,7 +1,6 @@
 -- `form_by` meets its contract: an empty plan has no first byte.
 use mathlib.Core.Path.{sym}
 use native.Mathlib.Omega.{arith}
-use borrow.Author.Rules.{rules}
 use borrow.Author.Tests.{eq-eqb, ne_eqb}
 use lib.ListN.{get_or-eq_default}
 use Rattle.plan.specs.Layout.{form_by}

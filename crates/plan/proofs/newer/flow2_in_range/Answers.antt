@@ -3,8 +3,6 @@ use mathlib.Core.Path.{◌≡◌, refl, sym, ◌∙◌}
 use mathlib.Core.List.{[], ◌∷◌}
 use mathlib.Core.Bool.{◌&&◌, and-true}
 use lib.ListN.{drop}
-use borrow.Author.Rules.{rules}
-use borrow.Author.Tests.{not-true, not-false}
 use Rattle.plan.specs.declared.Flow2 as declared
 use Rattle.plan.specs.Layout.{Kind, layout}
 use Rattle.plan.specs.Field.{in_ranges}

@@ -1,7 +1,6 @@
 -- `header2_of` meets its contract: test 4, then test 5 on the numbers that were read.
 use mathlib.Core.Path.{◌≡◌, refl, sym, ◌∙◌}
 use borrow.Author.Rules.{rules}
-use borrow.Author.Tests.{not-true, not-false}
 use Rattle.plan.specs.Layout.{Kind, layout}
 use Rattle.plan.specs.Field.{numbers_at, in_ranges}
 use Rattle.plan.specs.laws.Tested.{plain_length, plain_range, plain_read}

@@ -1,6 +1,5 @@
 -- `be16` meets its contract: the two bytes are those of `number2`.
 use native.Mathlib.Omega.{arith}
-use borrow.Author.Rules.{rules}
 use Rattle.plan.specs.Bytes.{number2}
 use Rattle.plan.proofs.number.be16.Goals as goal
 

@@ -1,6 +1,5 @@
 -- `be32` meets its contract: the two halves are those of `number4`.
 use native.Mathlib.Omega.{arith}
-use borrow.Author.Rules.{rules}
 use Rattle.plan.specs.Bytes.{number4}
 use Rattle.plan.proofs.number.be32.Goals as goal
 

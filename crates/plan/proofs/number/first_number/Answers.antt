@@ -1,6 +1,5 @@
 -- `first_number` meets its contract, by how many of the two bytes there are.
 use native.Mathlib.Omega.{arith}
-use borrow.Author.Rules.{rules}
 use lib.ListN.{get_or-eq_default}
 use Rattle.plan.specs.Bytes.{number2}
 use Rattle.plan.proofs.number.first_number.Goals as goal

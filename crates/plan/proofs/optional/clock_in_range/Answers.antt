@@ -1,7 +1,6 @@
 -- `clock_in_range` meets its contract.
-use mathlib.Core.Path.{sym, ap, ◌∙◌}
+use mathlib.Core.Path.{sym, ◌∙◌}
 use mathlib.Core.Bool.{and-true, and_assoc}
-use borrow.Author.Rules.{rules}
 use Rattle.plan.proofs.optional.clock_in_range.Goals as goal
 
 pub returns : goal.returns

@@ -1,8 +1,6 @@
 -- `extra_in_range` meets its contract: each return goes by the tests that led there.
 use mathlib.Core.Path.{sym, ◌∙◌}
 use mathlib.Core.Bool.{and-true}
-use borrow.Author.Rules.{rules}
-use borrow.Author.Tests.{not-true, not-false}
 use Rattle.plan.proofs.optional.extra_in_range.Goals as goal
 
 pub returns-then-not-port_ok : goal.returns-then-not-port_ok

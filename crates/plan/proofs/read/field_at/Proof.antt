@@ -1,11 +1,10 @@
 -- `field_at` meets its contract: test 2, and the field in the value of a whole one.
 use Prim.Native.Nat.{◌+◌, ◌≤◌}
-use mathlib.Core.Path.{◌≡◌, sym, ap, ◌∙◌}
+use mathlib.Core.Path.{◌≡◌, sym, ◌∙◌}
 use native.Mathlib.Omega.{arith}
 use borrow.Author.Rules.{rules}
 use lib.ListN.{length}
 use Rattle.plan.specs.Field.{head, head_at}
-use Rattle.plan.specs.Answer.{head_of}
 use Rattle.plan.specs.laws.Whole.{read_fits, read_whole, read_tag, read_size, read_cut, part_whole}
 use Rattle.plan.specs.laws.Tested.{field_cut, field_whole}
 use Rattle.plan.proofs.read.field_at.Statement.{statement}

@@ -1,6 +1,5 @@
 -- `newer_field` meets its contract: test 3, and the field by its tag.
 use mathlib.Core.Path.{sym, ◌∙◌}
-use borrow.Author.Rules.{rules}
 use Rattle.cqf.specs.Form.{newer}
 use Rattle.plan.specs.Layout.{Kind}
 use Rattle.plan.specs.laws.Tested.{tag_known, tag_unknown}

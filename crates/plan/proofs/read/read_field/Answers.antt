@@ -1,6 +1,5 @@
 -- `read_field` meets its contract: the form is the one that the bytes tell.
 use mathlib.Core.Path.{ap, ◌∙◌}
-use borrow.Author.Rules.{rules}
 use Rattle.cqf.specs.Form.{Form}
 use Rattle.plan.specs.Field.{field_at}
 use Rattle.plan.proofs.read.read_field.Goals as goal

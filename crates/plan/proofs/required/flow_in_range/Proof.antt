@@ -2,7 +2,6 @@
 use mathlib.Core.Path.{◌≡◌, sym, ◌∙◌}
 use mathlib.Core.Bool.{true, and-true}
 use borrow.Author.Rules.{rules}
-use borrow.Author.Tests.{not-true, not-false}
 use Rattle.cqf.specs.Limits.{flow_ok, period_ok, count_ok}
 use Rattle.plan.proofs.required.flow_in_range.Statement.{statement}
 use Rattle.plan.proofs.required.flow_in_range.Tie as tie

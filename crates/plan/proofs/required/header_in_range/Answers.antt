@@ -1,8 +1,6 @@
 -- `header_in_range` meets its contract: each return goes by the tests that led there.
 use mathlib.Core.Path.{sym, ◌∙◌}
 use mathlib.Core.Bool.{and-true}
-use borrow.Author.Rules.{rules}
-use borrow.Author.Tests.{not-true, not-false}
 use Rattle.plan.proofs.required.header_in_range.Goals as goal
 
 pub returns-then-not-guard_ok : goal.returns-then-not-guard_ok

@@ -2,7 +2,6 @@
 use mathlib.Core.Path.{◌≡◌, sym, ◌∙◌}
 use mathlib.Core.Bool.{true, and-true}
 use borrow.Author.Rules.{rules}
-use borrow.Author.Tests.{not-true, not-false}
 use Rattle.cqf.specs.Limits.{port_ok, rate_ok}
 use Rattle.plan.proofs.required.port_in_range.Statement.{statement}
 use Rattle.plan.proofs.required.port_in_range.Tie as tie

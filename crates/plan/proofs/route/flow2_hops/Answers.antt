@@ -1,7 +1,6 @@
 -- `flow2_hops` meets its contract: a length that passed the three tests is that of a number of ports, and any other of none.
-use mathlib.Core.Path.{refl, sym}
+use mathlib.Core.Path.{refl}
 use native.Mathlib.Omega.{arith}
-use borrow.Author.Rules.{rules}
 use Rattle.plan.specs.Layout.{Kind}
 use Rattle.plan.specs.laws.Lengths.{other_length, hops_length}
 use Rattle.plan.proofs.route.flow2_hops.Goals as goal

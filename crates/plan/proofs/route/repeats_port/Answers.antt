@@ -1,6 +1,5 @@
 -- `repeats_port` meets its contract.
 use mathlib.Core.Path.{◌∙◌}
-use borrow.Author.Rules.{rules}
 use Rattle.plan.specs.Field.{repeats}
 use Rattle.plan.proofs.route.repeats_port.Goals as goal
 

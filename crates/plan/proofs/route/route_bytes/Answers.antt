@@ -1,7 +1,6 @@
 -- `route_bytes` meets its contract: what is left of the value behind its other numbers.
 use mathlib.Core.Path.{sym}
 use native.Mathlib.Omega.{arith}
-use borrow.Author.Rules.{rules}
 use lib.ListN.{drop, drop_of_length-le, length-drop}
 use lib.Seq.{take-length}
 use Rattle.plan.proofs.route.route_bytes.Goals as goal

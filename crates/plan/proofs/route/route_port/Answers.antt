@@ -1,7 +1,6 @@
 -- `route_port` meets its contract: port i is the number at byte 2 i.
 use mathlib.Core.Path.{sym, ◌∙◌}
 use native.Mathlib.Omega.{arith}
-use borrow.Author.Rules.{rules}
 use Rattle.plan.specs.laws.Route.{route_at, route_past}
 use Rattle.plan.proofs.route.route_port.Goals as goal
 

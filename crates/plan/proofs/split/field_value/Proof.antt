@@ -1,13 +1,12 @@
 -- `field_value` meets its contract: a whole field ends within the plan, so its value is a part of it.
 use Prim.Native.Nat.{◌+◌, ◌≤◌}
-use mathlib.Core.Path.{◌≡◌, sym, ap, ◌∙◌}
+use mathlib.Core.Path.{◌≡◌, sym}
 use native.Mathlib.Nat.{add-sub_cancel_left}
 use native.Mathlib.Omega.{arith}
 use borrow.Author.Rules.{rules}
 use lib.ListN.{length}
 use Rattle.plan.specs.Bytes.{value_at}
 use Rattle.plan.specs.Field.{head, head_at}
-use Rattle.plan.specs.Answer.{head_of}
 use Rattle.plan.specs.laws.Whole.{read_fits, read_whole, read_size, read_cut, part_whole, part_cut}
 use Rattle.plan.proofs.split.field_value.Statement.{statement}
 use Rattle.plan.proofs.split.field_value.Tie as tie

@@ -1,7 +1,6 @@
 -- `split_head` meets its contract: at each return the tests that led there say whether the field ends within the plan.
 use mathlib.Core.Path.{sym, ap, ◌∙◌}
 use native.Mathlib.Omega.{arith}
-use borrow.Author.Rules.{rules}
 use Rattle.plan.specs.Bytes.{tag_at, size_at}
 use Rattle.plan.specs.Field.{head}
 use Rattle.plan.specs.laws.Whole.{whole, not_whole, head_whole, head_cut}

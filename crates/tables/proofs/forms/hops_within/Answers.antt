@@ -36,7 +36,7 @@ loop-f-preserved c =
     let at = c.loop-f in (
       omega arith,
       elim c.if-most-hops.branch [
-          then-most-hops w ↦ w.within-is ∙ next_false at.f _ (lt-leb _ _ w.if-most-hops.true)
+        | then-most-hops w ↦ w.within-is ∙ next_false at.f _ (lt-leb _ _ w.if-most-hops.true)
         | else-most-hops w ↦ w.within-is ∙ next_true at.f _ at.invariant.1 (le-leb _ _ w.if-most-hops.false)
       ],
     )
