@@ -1,5 +1,5 @@
 -- A batch (document 02: a desk) of eight slots, and what placing, serving and collecting answer and leave, for any batch and input.
-use Rattle.std.specs.Prelude.{ℕ, suc, ◌+◌, ◌%◌, List, [], ◌∷◌, Bool, cond, ◌&&◌, ltb, get_or, set, replicate}
+use Rattle.std.specs.Prelude.{ℕ, suc, ◌+◌, ◌%◌, List, [], ◌∷◌, cond, ◌&&◌, ltb, get_or, set, replicate}
 use Rattle.std.proofs.Math.Option.{Option, none, some}
 use Rattle.cqf.specs.Bounded.{lowest}
 use Rattle.plan_reading.specs.Reading.{PlanRead, accepted, rejected, loose, read_as_of}

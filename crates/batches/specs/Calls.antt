@@ -1,5 +1,5 @@
 -- Sequences of calls from the empty batch, each given the batch as the call before left it; and the turns among them.
-use Rattle.std.specs.Prelude.{ℕ, suc, ◌+◌, List, [], ◌∷◌, Bool, true, false, cond, eqb}
+use Rattle.std.specs.Prelude.{ℕ, ◌+◌, List, [], ◌∷◌, Bool, true, false, cond, eqb}
 use Rattle.std.proofs.Math.Option.{Option, none, some}
 use Rattle.answers.specs.Answer.{Answer}
 use Rattle.questions.specs.FixedPoint.{FixedPoint}

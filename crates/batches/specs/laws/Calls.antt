@@ -1,20 +1,20 @@
 -- A plan's slot over a sequence of calls, until its final answer is collected.
-use Rattle.std.specs.Prelude.{◌≡◌, Bool, cond, ◌&&◌, ℕ, suc, ◌+◌, ◌-◌, ◌*◌, ◌≤◌, ◌<◌, ltb, eqb, length, set}
+use Rattle.std.specs.Prelude.{◌≡◌, Bool, cond, ◌&&◌, ℕ, ◌+◌, ◌*◌, ◌≤◌, ◌<◌, ltb, eqb, length}
 use Rattle.std.proofs.Math.Path.{refl, sym}
-use Rattle.std.proofs.Common.{ap, subst, ◌∙◌, true≢false, add_assoc, length-set, get_or-set_same, get_or-set_other, eq-eqb, ne_eqb}
+use Rattle.std.proofs.Common.{ap, ◌∙◌, true≢false, length-set, get_or-set_same, get_or-set_other, eq-eqb, ne_eqb}
 use mathlib.Core.List.{List, [], ◌∷◌}
 use Rattle.std.proofs.Math.Option.{Option, none, some, some-injective}
 use Rattle.std.proofs.Math.Bool.{true, false}
 use Rattle.std.proofs.lemmas.Bool.{false≢true}
 use Rattle.std.proofs.Math.Nat.{zero-add}
-use Rattle.std.proofs.Math.Decide.{ℕ_discrete, dec_lt}
+use Rattle.std.proofs.Math.Decide.{ℕ_discrete}
 use native.Mathlib.Omega.{arith}
 use Rattle.cqf.specs.Plan.{Plan, valid_plan}
-use Rattle.cqf.specs.FixedPoint.{unfinished, iterate}
+use Rattle.cqf.specs.FixedPoint.{iterate}
 use Rattle.plan_reading.specs.Reading.{PlanRead, accepted, rejected, loose, read_as_of}
 use Rattle.answers.specs.Answer.{Answer}
 use Rattle.questions.specs.FixedPoint.{FixedPoint}
-use Rattle.batches.specs.Slot.{Slot, vacant, pending, answered, is_vacant, is_pending, is_answered, turn_steps, slot_by, turned, advanced}
+use Rattle.batches.specs.Slot.{Slot, vacant, pending, answered, is_vacant, is_pending, is_answered, turn_steps, slot_by, advanced}
 use Rattle.batches.specs.Batch.{Batch, slot_count, slot_at, with_slot, with_read, place_leaves, serve_answer, served, serve_leaves, collect_leaves}
 use Rattle.batches.specs.Calls.{Call, place, serve, collect, leaves, after_from, one, is_turn, turns, tells, serves, turns_of, final_of, collects, or_else, collected}
 use Rattle.batches.specs.Turns.{single_answer}

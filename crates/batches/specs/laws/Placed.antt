@@ -1,20 +1,19 @@
 -- A batch after calls has its eight slots, and a plan that is placed stands at the start of its search.
-use Rattle.std.specs.Prelude.{◌≡◌, refl, List, [], ◌∷◌, Bool, cond, ◌&&◌, ℕ, ◌+◌, ◌*◌, ◌≤◌, ◌<◌, ltb, length, set}
-use Rattle.std.proofs.Common.{sym, ap, ◌∙◌, true≢false, arith, ltb-true}
+use Rattle.std.specs.Prelude.{◌≡◌, refl, List, [], ◌∷◌, Bool, cond, ◌&&◌, ℕ, ◌<◌, ltb, length}
+use Rattle.std.proofs.Common.{◌∙◌, arith, ltb-true}
 use Rattle.std.proofs.Math.Option.{Option, none, some}
 use Rattle.std.proofs.Math.Bool.{true, false}
-use Rattle.std.proofs.lemmas.Bool.{false≢true}
 use Rattle.std.proofs.Math.ListN.{length-set}
 use Rattle.std.proofs.Math.Seq.{get_or-set_same}
 use Rattle.cqf.specs.Plan.{Plan}
 use Rattle.cqf.specs.FixedPoint.{iterate}
 use Rattle.plan_reading.specs.Reading.{PlanRead, accepted, rejected, loose, read_as_of}
-use Rattle.answers.specs.Answer.{Answer, result, refusal, refusal_number}
-use Rattle.loading.specs.Outcome.{Fields, load_answer}
-use Rattle.batches.specs.Slot.{Slot, vacant, pending, is_vacant, is_pending, is_answered, turn_steps, slot_by, advanced}
+use Rattle.answers.specs.Answer.{refusal, refusal_number}
+use Rattle.loading.specs.Outcome.{load_answer}
+use Rattle.batches.specs.Slot.{vacant, pending, is_vacant, is_answered, advanced}
 use Rattle.batches.specs.Batch.{Batch, empty_batch, slot_count, slot_at, with_slot, with_read, place_answer, place_leaves, serve_answer, served, serve_leaves, collect_leaves}
 use Rattle.batches.specs.Calls.{Call, place, serve, collect, leaves, after_from, after}
-use Rattle.batches.specs.laws.Turns.{gap, gap_below}
+use Rattle.batches.specs.laws.Turns.{gap_below}
 use Rattle.batches.specs.laws.Calls.{Goes}
 
 abbrev Sized : Batch → Type 0

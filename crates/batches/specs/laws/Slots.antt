@@ -1,7 +1,7 @@
 -- A plan's slot after so many steps from 1 ns on: where it is, what a turn more gives, and that its answer is the single one's.
 use Rattle.std.specs.Prelude.{◌≡◌, Bool, false, cond, ℕ, ◌+◌, ◌≤◌, ◌<◌, leb}
 use Rattle.std.proofs.Math.Path.{refl}
-use Rattle.std.proofs.Common.{sym, ap, ◌∙◌, true≢false, le_refl, le_trans, arith}
+use Rattle.std.proofs.Common.{sym, ap, ◌∙◌, le_refl, arith}
 use Rattle.std.proofs.Math.Bool.{true}
 use Rattle.std.proofs.lemmas.Bool.{false≢true}
 use Rattle.std.proofs.Math.Decide.{dec_le}
@@ -9,14 +9,14 @@ use borrow.Author.Tests.{le-leb}
 use Rattle.cqf.specs.Bounded.{within}
 use Rattle.cqf.specs.Plan.{Plan, valid_plan}
 use Rattle.cqf.specs.Need.{least_from}
-use Rattle.cqf.specs.FixedPoint.{steps_from, Outcome, found, none, unfinished, after_steps, iterate, ended, Converges}
+use Rattle.cqf.specs.FixedPoint.{steps_from, Outcome, found, none, unfinished, iterate, ended, Converges}
 use Rattle.cqf.specs.laws.Ranges.{top_positive}
 use Rattle.cqf.specs.laws.Ended.{ended-none}
 use Rattle.cqf.specs.laws.Converges.{converges}
 use Rattle.answers.specs.Answer.{Answer}
 use Rattle.questions.specs.FixedPoint.{FixedPoint, outcome_answer, fixed_point_answer}
 use Rattle.questions.specs.laws.Answers.{fixed_point_within}
-use Rattle.batches.specs.Slot.{Slot, vacant, pending, answered, is_vacant, is_pending, turn_steps, slot_by, turned, advanced}
+use Rattle.batches.specs.Slot.{Slot, vacant, pending, answered, is_vacant, is_pending, turn_steps, slot_by, turned}
 use Rattle.batches.specs.Turns.{single_answer}
 
 -- the answer in a slot

@@ -1,6 +1,6 @@
 -- How many steps an iteration uses of those that it is given, and how far it comes.
 use Rattle.std.specs.Prelude.{◌≡◌, refl, Bool, true, false, ℕ, zero, suc, ◌+◌, ◌≤◌, ◌<◌}
-use Rattle.std.proofs.Common.{subst, sym, arith, leb-false}
+use Rattle.std.proofs.Common.{arith, leb-false}
 use Rattle.cqf.specs.Plan.{Plan}
 use Rattle.cqf.specs.Need.{largest_need}
 use Rattle.cqf.specs.FixedPoint.{Outcome, found, none, unfinished, after_steps, settles, passes_top, iterate}

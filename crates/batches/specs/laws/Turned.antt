@@ -1,6 +1,6 @@
 -- What a turn leaves, by the answer to its steps.
 use Rattle.std.proofs.Math.Path.{◌≡◌, ap, ap₂}
-use Rattle.std.specs.Prelude.{refl, [], ◌∷◌, Bool, true, false, cond, ◌&&◌, ℕ, ◌+◌, ◌≤◌, ◌<◌, leb}
+use Rattle.std.specs.Prelude.{refl, [], ◌∷◌, Bool, true, false, cond, ◌&&◌, ℕ, ◌+◌, ◌≤◌, leb}
 use Rattle.std.proofs.Common.{sym, ◌∙◌, le_trans, leb-true}
 use Rattle.std.proofs.lemmas.Bool.{false≢true}
 use native.Mathlib.Omega.{arith}
@@ -13,7 +13,7 @@ use Rattle.cqf.specs.laws.Ranges.{top_most}
 use Rattle.answers.specs.Answer.{Answer, result, refusal, refusal_number}
 use Rattle.questions.specs.FixedPoint.{FixedPoint, outcome_answer, fixed_point_answer}
 use Rattle.batches.specs.Slot.{Slot, pending, answered, turn_steps, slot_by, turned}
-use Rattle.batches.specs.laws.Steps.{Uses, uses}
+use Rattle.batches.specs.laws.Steps.{uses}
 
 second : (x y : Bool) → (x && y) ≡ true → y ≡ true
 second true y e = e

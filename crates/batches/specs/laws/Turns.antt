@@ -1,5 +1,5 @@
 -- Which slot a turn serves, and how far a slot is from the next one.
-use Rattle.std.specs.Prelude.{◌≡◌, refl, Bool, true, cond, ℕ, suc, ◌+◌, ◌-◌, ◌*◌, ◌%◌, ◌≤◌, ◌<◌, ltb, length, set}
+use Rattle.std.specs.Prelude.{◌≡◌, Bool, true, ℕ, suc, ◌+◌, ◌-◌, ◌%◌, ◌≤◌, ◌<◌}
 use Rattle.std.proofs.Math.Path.{sym, ap}
 use Rattle.std.proofs.Common.{◌∙◌, true≢false}
 use Rattle.std.proofs.Math.Option.{Option, none, some}
@@ -9,9 +9,9 @@ use Rattle.std.proofs.Math.Decide.{dec_lt, dec_le, ℕ_discrete}
 use native.Mathlib.Omega.{arith}
 use borrow.Author.Tests.{lt-ltb, le-ltb}
 use Rattle.cqf.specs.Bounded.{lowest}
-use Rattle.cqf.specs.laws.Bounded.{lowest_le, lowest-passes, lowest_below}
-use Rattle.batches.specs.Slot.{Slot, vacant, is_pending, advanced}
-use Rattle.batches.specs.Batch.{Batch, slot_count, slot_at, slot_after, serve_answer, serve_leaves, served}
+use Rattle.cqf.specs.laws.Bounded.{lowest-passes, lowest_below}
+use Rattle.batches.specs.Slot.{is_pending}
+use Rattle.batches.specs.Batch.{Batch, slot_count, slot_at, slot_after, serve_answer, served}
 
 -- slot t is the first pending one from the next on, going round
 pub record Serves (b : Batch) (t : ℕ) : Type 0 where

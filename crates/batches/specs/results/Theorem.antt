@@ -1,13 +1,12 @@
 -- The theorems of batches: over every sequence of calls, and of a turn at any batch.
-use Rattle.std.specs.Prelude.{◌≡◌, List, [], ◌∷◌, Bool, true, false, cond, ◌&&◌, ℕ, ◌+◌, ◌*◌, ◌≤◌, ◌<◌, ltb, length}
+use Rattle.std.specs.Prelude.{◌≡◌, List, [], ◌∷◌, Bool, true, false, cond, ◌&&◌, ℕ, ◌*◌, ◌≤◌, ◌<◌, ltb}
 use Rattle.std.proofs.Math.Path.{refl, sym, ap}
-use Rattle.std.proofs.Common.{◌∙◌, true≢false, add-zero, arith, lt-ltb, le-ltb}
+use Rattle.std.proofs.Common.{◌∙◌, add-zero, arith, lt-ltb, le-ltb}
 use Rattle.std.proofs.Math.Option.{Option, none, some, some-injective}
 use Rattle.std.proofs.lemmas.Bool.{false≢true}
 use Rattle.std.proofs.Math.Decide.{dec_le}
 use Rattle.cqf.specs.Plan.{Plan, valid_plan}
-use Rattle.cqf.specs.Ceil.{ceil_div}
-use Rattle.cqf.specs.FixedPoint.{steps_from, iterate}
+use Rattle.cqf.specs.FixedPoint.{steps_from}
 use Rattle.cqf.specs.laws.Ceil.{ceil_covers}
 use Rattle.plan_reading.specs.Reading.{PlanRead, accepted, rejected, loose, read_as_of}
 use Rattle.plan_reading.specs.results.StrictTheorem.{read_loosely}
@@ -16,12 +15,12 @@ use Rattle.answers.specs.Answer.{Answer, result, refusal, refusal_number}
 use Rattle.answers.specs.Refusals.{bad_slot, occupied}
 use Rattle.loading.specs.Outcome.{reading_answer, load_answer}
 use Rattle.questions.specs.FixedPoint.{FixedPoint}
-use Rattle.batches.specs.Slot.{Slot, vacant, pending, answered, is_vacant, is_pending, is_answered, turn_steps, slot_by}
+use Rattle.batches.specs.Slot.{vacant, pending, is_vacant, is_pending, is_answered, turn_steps}
 use Rattle.batches.specs.Batch.{Batch, slot_count, slot_at, with_slot, with_read, place_answer, place_leaves, serve_answer, served, serve_leaves, collect_leaves}
 use Rattle.batches.specs.Calls.{Call, place, after, after_from, leaves, turns, turns_of, final_of, or_else, collected, final_answer}
 use Rattle.batches.specs.Turns.{single_answer, most_turns, InTurn, Turn, Unchanged, NextKept, PlacingRefused}
 use Rattle.batches.specs.laws.Slots.{answer_single, pending_before, settled, unsettled}
-use Rattle.batches.specs.laws.Turns.{Serves, serves_told, serves-none, gap, gap_below, gap_there}
+use Rattle.batches.specs.laws.Turns.{serves_told, serves-none, gap, gap_below, gap_there}
 use Rattle.batches.specs.laws.Calls.{Goes, goes_on, collected_answer, final_there}
 use Rattle.batches.specs.laws.Placed.{after_sized, placed_slot, placed_goes}
 

@@ -1,0 +1,7 @@
+-- `placed` meets its contract.
+use Rattle.batching.specs.Slots.{slot_by}
+use Rattle.batching.proofs.slots.placed.Goals as goal
+
+pub returns : goal.returns
+unfolding slot_by
+returns c = c.with_numbers.ensures
