@@ -1,5 +1,5 @@
 -- The numbers of a burst stay small, and its frames case by case.
-use Rattle.std.specs.Prelude.{◌≡◌, Bool, true, false, ◌&&◌, ◌⊎◌, List, [], ◌∷◌, ℕ, suc, ◌+◌, ◌-◌, ◌*◌, ◌/◌, ◌≤◌, ◌<◌}
+use Rattle.std.specs.Prelude.{◌≡◌, Bool, true, false, ◌&&◌, ◌⊎◌, [], ◌∷◌, ℕ, suc, ◌+◌, ◌-◌, ◌*◌, ◌/◌, ◌≤◌, ◌<◌}
 use Rattle.std.proofs.Math.Path.{refl, sym, ap, ap₂}
 use Rattle.std.proofs.Common.{◌∙◌, inl, inr, zero-le, le_trans, mul-le-mul, div-le_self, arith, lt-ltb, le-ltb, leb-true}
 use Rattle.std.proofs.Math.Bool.{cond, and-eq-true_iff}
@@ -7,8 +7,8 @@ use Rattle.std.proofs.Math.Option.{Option, none, some}
 use Rattle.std.proofs.Math.Decide.{dec_lt}
 use lib.ListN.{length}
 use lib.Dec.{leb, ltb}
-use Rattle.cqf.specs.Bounded.{within, max_to, elem, lowest}
-use Rattle.cqf.specs.Limits.{port_slots, flow_slots, route_stride, port_ok, flow_ok, max_top, max_hops, max_period, max_count}
+use Rattle.cqf.specs.Bounded.{within, elem}
+use Rattle.cqf.specs.Limits.{flow_slots, route_stride, port_ok, flow_ok, max_top, max_hops, max_period, max_count}
 use Rattle.cqf.specs.Overflow.{most_widened, most_begun}
 use Rattle.cqf.specs.Plan.{Plan, period_of, count_of, jitter_of, hops_of, route_of, present, crosses, valid_plan}
 use Rattle.cqf.specs.Widened.{widened_by, widened}
@@ -21,9 +21,9 @@ use Rattle.cqf.specs.laws.Valid.{Empty, Held, slot_cases, present_held}
 use Rattle.cqf.specs.laws.Begun.{widened_most}
 use Rattle.cqf.specs.laws.Demand.{frames_by_lem}
 use Rattle.cqf.specs.laws.Ranges.{top_most, drift_most, timing_most}
-use Rattle.answers.specs.Answer.{Answer, result, refusal}
+use Rattle.answers.specs.Answer.{result, refusal}
 use Rattle.answers.specs.Refusals.{bad_duration, no_plan_held, not_crossed, absent_flow}
-use Rattle.emissions.specs.Burst.{Burst, late_on, routes_only, burst, burst_answer}
+use Rattle.emissions.specs.Burst.{routes_only, burst, burst_answer}
 use Rattle.emissions.specs.laws.Hops.{late, latest_of, hop_holds, hop_misses}
 
 pub nominal_most : (k count period : ℕ) → k ≤ max_count * most_begun → period ≤ max_period → k / count * period ≤ max_count * most_begun * max_period

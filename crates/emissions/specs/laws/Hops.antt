@@ -1,18 +1,18 @@
 -- Where a port stands on a route, looked for from its start, and the latest place on all routes.
-use Rattle.std.specs.Prelude.{◌≡◌, refl, Bool, true, false, cond, ◌&&◌, List, ℕ, suc, max, ◌+◌, ◌-◌, ◌*◌, ◌≤◌, ◌<◌, length, get_or, eqb}
-use Rattle.std.proofs.Common.{sym, ap, ap₂, ◌∙◌, zero-le, arith, eq-eqb, ne_eqb, eqb-true, lt-ltb, le-ltb}
+use Rattle.std.specs.Prelude.{◌≡◌, refl, Bool, true, false, cond, ◌&&◌, List, ℕ, suc, max, ◌+◌, ◌-◌, ◌≤◌, ◌<◌, length, get_or, eqb}
+use Rattle.std.proofs.Common.{sym, ap, ap₂, ◌∙◌, arith, eq-eqb, ne_eqb, eqb-true, lt-ltb, le-ltb}
 use Rattle.std.proofs.lemmas.Bool.{false≢true, eqb-false}
 use mathlib.Mathlib.Data.Bool.Basic.{eq-false_of_not-eq-true}
 use Rattle.std.proofs.Math.Decide.{dec_lt, ℕ_discrete}
 use Rattle.std.proofs.Math.ListN.{get_or-eq_default}
 use Rattle.cqf.specs.Bounded.{max_to, lowest, elem, sublist}
-use Rattle.cqf.specs.Limits.{flow_slots, max_hops}
-use Rattle.cqf.specs.Plan.{Plan, route_of, hops_of, crosses}
+use Rattle.cqf.specs.Limits.{flow_slots}
+use Rattle.cqf.specs.Plan.{Plan, route_of}
 use Rattle.emissions.specs.BadEmission.{hop_on, hop, latest_hop}
 use Rattle.cqf.specs.laws.Bounded.{lowest_le, lowest-passes, lowest_below}
-use Rattle.cqf.specs.laws.Bounds.{max_to-next, max_to-least}
+use Rattle.cqf.specs.laws.Bounds.{max_to-next}
 use Rattle.cqf.specs.laws.Lists.{elem_index, elem_at, sublist_length, sublist-at}
-use Rattle.emissions.specs.Burst.{late_on, routes_only}
+use Rattle.emissions.specs.Burst.{late_on}
 use Rattle.emissions.specs.Queued.{queued_port}
 
 -- the lowest that passes, and where none does

@@ -1,6 +1,6 @@
 -- The bad emission is that of the theorem, moved so that its earliest burst is in cycle 0: so it keeps every contract, and its cycles
 -- are permitted.
-use Rattle.std.specs.Prelude.{◌≡◌, Bool, ◌&&◌, List, [], map, ltb}
+use Rattle.std.specs.Prelude.{◌≡◌, Bool, ◌&&◌, [], ltb}
 use Rattle.std.proofs.Math.Path.{refl, sym, ap}
 use Rattle.std.proofs.Common.{◌∙◌, add-mul, not-suc-le-zero, arith, ltb-true}
 use Rattle.std.proofs.Math.Bool.{true, false, cond, and-eq-true_iff}

@@ -3,7 +3,7 @@ use Rattle.std.specs.Prelude.{◌≡◌, false, List, [], map, ℕ, suc, ◌+◌
 use Rattle.std.proofs.Common.{sym, ap, ◌∙◌, add_comm, arith, ext_get_or}
 use Rattle.std.proofs.Math.Nat.{add-mul-div_right}
 use Rattle.std.proofs.lemmas.List.{length-map}
-use Rattle.cqf.specs.Plan.{Plan, present, period_of, count_of, jitter_of}
+use Rattle.cqf.specs.Plan.{Plan, present, count_of, jitter_of}
 use Rattle.cqf.specs.Emission.{Emission, Keeps}
 use Rattle.cqf.specs.Cycles.{Cycles, cycles_of, Partition, Permitted, aligned, parted}
 use Rattle.cqf.specs.laws.Partition.{cycle_of}

@@ -6,7 +6,7 @@ use Rattle.std.proofs.Math.Bool.{cond, and-false, and-eq-true_iff}
 use Prim.Native.Nat.{ℕ, suc, ◌+◌, ◌-◌, ◌*◌, ◌≤◌, ◌<◌, zero-le}
 use Rattle.std.proofs.Math.Nat.{le_antisymm, le_of_eq}
 use Rattle.std.proofs.Math.Decide.{ℕ_discrete}
-use Rattle.cqf.specs.Bounded.{sum_to, elem}
+use Rattle.cqf.specs.Bounded.{sum_to}
 use Rattle.cqf.specs.Limits.{port_slots, flow_slots, port_ok}
 use Rattle.cqf.specs.Overflow.{most_widened, most_bits, most_demand}
 use Rattle.cqf.specs.Plan.{Plan, route_of, present, crosses, valid_plan}

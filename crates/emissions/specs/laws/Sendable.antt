@@ -3,7 +3,7 @@ use Rattle.std.specs.Prelude.{◌≡◌, true, ℕ, ◌+◌, ◌-◌, ◌*◌, �
 use Rattle.std.proofs.Math.Bool.{and-eq-true_iff}
 use Rattle.std.proofs.Common.{arith, ltb-true}
 use Rattle.cqf.specs.Plan.{Plan, blocking_of, extra_of}
-use Rattle.cqf.specs.Port.{ns_per_bit, blocking_bits_of, window, capacity, workload}
+use Rattle.cqf.specs.Port.{ns_per_bit, blocking_bits_of, capacity}
 use Rattle.cqf.specs.Run.{overrun_at}
 use Rattle.emissions.specs.Unsent.{sendable}
 

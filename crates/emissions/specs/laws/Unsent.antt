@@ -13,7 +13,7 @@ use Rattle.cqf.specs.Limits.{port_slots, flow_slots}
 use Rattle.cqf.specs.Plan.{Plan, route_of, crosses, valid_plan}
 use Rattle.cqf.specs.Port.{wire_bits}
 use Rattle.cqf.specs.Condition.{frames, demand, crossed, fails}
-use Rattle.cqf.specs.Run.{Places, source, running, stopped, run, is_queued_at, queued_bits, overrun_at, overrun}
+use Rattle.cqf.specs.Run.{Places, source, running, run, is_queued_at, queued_bits, overrun_at, overrun}
 use Rattle.cqf.specs.laws.Bounded.{sum_to_le, any_to_true, any_to_some, cond_some, lowest-passes, lowest_below}
 use Rattle.cqf.specs.laws.Bounds.{max_to-at}
 use Rattle.cqf.specs.laws.Valid.{crosses_held, held_present}

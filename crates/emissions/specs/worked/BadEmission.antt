@@ -2,7 +2,7 @@
 -- bits in cycle 1 and can send 11,800.
 use Rattle.std.specs.Prelude.{◌≡◌, refl, [], ◌∷◌, map, ℕ}
 use Rattle.cqf.specs.Bounded.{sum_to, max_to, lowest, tabulate, elem, sublist}
-use Rattle.cqf.specs.Plan.{no_plan, present, route_of}
+use Rattle.cqf.specs.Plan.{no_plan}
 use Rattle.cqf.specs.Ceil.{ceil_div}
 use Rattle.cqf.specs.Port.{wire_bits, window, capacity}
 use Rattle.cqf.specs.Widened.{widened}

@@ -1,7 +1,5 @@
 -- `emissions::burst::burst_of` meets its contract.
-use mathlib.Core.Path.{◌≡◌}
-use mathlib.Core.Bool.{true}
-use Prim.Native.Nat.{ℕ, ◌*◌, ◌≤◌}
+use Prim.Native.Nat.{◌*◌, ◌≤◌}
 use native.Mathlib.Omega.{arith}
 use borrow.Author.Rules.{rules}
 use Rattle.cqf.specs.Limits.{max_hops, max_count}
@@ -103,10 +101,10 @@ burst_of_spec =
     flow-frames-requires
     (search rules)
     (search rules)
+    (λ c. c.requires.3)
     (search rules)
+    (λ c. c.requires.3)
     (search rules)
-    (search rules)
-    (search rules)
-    (search rules)
+    (λ c. c.requires.3)
     instant-in-requires
     returns)

@@ -1,11 +1,11 @@
 -- `emissions::burst::burst_tables` meets its contract: the refusals in their order.
 use mathlib.Core.Path.{◌≡◌, sym, ap, ap₂, ◌∙◌}
-use mathlib.Core.Bool.{Bool, true, false, ◌&&◌}
-use Prim.Native.Nat.{ℕ, ◌-◌, ◌≤◌, ◌<◌}
+use mathlib.Core.Bool.{Bool, true, ◌&&◌}
+use Prim.Native.Nat.{◌-◌, ◌≤◌, ◌<◌}
 use native.Mathlib.Omega.{arith}
 use lib.Dec.{ltb}
 use borrow.Author.Rules.{rules}
-use borrow.Author.Tests.{not-true, not-false, lt-ltb, le-ltb}
+use borrow.Author.Tests.{lt-ltb, le-ltb}
 use Rattle.cqf.specs.Bounded.{within}
 use Rattle.cqf.specs.Limits.{port_ok, flow_ok}
 use Rattle.cqf.specs.Plan.{Plan, period_of, valid_plan}
@@ -28,7 +28,7 @@ ranged : (c : tie.Else-not-between) → (let s = c.before.before.before.before i
 ranged c = sym c.between.ensures ∙ c.if-not-between.false
 
 ported : (c : tie.Else-not-between-2) → port_ok c.args.port ≡ true
-ported c = sym c.between-2.ensures ∙ c.if3.false
+ported c = sym c.between-2.ensures ∙ c.if-not-between-2.false
 
 -- past the four tests
 module _ (c : tie.Else-not-between-3) where
@@ -45,7 +45,7 @@ module _ (c : tie.Else-not-between-3) where
   begin = first.before.before
 
   numbered : flow_ok begin.args.flow ≡ true
-  numbered = sym c.between-3.ensures ∙ c.if4.false
+  numbered = sym c.between-3.ensures ∙ c.if-not-between-3.false
 
   low : 1 ≤ begin.args.flow
   low = within_low _ _ _ numbered
@@ -71,7 +71,7 @@ returns_3 c =
     let at = c.before.before in
     let s = at.before.before.before.before in
     let a = s.args in
-    sym (burst-port (plan s) a.duration a.port a.flow a.k (valid at.before.before) (ranged at) (sym c.between-2.ensures ∙ c.if3.true))
+    sym (burst-port (plan s) a.duration a.port a.flow a.k (valid at.before.before) (ranged at) (sym c.between-2.ensures ∙ c.if-not-between-2.true))
 
 returns-4 : tie.Need-returns-then-not-between-3
 returns-4 c =
@@ -81,7 +81,7 @@ returns-4 c =
     let a = s.args in
     sym
     (burst_absent (plan s) a.duration a.port a.flow a.k (valid e.before.before) (ranged e) (ported at)
-    (ap (λ (b : Bool). b && ltb 0 (period_of (plan s) (a.flow - 1))) (sym c.between-3.ensures ∙ c.if4.true)))
+    (ap (λ (b : Bool). b && ltb 0 (period_of (plan s) (a.flow - 1))) (sym c.between-3.ensures ∙ c.if-not-between-3.true)))
 
 sub-f : tie.Need-overflow_sub-f
 sub-f c = omega (arith, low c)
@@ -90,7 +90,7 @@ mul-if5 : tie.Need-offset_bounds-periods-f
 mul-if5 c = omega (arith, low c, high c)
 
 element-copy-out-if5 : tie.Need-bounds-periods-f
-element-copy-out-if5 c = omega (arith, low c, high c)
+element-copy-out-if5 c = omega (arith, low c.before, high c.before)
 
 returns-5 : tie.Need-returns-then-periods-f-eq0
 returns-5 c =
@@ -98,8 +98,8 @@ returns-5 c =
     let s = begin at.before in
     let a = s.args in
     sym
-    (burst_absent (plan s) a.duration a.port a.flow a.k (valid (first at.before)) (ranged (second at.before)) (ported (third at))
-    (ap₂ (λ (b d : Bool). b && d) (numbered at) (le-ltb 0 (period_of (plan s) (a.flow - 1)) (omega (arith, c.if-periods-f-eq0.true)))))
+    (burst_absent (plan s) a.duration a.port a.flow a.k (valid (first at.before)) (ranged (second at.before)) (ported (third at.before))
+    (ap₂ (λ (b d : Bool). b && d) (numbered at.before) (le-ltb 0 (period_of (plan s) (a.flow - 1)) (omega (arith, c.if-periods-f-eq0.true)))))
 
 -- the flow is there
 there : (c : tie.Else-periods-f-eq0) → 0 < period_of (plan (begin c.before.before.before)) ((begin c.before.before.before).args.flow - 1)
@@ -108,11 +108,11 @@ there c = omega (arith, c.if-periods-f-eq0.false)
 sub-burst-of : tie.Need-overflow_sub-port
 sub-burst-of c =
     let at = c.before.before in
-    omega (arith, within_low 1 64 (begin at.before).args.port (ported (third at)))
+    omega (arith, within_low 1 64 (begin at.before).args.port (ported (third at.before)))
 
 burst-of-requires : tie.Need-burst_of-requires
 burst-of-requires c κs =
-    let at = c.before.before in
+    let at = c.before.before.before in
     let p = ported (third at) in
     (valid (first at), within_high _ _ _ (ranged (second at)), omega (arith, within_low 1 64 (begin at).args.port p, within_high 1 64 (begin at).args.port p), omega (arith, low at, high at), there c)
 
@@ -124,8 +124,8 @@ returns-6 c =
     let a = s.args in
     c.burst_of.ensures
     ∙ sym
-    (burst-found (plan s) a.duration a.port a.flow a.k (valid (first at.before)) (ranged (second at.before)) (ported (third at))
-    (ap₂ (λ (b d : Bool). b && d) (numbered at) (lt-ltb 0 (period_of (plan s) (a.flow - 1)) (there e))))
+    (burst-found (plan s) a.duration a.port a.flow a.k (valid (first at.before)) (ranged (second at.before)) (ported (third at.before))
+    (ap₂ (λ (b d : Bool). b && d) (numbered at.before) (lt-ltb 0 (period_of (plan s) (a.flow - 1)) (there e))))
 
 pub burst_tables_spec : {M : Type 1} → statement M
 burst_tables_spec =

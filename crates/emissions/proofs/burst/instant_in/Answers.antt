@@ -1,6 +1,5 @@
 -- `emissions::burst::instant_in` meets its contract.
 use native.Mathlib.Omega.{arith}
-use borrow.Author.Rules.{rules}
 use Rattle.emissions.specs.laws.Burst.{at_frame, past-frames}
 use Rattle.emissions.proofs.burst.instant_in.Goals as goal
 

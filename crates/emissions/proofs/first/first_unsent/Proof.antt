@@ -1,6 +1,5 @@
 -- `emissions::first::first_unsent` meets its contract. The loop's invariant: no frame is left unsent in the cycles passed.
-use mathlib.Core.Path.{◌≡◌}
-use Prim.Native.Nat.{ℕ, suc, ◌+◌, ◌-◌, ◌≤◌}
+use Prim.Native.Nat.{suc, ◌-◌, ◌≤◌}
 use native.Mathlib.Omega.{arith}
 use borrow.Author.Count.{below_more}
 use borrow.Author.Rules.{rules}
@@ -8,7 +7,6 @@ use Rattle.cqf.specs.Limits.{max_hops}
 use Rattle.cqf.specs.Plan.{Plan}
 use Rattle.numbers.specs.Clock.{clock_of}
 use Rattle.tables.specs.Columns.{plan_by}
-use Rattle.emissions.specs.BadEmission.{latest_hop}
 use Rattle.emissions.specs.laws.Kept.{latest_within}
 use Rattle.emissions.specs.laws.Over.{NoneBefore, none_yet, none_in, first_is, first_last}
 use Rattle.emissions.proofs.first.first_unsent.Statement.{statement}

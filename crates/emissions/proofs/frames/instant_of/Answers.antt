@@ -1,8 +1,5 @@
 -- `emissions::frames::instant_of` meets its contract: the numbers stay small.
-use mathlib.Core.Path.{ap}
-use Prim.Native.Nat.{ℕ, ◌+◌, ◌*◌}
 use native.Mathlib.Omega.{arith}
-use borrow.Author.Rules.{rules}
 use Rattle.emissions.specs.laws.Burst.{nominal_most, start_most}
 use Rattle.emissions.proofs.frames.instant_of.Goals as goal
 

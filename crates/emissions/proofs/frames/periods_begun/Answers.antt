@@ -2,7 +2,6 @@
 use mathlib.Core.Path.{ap}
 use Prim.Native.Nat.{ℕ, ◌+◌, ◌/◌}
 use native.Mathlib.Numerals.{sub-one}
-use borrow.Author.Rules.{rules}
 use Rattle.cqf.specs.Ceil.{ceil_div}
 use Rattle.emissions.proofs.frames.periods_begun.Goals as goal
 

@@ -1,8 +1,6 @@
 use mathlib.Core.Path.{◌≡◌, sym}
-use Prim.Native.Nat.{ℕ, suc, ◌+◌, ◌-◌, ◌≤◌}
 use native.Mathlib.Omega.{arith}
-use borrow.Author.Rules.{rules}
-use Rattle.emissions.specs.laws.Hops.{NotBefore, not_next, hop_here, hop_end}
+use Rattle.emissions.specs.laws.Hops.{not_next, hop_here, hop_end}
 use Rattle.emissions.proofs.hop.hop_on.Goals as goal
 
 pub loop-i-init : goal.loop-i-init

@@ -1,9 +1,6 @@
 -- `emissions::hop::hop_on` meets its contract. The loop's invariant: the port is none of those passed.
-use mathlib.Core.Path.{◌≡◌, sym}
-use Prim.Native.Nat.{ℕ, suc, ◌+◌, ◌-◌, ◌≤◌}
-use native.Mathlib.Omega.{arith}
-use borrow.Author.Rules.{rules}
-use Rattle.emissions.specs.laws.Hops.{NotBefore, not_next, hop_here, hop_end}
+use Prim.Native.Nat.{◌-◌, ◌≤◌}
+use Rattle.emissions.specs.laws.Hops.{NotBefore}
 use Rattle.emissions.proofs.hop.hop_on.Given as goal
 
 abbrev pub invariant-loop-i : goal.invariant-loop-i

@@ -1,7 +1,6 @@
 -- `emissions::hop::late_on` meets its contract: a place before the end is where the port stands.
-use mathlib.Core.Path.{◌≡◌, sym, ◌∙◌}
+use mathlib.Core.Path.{◌∙◌}
 use native.Mathlib.Omega.{arith}
-use borrow.Author.Rules.{rules}
 use Rattle.cqf.specs.Bounded.{sublist}
 use Rattle.cqf.specs.laws.Lists.{sublist_length}
 use Rattle.emissions.specs.laws.Hops.{late_holds, late_misses}

@@ -1,11 +1,7 @@
 use mathlib.Core.Path.{◌≡◌, sym, ◌∙◌}
-use mathlib.Core.Bool.{false}
-use Prim.Native.Nat.{ℕ, ◌+◌, ◌-◌, ◌≤◌, ◌<◌}
 use native.Mathlib.Omega.{arith}
 use borrow.Author.Count.{below_more}
-use borrow.Author.Rules.{rules}
 use Rattle.cqf.specs.Limits.{port_slots}
-use Rattle.questions.specs.Failing.{fails_in}
 use Rattle.emissions.specs.laws.Hops.{lowest_is, lowest_end}
 use Rattle.emissions.proofs.over.lowest_over.Goals as goal
 

@@ -1,13 +1,9 @@
 -- `emissions::over::lowest_over` meets its contract. The loop's invariant: none of the ports passed leaves a frame unsent.
-use mathlib.Core.Path.{◌≡◌, sym, ◌∙◌}
+use mathlib.Core.Path.{◌≡◌}
 use mathlib.Core.Bool.{false}
-use Prim.Native.Nat.{ℕ, ◌+◌, ◌-◌, ◌≤◌, ◌<◌}
-use native.Mathlib.Omega.{arith}
-use borrow.Author.Count.{below_more}
-use borrow.Author.Rules.{rules}
+use Prim.Native.Nat.{ℕ, ◌-◌, ◌≤◌, ◌<◌}
 use Rattle.cqf.specs.Limits.{port_slots}
 use Rattle.questions.specs.Failing.{fails_in}
-use Rattle.emissions.specs.laws.Hops.{lowest_is, lowest_end}
 use Rattle.emissions.proofs.over.lowest_over.Given as goal
 
 abbrev pub invariant-loop-r : goal.invariant-loop-r

@@ -1,7 +1,6 @@
 -- `emissions::queued::port_at` meets its contract.
 use mathlib.Core.Path.{sym}
 use native.Mathlib.Omega.{arith}
-use borrow.Author.Rules.{rules}
 use Rattle.cqf.specs.Bounded.{sublist}
 use Rattle.cqf.specs.laws.Lists.{sublist_length, sublist-at}
 use Rattle.emissions.specs.laws.Hops.{past_end}

@@ -1,9 +1,9 @@
 -- `emissions::queued::queued_port` meets its contract: the route does not hold the port, the burst is not yet emitted, or it is on its way.
 use mathlib.Core.Path.{◌≡◌, sym, ap, ◌∙◌}
-use Prim.Native.Nat.{ℕ, suc, ◌-◌}
+use Prim.Native.Nat.{ℕ, ◌-◌}
 use native.Mathlib.Omega.{arith}
 use borrow.Author.Rules.{rules}
-use lib.ListN.{length, get_or}
+use lib.ListN.{get_or}
 use Rattle.cqf.specs.Bounded.{sublist}
 use Rattle.cqf.specs.laws.Lists.{sublist_length}
 use Rattle.emissions.specs.BadEmission.{hop_on}

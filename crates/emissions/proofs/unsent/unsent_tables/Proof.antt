@@ -1,5 +1,5 @@
 -- `emissions::unsent::unsent_tables` meets its contract: by the plain question's answer.
-use mathlib.Core.Path.{◌≡◌, sym, ap, ◌∙◌}
+use mathlib.Core.Path.{◌≡◌, ◌∙◌}
 use mathlib.Core.List.{[], ◌∷◌}
 use Prim.Native.Nat.{ℕ}
 use native.Mathlib.Omega.{arith}
@@ -9,7 +9,6 @@ use Rattle.numbers.specs.Clock.{clock_of}
 use Rattle.tables.specs.Columns.{plan_by}
 use Rattle.answers.specs.Answer.{refusal}
 use Rattle.answers.specs.Refusals.{not_admissible}
-use Rattle.questions.specs.Answer.{check_of}
 use Rattle.questions.specs.Outcome.{check_answer}
 use Rattle.emissions.specs.laws.Burst.{within_low, within_high}
 use Rattle.emissions.specs.laws.Answers.{unsent-none, unsent_out, unsent-admissible, Refused, refused, unsent-found, failing_slot, failing-least}
@@ -29,10 +28,10 @@ module _ (c : tie.In-Failing) where
   begin = c.before.before
 
   abbrev port : ℕ
-  port = c.verdict.given.0.0
+  port = c.in-Failing.port
 
-  said : refusal not_admissible (port ∷ c.verdict.given.0.1.0 ∷ []) ≡ check_answer (plan begin) begin.args.duration
-  said = ap check_of (sym c.verdict.given.1) ∙ c.check_tables-verdict.ensures
+  said : refusal not_admissible (port ∷ c.in-Failing.count ∷ []) ≡ check_answer (plan begin) begin.args.duration
+  said = c.in-Failing.ensures
 
   at : Refused (plan begin) begin.args.duration port
   at = refused (plan begin) begin.args.duration port _ said
@@ -51,17 +50,17 @@ unsent-of-requires c κs =
 returns : tie.Need-returns-in-NoPlan
 returns c =
     let s = c.before.before in
-    unsent_told (plan s) s.args.duration _ (unsent-none (plan s) s.args.duration (ap check_of (sym c.enum_told.given.1) ∙ c.check_tables-verdict.ensures))
+    unsent_told (plan s) s.args.duration _ (unsent-none (plan s) s.args.duration c.in-NoPlan.ensures)
 
 returns_2 : tie.Need-returns-in-BadDuration
 returns_2 c =
     let s = c.before.before in
-    unsent_told (plan s) s.args.duration _ (unsent_out (plan s) s.args.duration (ap check_of (sym c.enum-told2.given.1) ∙ c.check_tables-verdict.ensures))
+    unsent_told (plan s) s.args.duration _ (unsent_out (plan s) s.args.duration c.in-BadDuration.ensures)
 
 returns_3 : tie.Need-returns-in-Admissible
 returns_3 c =
     let s = c.before.before in
-    unsent_told (plan s) s.args.duration _ (unsent-admissible (plan s) s.args.duration (ap check_of (sym c.enum-told3.given.1) ∙ c.check_tables-verdict.ensures))
+    unsent_told (plan s) s.args.duration _ (unsent-admissible (plan s) s.args.duration c.in-Admissible.ensures)
 
 returns-4 : tie.Need-returns-in-Failing
 returns-4 c =
