@@ -8,7 +8,7 @@ use native.Mathlib.Omega.{arith}
 use Rattle.std.proofs.Math.Decide.{dec_lt}
 use Rattle.std.proofs.Math.ListN.{length}
 use Rattle.cqf.specs.Form.{Form, older, newer, form_number, form_fits}
-use Rattle.cqf.specs.Plan.{Clock, Plan, equal_clocks, clocks_equal, rate_of, extra_of, period_of, jitter_of, valid_plan}
+use Rattle.cqf.specs.Plan.{Plan, clocks_equal, extra_of, jitter_of, valid_plan}
 use Rattle.cqf.specs.laws.Ranges.{top_positive}
 use Rattle.plan.specs.Bytes.{Octets}
 use Rattle.plan.specs.Layout.{form_by}
@@ -32,12 +32,11 @@ use Rattle.plan_reading.specs.laws.order.Content.{same_content}
 use Rattle.plan_reading.specs.laws.rows.SavedRow.{AllOk}
 use Rattle.plan_reading.specs.laws.rows.RowParts.{free_ok}
 use Rattle.plan_reading.specs.laws.rows.Written.{plan_long}
-use Rattle.plan_reading.specs.laws.stores.Sources.{tables_of}
 use Rattle.plan_reading.specs.laws.stores.Fresh.{fresh_stands}
 use Rattle.plan_reading.specs.laws.saved.Entries.{Stands, Tells, Says, clocks_equal_lem, clocks_differ}
 use Rattle.plan_reading.specs.laws.saved.SavedLength.{saved_length}
 use Rattle.plan_reading.specs.laws.saved.SavedRead.{saved_again}
-use Rattle.plan_reading.specs.laws.saved.SavedBack.{Headed, part_there, header_there, ok_at}
+use Rattle.plan_reading.specs.laws.saved.SavedBack.{part_there, header_there, ok_at}
 use Rattle.plan_reading.specs.laws.saved.SavedSlots.{RowOf}
 use Rattle.plan_reading.specs.laws.saved.SavedTables.{left_tables}
 use Rattle.plan_reading.specs.laws.saved.Tidy.{tidied_same}

@@ -10,7 +10,7 @@ use Rattle.std.proofs.Math.ListN.{length-append}
 use Rattle.cqf.specs.Form.{Form}
 use Rattle.plan.specs.Bytes.{byte_at, number2, number4, numbers2}
 use Rattle.plan.specs.Layout.{Width, two, four, bytes_in, Number, widths, layout, numbers_size}
-use Rattle.plan.specs.Field.{Field, field, number_in, numbers_at, in_ranges, hops_in, route_ports, route_in, field_by, size_ok, ranges_ok, field_in}
+use Rattle.plan.specs.Field.{Field, field, number_in, numbers_at, in_ranges, hops_in, route_ports, route_in, size_ok, ranges_ok, field_in}
 use Rattle.plan_reading.specs.Rank.{tag_of}
 use Rattle.plan_reading.specs.Ranges.{NumbersOk, RouteFits}
 use Rattle.plan_reading.specs.FieldBytes.{bytes2s, bytes_by, numbers_bytes, size_of, value_of}

@@ -1,6 +1,6 @@
 -- What goes by the kind of a field, kind by kind: what its parts are, its key among those of its tag, and what it names. A new kind
 -- has a case in each.
-use Rattle.std.specs.Prelude.{ℕ, zero, suc, ◌+◌, ◌-◌, ◌≤◌, ◌<◌, ◌≡◌, refl, List, [], ◌∷◌, Bool, true, false, cond, ◌||◌, eqb, ltb, length, get_or, set}
+use Rattle.std.specs.Prelude.{ℕ, zero, suc, ◌+◌, ◌-◌, ◌≤◌, ◌<◌, ◌≡◌, refl, List, [], true, false, cond, ◌||◌, eqb, ltb, length, get_or, set}
 use Rattle.std.proofs.Common.{sym, ◌∙◌, subst, arith, le-leb}
 use Rattle.std.proofs.lemmas.Bool.{not-false}
 use Rattle.cqf.specs.Form.{Form, older, newer}

@@ -3,11 +3,10 @@ use Rattle.std.specs.Prelude.{◌≡◌, refl, List, [], ◌∷◌, Bool, true, 
 use Rattle.std.proofs.Common.{sym, ap, ◌∙◌, subst, arith, eqb-true}
 use Rattle.std.proofs.Math.Option.{Option, some, none}
 use Rattle.std.proofs.Math.Bool.{and-eq-true_iff}
-use Rattle.cqf.specs.Bounded.{every}
 use Rattle.plan.specs.Bytes.{head_size, tag_at, size_at, whole_at, value_at}
 use Rattle.cqf.specs.Form.{Form}
 use Rattle.plan.specs.Layout.{Kind, layout, hops_allowed, kinds}
-use Rattle.plan.specs.Field.{Field, FieldRead, field, refused, unless, numbers_at, in_ranges, hops_in, route_in, field_by, size_ok, ranges_ok, value_in, kind_by, kind_read, field_in, field_at}
+use Rattle.plan.specs.Field.{Field, FieldRead, field, unless, numbers_at, in_ranges, hops_in, route_in, field_by, size_ok, ranges_ok, value_in, kind_by, kind_read, field_in, field_at}
 use Rattle.plan_reading.specs.Ranges.{NumbersOk, RouteFits}
 use Rattle.plan_reading.specs.Rank.{tag_of}
 use Rattle.plan_reading.specs.FieldBytes.{size_of}

@@ -1,5 +1,5 @@
 -- Numbers in range, each by its place, and what holds of each part of several.
-use Rattle.std.specs.Prelude.{ℕ, suc, ◌≡◌, refl, true, false, get_or}
+use Rattle.std.specs.Prelude.{ℕ, suc, ◌≡◌, refl, true, get_or}
 use Rattle.std.proofs.Common.{sym, true≢false}
 use mathlib.Core.List.Memᴰ
 use mathlib.Core.List.{List, [], ◌∷◌, ◌++◌, Memᴰ}

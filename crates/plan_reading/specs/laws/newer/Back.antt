@@ -1,18 +1,18 @@
 -- A plan of the newer form is saved as the very bytes that were read.
-use Rattle.std.specs.Prelude.{ℕ, suc, ◌-◌, ◌≤◌, ◌<◌, ◌≡◌, refl, true, length, get_or}
+use Rattle.std.specs.Prelude.{ℕ, suc, ◌-◌, ◌<◌, ◌≡◌, refl, true, length, get_or}
 use Rattle.std.proofs.Math.Path.{sym, ap}
 use Rattle.std.proofs.Common.{◌∙◌, subst, arith, lt-ltb}
 use mathlib.Core.List.{List, [], ◌∷◌, Memᴰ}
-use Rattle.cqf.specs.Form.{Form, older, newer}
+use Rattle.cqf.specs.Form.{Form, newer}
 use Rattle.cqf.specs.Limits.{port_slots, flow_slots}
-use Rattle.cqf.specs.Plan.{Clock, Plan, rate_of, period_of, route_of, valid_plan}
+use Rattle.cqf.specs.Plan.{Plan, rate_of, period_of, valid_plan}
 use Rattle.cqf.specs.laws.Ranges.{top_positive}
 use Rattle.plan.specs.Bytes.{Octets}
 use Rattle.plan.specs.Layout.{Kind, layout, form_by, hops_allowed}
 use Rattle.plan.specs.Field.{in_ranges}
 use Rattle.plan_reading.specs.Part.{Part, parts_by, parts_of}
 use Rattle.plan_reading.specs.Key.{key_of}
-use Rattle.plan_reading.specs.Ranges.{RouteOk, PartOk}
+use Rattle.plan_reading.specs.Ranges.{RouteOk}
 use Rattle.plan_reading.specs.Reading.{accepted, Mode, loose, strict, read_as_of}
 use Rattle.plan_reading.specs.Strict.{Entry, entry_of, fields_in, parts_row}
 use Rattle.plan_reading.specs.FieldBytes.{row_bytes}
@@ -26,10 +26,9 @@ use Rattle.plan_reading.specs.laws.reading.Walked.{accepted_row}
 use Rattle.plan_reading.specs.laws.order.Rows.{Ascends}
 use Rattle.plan_reading.specs.laws.order.InOrder.{ascends_same, ascends_once}
 use Rattle.plan_reading.specs.laws.order.OutOfOrder.{newer_modes}
-use Rattle.plan_reading.specs.laws.rows.SavedRow.{EntryOk, AllOk}
+use Rattle.plan_reading.specs.laws.rows.SavedRow.{AllOk}
 use Rattle.plan_reading.specs.laws.rows.RowParts.{free_ok}
 use Rattle.plan_reading.specs.laws.rows.Spelled.{newer_older, all_listed, no_hops, no_route}
-use Rattle.plan_reading.specs.laws.stores.Sources.{tables_of}
 use Rattle.plan_reading.specs.laws.stores.Fresh.{fresh_stands}
 use Rattle.plan_reading.specs.results.StrictTheorem.{read_loosely, keys_ascend, accepted_bytes}
 use Rattle.plan_reading.specs.laws.saved.Entries.{Stands, Says}

@@ -1,19 +1,17 @@
 -- The fields as which a plan is saved in the newer form: which they are, each in range, and what they name in the plan.
-use Rattle.std.specs.Prelude.{ℕ, zero, suc, ◌-◌, ◌*◌, ◌≤◌, ◌<◌, ◌≡◌, refl, ◌⊎◌, Bool, true, false, not, ltb, length}
+use Rattle.std.specs.Prelude.{ℕ, zero, suc, ◌-◌, ◌*◌, ◌<◌, ◌≡◌, refl, ◌⊎◌, Bool, true, false, not, ltb, length}
 use Rattle.std.proofs.Common.{sym, ap, ◌∙◌, subst, inl, inr, true≢false, not-suc-le-zero, arith, ltb-true}
 use mathlib.Core.List.Memᴰ
 use mathlib.Core.List.{List, [], ◌∷◌, ◌++◌, Memᴰ}
 use Rattle.std.proofs.Math.Decide.{ℕ_discrete}
-use Rattle.cqf.specs.Bounded.{every}
 use Rattle.cqf.specs.Form.{newer}
-use Rattle.cqf.specs.Limits.{port_slots, flow_slots, route_stride, drift_ok, timing_jitter_ok, sync_error_ok, port_ok, hops_ok}
-use Rattle.cqf.specs.Plan.{Plan, rate_of, blocking_of, extra_of, period_of, count_of, length_of, jitter_of, hops_of, route_of, valid_plan}
+use Rattle.cqf.specs.Limits.{port_slots, flow_slots, route_stride, drift_ok, timing_jitter_ok, sync_error_ok, hops_ok}
+use Rattle.cqf.specs.Plan.{Plan, rate_of, period_of, hops_of, route_of, valid_plan}
 use Rattle.cqf.specs.laws.Lists.{sublist_length}
 use Rattle.cqf.specs.laws.Route.{port_in_there}
 use Rattle.plan.specs.Layout.{Kind}
 use Rattle.plan_reading.specs.Strict.{Entry}
 use Rattle.plan_reading.specs.Saved.{header2_field, port2_field, flow2_field, field_when, collect_fields, port2_fields, flow2_fields, newer_fields}
-use Rattle.plan_reading.specs.laws.fields.Within.{within_low}
 use Rattle.plan_reading.specs.laws.fields.Passes.{and_three}
 use Rattle.plan_reading.specs.laws.validity.Held.{parts, port_held, flow_held}
 use Rattle.plan_reading.specs.laws.reading.Absent.{flow_there}

@@ -2,9 +2,9 @@
 use Prim.Native.Nat.{ℕ, zero, suc, ◌+◌, ◌-◌, ◌≤◌, ◌<◌}
 use Rattle.std.specs.Prelude.{◌≡◌, ◌⊎◌, Bool, true, false, cond, length}
 use Rattle.std.proofs.Math.Path.{refl}
-use Rattle.std.proofs.Common.{sym, ap, ◌∙◌, subst, inl, inr, lt-ltb, ltb-true}
+use Rattle.std.proofs.Common.{sym, ap, ◌∙◌, subst, inl, inr, lt-ltb}
 use mathlib.Core.List.Memᴰ
-use mathlib.Core.List.{List, [], ◌∷◌, ◌++◌, append_assoc, Memᴰ}
+use mathlib.Core.List.{List, [], ◌∷◌, ◌++◌, Memᴰ}
 use Rattle.std.proofs.Math.Bool.{and-eq-true_iff}
 use native.Mathlib.Omega.{arith}
 use Rattle.std.proofs.Math.Dec.{ltb}
@@ -25,10 +25,9 @@ use Rattle.plan_reading.specs.laws.reading.Walked.{fresh_row}
 use Rattle.plan_reading.specs.laws.rows.SavedRow.{added_all}
 use Rattle.plan_reading.specs.laws.rows.RowParts.{row_tables}
 use Rattle.plan_reading.specs.laws.rows.RowAccepted.{Row, row_accepted, some_flow}
-use Rattle.plan_reading.specs.laws.stores.Sources.{tables_of}
 use Rattle.plan_reading.specs.laws.validity.Held.{parts, port_held, flow_held}
 use Rattle.plan_reading.specs.laws.saved.Entries.{Stands, Says}
-use Rattle.plan_reading.specs.laws.saved.Says.{numbered, back, stands_at, header_says, port_says, flow_says}
+use Rattle.plan_reading.specs.laws.saved.Says.{numbered, back, stands_at, port_says, flow_says}
 use Rattle.plan_reading.specs.laws.saved.Tidy.{tidied_same}
 use Rattle.plan_reading.specs.laws.saved.SavedSlots.{RowOf}
 use Rattle.plan_reading.specs.laws.saved.SavedTables.{left_tables}

@@ -3,7 +3,7 @@
 use Rattle.std.specs.Prelude.{ℕ, zero, suc, ◌≤◌, ◌<◌, ◌≡◌, refl, ◌⊎◌, Bool, true, false, ltb, length}
 use Rattle.std.proofs.Common.{sym, ap, ap₂, ◌∙◌, inl, inr, arith, le-ltb, ltb-true, ltb-false}
 use mathlib.Core.List.Memᴰ
-use mathlib.Core.List.{List, [], ◌∷◌, Memᴰ, Permᴰ}
+use mathlib.Core.List.{List, ◌∷◌, Memᴰ, Permᴰ}
 use Rattle.cqf.specs.Plan.{Plan}
 use Rattle.cqf.specs.Form.{Form}
 use Rattle.plan.specs.Field.{Field, FieldRead, field, refused, field_at}

@@ -15,7 +15,7 @@ use Rattle.plan_reading.specs.Reading.{accepted, route_at, read_plan}
 use Rattle.plan_reading.specs.FieldOrder.{IsField, AllFields, more, SameFields}
 use Rattle.plan_reading.specs.laws.fields.Passes.{field_passes}
 use Rattle.plan_reading.specs.laws.reading.Walk.{Reads, done, one, accepted_reads, closing_accepted}
-use Rattle.plan_reading.specs.laws.stores.Stored.{Stored, nothing, next, Flagged, stored_once, stored_permuted}
+use Rattle.plan_reading.specs.laws.stores.Stored.{Stored, nothing, Flagged, stored_once, stored_permuted}
 
 -- a whole field between other bytes has the tag, the length and the value that it has by itself
 module _ (front b rest : List ℕ) (is : IsField b) where

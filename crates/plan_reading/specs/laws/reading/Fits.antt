@@ -1,6 +1,6 @@
 -- Bytes that are accepted as a plan of a form tell that form, and the plan fits it: no route has more ports than the form allows.
 use Rattle.std.specs.Prelude.{ℕ, zero, suc, ◌-◌, ◌≤◌, ◌<◌, ◌≡◌, refl, List, [], ◌∷◌, true, false, eqb, leb, length, get_or}
-use Rattle.std.proofs.Common.{sym, ◌∙◌, subst, true≢false, arith, le-leb, leb-true, get_or-set_same, get_or-set_other}
+use Rattle.std.proofs.Common.{sym, ◌∙◌, subst, true≢false, arith, le-leb, get_or-set_same, get_or-set_other}
 use Rattle.std.proofs.Math.Path.{ap}
 use Rattle.std.proofs.Math.Bool.{cond}
 use Rattle.std.proofs.Math.Decide.{ℕ_discrete}
@@ -8,7 +8,6 @@ use Rattle.cqf.specs.Form.{Form, older, newer, form_number, most_hops_in, form_f
 use Rattle.cqf.specs.Limits.{flow_slots}
 use Rattle.cqf.specs.Plan.{Plan, no_plan, hops_of}
 use Rattle.cqf.specs.laws.Bounded.{all_to-every}
-use Rattle.plan.specs.Bytes.{tag_at}
 use Rattle.plan.specs.Layout.{Kind, layout, form_by, hops_allowed}
 use Rattle.plan.specs.Field.{Field, field, field_at}
 use Rattle.plan_reading.specs.Part.{Part, header, port, flow, extra, jitter, clock, parts_by, parts_of}
@@ -17,16 +16,15 @@ use Rattle.plan_reading.specs.Rank.{tag_of}
 use Rattle.plan_reading.specs.Store.{store, store_all}
 use Rattle.plan_reading.specs.Sized.{Sized}
 use Rattle.plan_reading.specs.Draft.{Draft, blank, has_key, added}
-use Rattle.plan_reading.specs.Ranges.{NumbersOk, RouteFits, PartOk}
-use Rattle.plan_reading.specs.Reading.{accepted, Mode, strict, mode_in, route_at, read_from, read_form, read_as_of}
+use Rattle.plan_reading.specs.Ranges.{PartOk}
+use Rattle.plan_reading.specs.Reading.{accepted, Mode, route_at, read_form, read_as_of}
 use Rattle.plan_reading.specs.Strict.{Entry, entry_of, fields_from, fields_in, parts_row}
 use Rattle.plan_reading.specs.laws.fields.Within.{within_low, within_high, slot_below}
 use Rattle.plan_reading.specs.laws.fields.Passes.{field_passes}
 use Rattle.plan_reading.specs.laws.fields.Ranged.{All, all_append}
-use Rattle.plan_reading.specs.laws.fields.Kinds.{header_tells, parts_ok}
+use Rattle.plan_reading.specs.laws.fields.Kinds.{header_tells}
 use Rattle.plan_reading.specs.laws.stores.Tables.{sized_none, sized_store}
 use Rattle.plan_reading.specs.laws.stores.Columns.{zeros}
-use Rattle.plan_reading.specs.laws.stores.Sources.{tables_of}
 use Rattle.plan_reading.specs.laws.reading.PlanLength.{sized, form_sized, read_form_lem}
 use Rattle.plan_reading.specs.laws.reading.Walk.{Reads, done, one, form_reads, closing_accepted}
 use Rattle.plan_reading.specs.laws.reading.Walked.{walk_free, accepted_row}

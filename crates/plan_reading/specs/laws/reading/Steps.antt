@@ -1,6 +1,6 @@
 -- Laws of one field of the reading: which test stops it, and what a step that goes on leaves.
 use Rattle.std.specs.Prelude.{ℕ, ◌≡◌, refl, List, Bool, true, false, cond}
-use Rattle.std.proofs.Common.{sym, ◌∙◌, arith}
+use Rattle.std.proofs.Common.{◌∙◌, arith}
 use Rattle.std.proofs.Math.Path.{ap}
 use Rattle.cqf.specs.Form.{Form}
 use Rattle.plan.specs.Field.{Field, FieldRead, field, refused, field_at}

@@ -1,5 +1,5 @@
 -- The fields of an accepted plan: a row of which none has the key of another, and whose parts leave the plan.
-use Rattle.std.specs.Prelude.{ℕ, zero, suc, ◌+◌, ◌≤◌, ◌≡◌, List, true, false, length}
+use Rattle.std.specs.Prelude.{ℕ, zero, suc, ◌+◌, ◌≤◌, ◌≡◌, List, true, length}
 use Rattle.std.proofs.Common.{sym, ap, ◌∙◌, subst, arith}
 use Rattle.cqf.specs.Plan.{Plan, no_plan}
 use Rattle.cqf.specs.Form.{Form}

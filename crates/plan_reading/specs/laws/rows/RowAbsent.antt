@@ -3,11 +3,10 @@ use Rattle.std.specs.Prelude.{ℕ, zero, suc, ◌+◌, ◌≤◌, ◌≡◌, Lis
 use Rattle.std.proofs.Common.{arith}
 use Rattle.plan.specs.Bytes.{head_size, size_at, whole_at}
 use Rattle.cqf.specs.Form.{Form}
-use Rattle.plan.specs.Layout.{form_by}
 use Rattle.plan_reading.specs.Part.{parts_of}
 use Rattle.plan_reading.specs.Draft.{Draft}
 use Rattle.plan_reading.specs.Reading.{route_at, names_absent, jitter_absent, extra_absent, first_absent}
-use Rattle.plan_reading.specs.Strict.{Entry, entry_of, fields_from, fields_in}
+use Rattle.plan_reading.specs.Strict.{Entry, entry_of, fields_from}
 use Rattle.plan.specs.laws.Whole.{not_whole}
 use Rattle.plan_reading.specs.laws.fields.Passes.{field_is_whole, field_passes}
 use Rattle.plan_reading.specs.laws.fields.Ranged.{All}

@@ -13,7 +13,7 @@ use Rattle.plan_reading.specs.Draft.{Draft, blank, has_key, field_repeats, added
 use Rattle.plan_reading.specs.Reading.{route_at}
 use Rattle.plan_reading.specs.Strict.{Entry, fields_from, fields_in, rising, InOrder}
 use Rattle.plan_reading.specs.FieldBytes.{bytes_of, row_bytes}
-use Rattle.plan_reading.specs.laws.reading.Walk.{Reads, done, one}
+use Rattle.plan_reading.specs.laws.reading.Walk.{Reads}
 use Rattle.plan_reading.specs.laws.order.Late.{past_end}
 use Rattle.plan_reading.specs.laws.order.Rows.{row_refused, row_field, Ascends, none, next, rising_from}
 use Rattle.plan_reading.specs.laws.rows.SavedRow.{EntryOk, AllOk, none, more, added_all}

@@ -1,19 +1,18 @@
 -- The fields as which a valid plan is saved: each in range, in strict order, the header first, a flow among them, and every port
 -- and flow that they name in the plan.
-use Rattle.std.specs.Prelude.{ℕ, ◌-◌, ◌*◌, ◌≤◌, ◌<◌, ◌≡◌, refl, true, not, ltb, length, get_or}
-use Rattle.std.proofs.Common.{sym, ap, ◌∙◌, inl, inr, arith, lt-ltb}
+use Rattle.std.specs.Prelude.{ℕ, ◌-◌, ◌*◌, ◌≤◌, ◌<◌, ◌≡◌, refl, true, not, ltb, length}
+use Rattle.std.proofs.Common.{sym, ap, ◌∙◌, inl, inr, arith}
 use mathlib.Core.List.{List, [], ◌∷◌, Memᴰ}
 use Rattle.std.proofs.Math.Bool.{and-eq-true_iff}
 use Rattle.cqf.specs.Bounded.{every, distinct}
 use Rattle.cqf.specs.Form.{older, most_hops_in}
-use Rattle.cqf.specs.Limits.{port_slots, flow_slots, route_stride, guard_ok, top_ok, port_ok, rate_ok, length_ok, blocking_ok, extra_ok, flow_ok, period_ok, count_ok, jitter_ok, hops_ok}
+use Rattle.cqf.specs.Limits.{port_slots, flow_slots, route_stride, guard_ok, top_ok, port_ok, rate_ok, length_ok, blocking_ok, extra_ok, period_ok, count_ok, jitter_ok, hops_ok}
 use Rattle.cqf.specs.Plan.{Plan, clock_ok, rate_of, period_of, hops_of, present, port_in, valid_plan}
 use Rattle.cqf.specs.laws.Bounded.{any_to_true}
 use Rattle.cqf.specs.laws.Lists.{sublist_length}
 use Rattle.cqf.specs.laws.Route.{port_in_there}
 use Rattle.plan_reading.specs.Part.{Part, header, port, flow, extra, jitter, clock}
 use Rattle.plan_reading.specs.Ranges.{PartOk}
-use Rattle.plan_reading.specs.Reading.{has_flow}
 use Rattle.plan_reading.specs.Strict.{rising}
 use Rattle.plan_reading.specs.Saved.{spell, spell_all, header_part, flow_part, saved_parts, saved_fields}
 use Rattle.plan_reading.specs.laws.fields.Within.{within_low, within_high, slot_below}

@@ -13,7 +13,7 @@ use Rattle.plan_reading.specs.Part.{Part, header, port, flow, extra, jitter, clo
 use Rattle.plan_reading.specs.Rank.{number_of}
 use Rattle.plan_reading.specs.Saved.{spell, when, collect, header_part, port_part, flow_part, extra_part, jitter_part, clock_part, port_parts, flow_parts, extra_parts, jitter_parts, clock_parts, saved_parts}
 use Rattle.plan_reading.specs.laws.fields.Within.{within_low, slot_below}
-use Rattle.plan_reading.specs.laws.saved.Entries.{Stands, Tells, Says, collect_slot, slot_collect, when_only, when_there, clocks_differ, differ_clocks}
+use Rattle.plan_reading.specs.laws.saved.Entries.{Stands, Says, collect_slot, slot_collect, when_only, when_there, clocks_differ, differ_clocks}
 
 -- the number of slot i, and its slot
 pub numbered : (slots i : ℕ) → i < slots → within 1 slots (suc i) ≡ true

@@ -1,8 +1,8 @@
 -- A row of parts of which none has the key of another: each stands in the tables that the row leaves.
-use Rattle.std.specs.Prelude.{ℕ, ◌-◌, ◌≡◌, refl}
-use Rattle.std.proofs.Common.{sym, ap, ◌∙◌, arith, get_or-set_same}
+use Rattle.std.specs.Prelude.{◌-◌, ◌≡◌, refl}
+use Rattle.std.proofs.Common.{get_or-set_same}
 use mathlib.Core.List.Memᴰ
-use mathlib.Core.List.{List, [], ◌∷◌, ◌++◌, Memᴰ}
+use mathlib.Core.List.{List, [], ◌∷◌, Memᴰ}
 use Rattle.cqf.specs.Limits.{port_slots, flow_slots}
 use Rattle.cqf.specs.Plan.{Plan, no_plan}
 use Rattle.plan_reading.specs.Part.{Part, header, port, flow, extra, jitter, clock}

@@ -1,5 +1,5 @@
 -- Every accepted plan is valid: the tables are valid after each field of the walk.
-use Rattle.std.specs.Prelude.{◌≡◌, refl, ◌⊎◌, Bool, true, false, ℕ, zero, suc, ◌+◌, ◌-◌, ◌≤◌, ◌<◌, eqb, length}
+use Rattle.std.specs.Prelude.{◌≡◌, refl, ◌⊎◌, true, false, ℕ, zero, suc, ◌+◌, ◌-◌, ◌≤◌, ◌<◌, eqb, length}
 use Rattle.std.proofs.Common.{sym, ap, ◌∙◌, subst, inl, inr, true≢false, add-zero, arith, get_or-set_other, eq-eqb, lt-ltb}
 use mathlib.Core.List.{List, [], ◌∷◌, Memᴰ}
 use Rattle.std.proofs.Math.Decide.{ℕ_discrete}
@@ -16,7 +16,7 @@ use Rattle.plan_reading.specs.Part.{Part, header, port, flow, extra, jitter, clo
 use Rattle.plan_reading.specs.Key.{header_key, key_of}
 use Rattle.plan_reading.specs.Store.{store, store_all}
 use Rattle.plan_reading.specs.Draft.{Draft, blank, has_key, field_repeats, flows_in, sum_of, added}
-use Rattle.plan_reading.specs.Ranges.{NumbersOk, PartOk}
+use Rattle.plan_reading.specs.Ranges.{PartOk}
 use Rattle.plan_reading.specs.Reading.{accepted, route_at, read_plan}
 use Rattle.plan_reading.specs.Strict.{fields_from, parts_row}
 use Rattle.plan_reading.specs.laws.fields.Within.{within_low, within_high, slot_below}

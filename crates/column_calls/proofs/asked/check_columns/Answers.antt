@@ -6,15 +6,13 @@ use Rattle.answers.specs.Answer.{Answer}
 use Rattle.questions.specs.Outcome.{check_answer}
 use Rattle.sequences.specs.Meaning.{CheckMeans}
 use Rattle.sequences.specs.results.Theorem.{check_means}
-use Rattle.column_calls.proofs.asked.check_columns.Statement.{statement}
-use Rattle.column_calls.proofs.asked.check_columns.Tie as tie
+use Rattle.column_calls.proofs.asked.check_columns.Goals as goal
 
 -- the answer of the definition, and with it what demand 3 says of it
 told : (p : Plan) (T : ℕ) (a : Answer (Unit {0})) → a ≡ check_answer p T → (a ≡ check_answer p T) × CheckMeans p T a
 told p T a e = (e, subst (λ (x : Answer (Unit {0})). CheckMeans p T x) (sym e) (check_means p T))
 
-returns : tie.Need-returns
-returns c = told _ _ _ (rw c.before.held_top_lem.ensures at c.check-tables.ensures)
-
-pub check_columns_spec : {M : Type 1} → statement M
-check_columns_spec = tie.close (tie.spec (λ c κs. tt) (λ c κs. tt) returns)
+pub returns : goal.returns
+returns c =
+    let t = told _ _ _ (rw c.held_top-held.ensures at c.check_tables.ensures) in
+    record { answers = t.0; means = t.1 }

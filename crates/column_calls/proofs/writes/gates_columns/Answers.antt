@@ -8,8 +8,7 @@ use Rattle.answers.specs.Answer.{Answer}
 use Rattle.gate_writing.specs.Gates.{gates_answer, gates_leaves}
 use Rattle.sequences.specs.GatesMeaning.{GatesMean}
 use Rattle.sequences.specs.results.GatesTheorem.{gates_mean}
-use Rattle.column_calls.proofs.writes.gates_columns.Statement.{statement}
-use Rattle.column_calls.proofs.writes.gates_columns.Tie as tie
+use Rattle.column_calls.proofs.writes.gates_columns.Goals as goal
 
 -- the answer of the definition and what it leaves, and with them what they mean
 told
@@ -22,14 +21,13 @@ told p T even odd buffer exit a e = (
       (subst (λ (x : Answer ℕ). GatesMean p T even odd buffer (gates_leaves p T even odd buffer) x) (sym e.0) (gates_mean p T even odd buffer)),
 )
 
-gates-tables-requires : tie.Need-gates-tables-requires
-gates-tables-requires c κs = tt
+pub gates_tables-requires : goal.gates_tables-requires
+gates_tables-requires c = tt
 
-same_length : tie.Need-same-length
-same_length c = search rules
+pub shape_of-buffer : goal.shape_of-buffer
+shape_of-buffer c = search rules
 
-returns : tie.Need-returns
-returns c = told _ _ _ _ _ _ _ (rw c.before.before.before.before.held_top_lem.ensures at c.before.before.gates-tables.ensures)
-
-pub gates_columns_spec : {M : Type 1} → statement M
-gates_columns_spec = tie.close (tie.spec (λ c κs. tt) gates-tables-requires same_length returns)
+pub returns : goal.returns
+returns c =
+    let t = told _ _ _ _ _ _ _ (rw c.held_top-held.ensures at c.gates_tables.ensures) in
+    record { answers = t.0; means = t.1 }

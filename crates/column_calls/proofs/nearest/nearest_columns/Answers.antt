@@ -7,15 +7,13 @@ use Rattle.answers.specs.Answer.{Answer}
 use Rattle.questions.specs.Nearest.{Nearest, nearest_answer}
 use Rattle.sequences.specs.NearestMeaning.{NearestMeans}
 use Rattle.sequences.specs.results.NearestTheorem.{nearest_means}
-use Rattle.column_calls.proofs.nearest.nearest_columns.Statement.{statement}
-use Rattle.column_calls.proofs.nearest.nearest_columns.Tie as tie
+use Rattle.column_calls.proofs.nearest.nearest_columns.Goals as goal
 
 -- the answer of the definition, and with it what it means
 told : (p : Plan) (T : ℕ) (a : Answer Nearest) → a ≡ nearest_answer p T → (a ≡ nearest_answer p T) × NearestMeans p T a
 told p T a e = (e, subst (λ (x : Answer Nearest). NearestMeans p T x) (sym e) (nearest_means p T))
 
-returns : tie.Need-returns
-returns c = told _ _ _ (rw c.before.held_top_lem.ensures at c.nearest-tables.ensures)
-
-pub nearest_columns_spec : {M : Type 1} → statement M
-nearest_columns_spec = tie.close (tie.spec (λ c κs. tt) (λ c κs. tt) returns)
+pub returns : goal.returns
+returns c =
+    let t = told _ _ _ (rw c.held_top-held.ensures at c.nearest_tables.ensures) in
+    record { answers = t.0; means = t.1 }

@@ -7,15 +7,13 @@ use Rattle.answers.specs.Answer.{Answer}
 use Rattle.questions.specs.Spans.{span_answer}
 use Rattle.sequences.specs.SpansMeaning.{SpanMeans}
 use Rattle.sequences.specs.results.SpansTheorem.{span_means}
-use Rattle.column_calls.proofs.writes.span_columns.Statement.{statement}
-use Rattle.column_calls.proofs.writes.span_columns.Tie as tie
+use Rattle.column_calls.proofs.writes.span_columns.Goals as goal
 
 -- the answer of the definition, and with it what it means
 told : (p : Plan) (T : ℕ) (a : Answer Span) → a ≡ span_answer p T → (a ≡ span_answer p T) × SpanMeans p T a
 told p T a e = (e, subst (λ (x : Answer Span). SpanMeans p T x) (sym e) (span_means p T))
 
-returns : tie.Need-returns
-returns c = told _ _ _ (rw c.before.held_top_lem.ensures at c.span-tables.ensures)
-
-pub span_columns_spec : {M : Type 1} → statement M
-span_columns_spec = tie.close (tie.spec (λ c κs. tt) (λ c κs. tt) returns)
+pub returns : goal.returns
+returns c =
+    let t = told _ _ _ (rw c.held_top-held.ensures at c.span_tables.ensures) in
+    record { answers = t.0; means = t.1 }
