@@ -1,4 +1,4 @@
-"""The wrong programs: where they stand, how one is applied, and what the prover's answer says of one."""
+"""The wrong programs: where they stand, how one is applied, and what rt says of one."""
 
 import re
 from pathlib import Path
@@ -9,13 +9,12 @@ class Bad(Exception):
 
 
 class Edit:
-    """A file `LABEL.edit`: one wrong program, as texts of a crate's files and what replaces them."""
+    """A file `LABEL.edit`: one wrong program, as texts of a crate's files and what replaces them. A line `by: ` names the file of laws or
+    of a proof whose fact refuses it; it is there to be read alone."""
 
     def __init__(self, path, crate):
         self.path, self.crate, self.label = path, crate, path.stem
         self.name = f"{crate}/{self.label}"
-        named = [line[len("by: ") :] for line in path.read_text().split("\n") if line.startswith("by: ")]
-        self.by = named[0] if named else None  # the file of laws or of a proof whose fact refuses it
 
     def pairs(self):
         """Each file, old text and new one. A line `file: ` holds for each `old: ` and `new:` after it."""
@@ -47,25 +46,14 @@ class Edit:
         return texts
 
 
-def together(each):
-    """The files that several edits change, with what all of them change: each a line or more, and no two of them the same one."""
-    texts = {}
-    for path in {path for changed in each for path in changed}:
-        lines = path.read_text().split("\n")
-        others = [changed[path].split("\n") for changed in each if path in changed]
-        for number, line in enumerate(lines[:]):
-            new = {other[number] for other in others} - {line}
-            if len(new) > 1:
-                raise Bad(f"two of them change one line of {path.name}")
-            lines[number] = new.pop() if new else line
-        texts[path] = "\n".join(lines)
-    return texts
+def beside(root):
+    """The edits beside this file."""
+    return [Edit(path, path.parts[-2]) for path in sorted(root.glob("tests/wrong/*/*.edit"))]
 
 
 def standing(root):
-    """Every edit of the tree: those of must-fail, which rt ci tries from nothing too, and those beside this file."""
-    edits = [Edit(path, path.parts[-3]) for path in sorted(root.glob("crates/*/must-fail/*.edit"))]
-    edits += [Edit(path, path.parts[-2]) for path in sorted(root.glob("tests/wrong/*/*.edit"))]
+    """Every edit of the tree: those of must-fail, which rt ci tries itself, and those beside this file."""
+    edits = [Edit(path, path.parts[-3]) for path in sorted(root.glob("crates/*/must-fail/*.edit"))] + beside(root)
     names = [edit.name for edit in edits]
     for name in names:
         if names.count(name) > 1:
@@ -79,42 +67,27 @@ def exceptions(root):
     return dict(line.split(": ", 1) for line in lines if line and not line.startswith("#"))
 
 
-# What an error says where a proof no longer fits the code, whether or not a fact fails.
-UNFIT = re.compile(
-    r"can be named from here|is not in scope|\.(Lts|Tie)\.\S*` has no field|expected type `[^`]*\btie\.Need-[^`]*`, but"
+# What rt must-fail says where a theorem of specs/ does not hold and another one rests on it: to rt such an edit is bad.
+RESTS = re.compile(
+    r"BAD EDIT: the prover cannot read the edited text, so no contract was tried: "
+    r"(\./)?specs/\S+:\d+:\d+: error: \d+ declarations? that depends? on `[^`]+`, which was (rejected|not admitted), w(as|ere) not checked: "
 )
 
+# The first words of an answer, and what it comes to.
+ANSWERS = {
+    "refused, as it must be (only because a proof file names what the edit took away": "unfit",
+    "refused, as it must be (only by a limit of the prover": "no verdict",
+    "refused, as it must be": "refused",
+    "NOT REFUSED": "proved",
+    "NOT TRIED": "no verdict",
+    "BAD EDIT": "bad",
+}
 
-def errors(answer):
-    """The place and the words of each error of the prover, with the lines that are indented below it. What only waits for
-    another declaration (`was not admitted`) is passed over; a note that something is not proved counts."""
-    found, inside = [], False
-    for line in answer.split("\n"):
-        if line[:1].isspace():
-            if inside:
-                found[-1] = (found[-1][0], found[-1][1] + "\n" + line)
-            continue
-        error = re.match(r"(\S+?(?::\d+:\d+)?): error: ", line) or re.match(r"note: (\S+:\d+:\d+): .*not proved", line)
-        inside = bool(error) and "was not admitted" not in line
-        if inside:
-            found.append((error[1], line))
+
+def answers(said):
+    """What `rt must-fail` says of each edit, by its name: in one word, and in its own."""
+    found = {}
+    for name, words in re.findall(r"^(?:rt: )?must-fail (\w+/\S+)\.edit: (.*)", said, re.M):
+        word = next((word for start, word in ANSWERS.items() if words.startswith(start)), "no verdict")
+        found[name] = "refused" if RESTS.match(words) else word, words
     return found
-
-
-def told(found):
-    """What these errors say, in one word, and the place of the first, or of the first that says so."""
-    unfit = [place for place, words in found if UNFIT.search(words)]
-    if unfit:
-        return "unfit", unfit[0]
-    return ("refused", found[0][0]) if found else ("silent", "")
-
-
-def judged(status, answer):
-    """What the prover said of a crate, in one word, and the place of its first error, or of the first that says so."""
-    if status == 0 and re.search(r"^logic=proved", answer, re.M):
-        return "proved", ""
-    if status == 1 and re.search(r"^logic=not-proved", answer, re.M):
-        return told(errors(answer))
-    if status == 1 and re.search(r"^\S+:\d+:\d+: error\[", answer, re.M) and not re.search(r"^logic=", answer, re.M):
-        return "rejected", re.search(r"^(\S+:\d+:\d+): error\[", answer, re.M)[1]
-    return "no verdict", ""
