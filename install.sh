@@ -1,13 +1,13 @@
 #!/bin/sh
 # install.sh PREFIX: puts the static library, as libcycle_planner.a, the header, the pkg-config file and the programs below PREFIX. What
 # it installs must have been made before, by
-#     rt check && rt staticlib capi
+#     ./build.sh
 set -eu
 [ $# = 1 ] || { echo "install.sh PREFIX" >&2; exit 2; }
 here=$(cd "$(dirname "$0")" && pwd)
 programs="cycle progress normalize upgrade downgrade gates batch spans draw ask encode decode"
 for made in staticlib/libcapi.a $(for program in $programs; do echo "bin/$program"; done); do
-  [ -e "$here/target/$made" ] || { echo "no target/$made: make it by rt check && rt staticlib capi" >&2; exit 1; }
+  [ -e "$here/target/$made" ] || { echo "no target/$made: make it by ./build.sh" >&2; exit 1; }
 done
 
 mkdir -p "$1"
