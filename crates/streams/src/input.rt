@@ -2,6 +2,8 @@
 ghost use Rattle.std.specs.Prelude.{◌≤◌, length};
 ghost use Rattle.streams.specs.{Within};
 
+use std::io::Read;
+
 // So many bytes in front of the buffer, or that the input could not be read.
 #[derive(Clone, Copy)]
 pub enum Input {
@@ -10,20 +12,18 @@ pub enum Input {
 }
 
 // One read, into the part of the buffer that is still free.
-fn read_more(from: i32, buffer: &mut [u8], at: usize) -> Input
+fn read_more<R: Read>(from: &mut R, buffer: &mut [u8], at: usize) -> Input
     requires { at ≤ length buffer.old }
     ensures { Within (length buffer.new) result }
 {
-    let got = libc::read(from, &mut buffer[at..]);
-    if got < 0 {
+    let Ok(more) = from.read(&mut buffer[at..]) else {
         return Input::Failed;
-    }
-    let more = io::count(got, &buffer[at..]);
+    };
     Input::Bytes(at + more)
 }
 
 // Reads until the buffer is full or the input ends.
-pub fn read_input(from: i32, buffer: &mut [u8]) -> Input
+pub fn read_input<R: Read>(from: &mut R, buffer: &mut [u8]) -> Input
     ensures { Within (length buffer.new) result }
 {
     let mut at = 0;

@@ -1,50 +1,57 @@
 // What the programs print.
 use crate::places::{say_with, say_with_two};
-use libc::{STDERR_FILENO, STDOUT_FILENO};
+use std::io;
+use std::io::Write;
 
-// Where a program writes: a file descriptor, or FAILED once a write failed. After that nothing more is written.
-pub type Output = i32;
+// Where a program writes, or FAILED once a write failed. After that nothing more is written.
+#[derive(Clone, Copy)]
+pub enum Output {
+    Standard(HostRuntime),
+    Error(HostRuntime),
+    Failed(HostRuntime),
+}
 
-const FAILED: Output = -1;
-
-pub fn standard_output() -> Output {
-    STDOUT_FILENO
+pub fn standard_output(rt: HostRuntime) -> Output {
+    Output::Standard(rt)
 }
 
 // For what is no result.
-pub fn standard_error() -> Output {
-    STDERR_FILENO
+pub fn standard_error(rt: HostRuntime) -> Output {
+    Output::Error(rt)
+}
+
+// The output behind a write.
+fn written(out: Output, rt: HostRuntime, wrote: io::Result<()>) -> Output {
+    match wrote {
+        Ok(()) => out,
+        Err(_) => Output::Failed(rt),
+    }
 }
 
 pub fn say(out: Output, text: &[u8]) -> Output {
-    if out < 0 {
-        return out;
+    match out {
+        Output::Standard(rt) => written(out, rt, rt.stdout().write_all(text)),
+        Output::Error(rt) => written(out, rt, rt.stderr().write_all(text)),
+        Output::Failed(_) => out,
     }
-    if io::write_all(out, text) {
-        return out;
-    }
-    FAILED
 }
 
 pub fn say_number(out: Output, n: u64) -> Output {
-    if out < 0 {
-        return out;
+    match out {
+        Output::Standard(rt) => written(out, rt, print!(rt; "{n}")),
+        Output::Error(rt) => written(out, rt, eprint!(rt; "{n}")),
+        Output::Failed(_) => out,
     }
-    if io::print_decimal(out, n) {
-        return out;
-    }
-    FAILED
 }
 
-// At least so many hexadecimal digits.
+// At least so many hexadecimal digits, of 16.
 pub fn say_hex(out: Output, n: u64, width: usize) -> Output {
-    if out < 0 {
-        return out;
+    let width = width.min(16);
+    match out {
+        Output::Standard(rt) => written(out, rt, print!(rt; "{n:0width$x}")),
+        Output::Error(rt) => written(out, rt, eprint!(rt; "{n:0width$x}")),
+        Output::Failed(_) => out,
     }
-    if io::print_hex(out, n, width) {
-        return out;
-    }
-    FAILED
 }
 
 pub fn say_refused(out: Output, refusal: u32) -> Output {
@@ -61,7 +68,7 @@ pub fn say_refused_plan(out: Output, readable: bool, refusal: u32, offset: usize
 
 // The last thing that a program does with an output: a write that failed is told on standard error.
 pub fn finish(out: Output) {
-    if out < 0 {
-        io::write_all(STDERR_FILENO, b"cannot write\n");
+    if let Output::Failed(rt) = out {
+        say(Output::Error(rt), b"cannot write\n");
     }
 }
