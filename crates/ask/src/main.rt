@@ -12,7 +12,6 @@ mod lent; // lent.rt: the questions for a bad emission, of a planner by value
 mod shares; // shares.rt: what each flow brings to a port
 
 use arguments::Parsed;
-use libc::STDIN_FILENO;
 use plan_text::{TextAnswer, read_text};
 use planner::{CheckAnswer, LoadAnswer, NearestAnswer, Neighbour, Planner};
 use streams::{Input, Output, say, say_number, say_refused, say_refused_plan, say_with};
@@ -40,9 +39,9 @@ fn say_nearest(out: Output, planner: Planner, duration: u64) -> Output {
     }
 }
 
-fn say_admissible(planner: Planner, duration: u64) {
+fn say_admissible(rt: HostRuntime, planner: Planner, duration: u64) {
     let out = say_with(
-        streams::standard_output(),
+        streams::standard_output(rt),
         b"% ns is admissible\n",
         duration,
     );
@@ -51,9 +50,9 @@ fn say_admissible(planner: Planner, duration: u64) {
     streams::finish(accepted::say_margin_safe(out, planner, duration));
 }
 
-fn say_failing(planner: Planner, duration: u64) {
+fn say_failing(rt: HostRuntime, planner: Planner, duration: u64) {
     let out = say_with(
-        streams::standard_output(),
+        streams::standard_output(rt),
         b"% ns is not admissible\n",
         duration,
     );
@@ -62,33 +61,33 @@ fn say_failing(planner: Planner, duration: u64) {
     streams::finish(emission::say_emission(out, planner, duration));
 }
 
-fn answer(planner: Planner, duration: u64) {
+fn answer(rt: HostRuntime, planner: Planner, duration: u64) {
     let answer = planner::check(planner, duration);
     match answer {
-        CheckAnswer::Admissible => say_admissible(planner, duration),
-        CheckAnswer::Failing { port: _, count: _ } => say_failing(planner, duration),
+        CheckAnswer::Admissible => say_admissible(rt, planner, duration),
+        CheckAnswer::Failing { port: _, count: _ } => say_failing(rt, planner, duration),
         _ => {
-            let out = say_refused(streams::standard_error(), planner::check_number(answer));
+            let out = say_refused(streams::standard_error(rt), planner::check_number(answer));
             say(out, b"\n");
         }
     }
 }
 
 // A plan of either form, in bytes.
-fn ask_bytes(bytes: &[u8], duration: u64) {
+fn ask_bytes(rt: HostRuntime, bytes: &[u8], duration: u64) {
     let outcome = planner::load(planner::empty(), bytes);
     let held = outcome.planner;
     let loaded = outcome.answer;
     match loaded {
         LoadAnswer::Refused { fault: _, offset } => {
             let refusal = planner::load_number(loaded);
-            say_refused_plan(streams::standard_error(), true, refusal, offset);
+            say_refused_plan(streams::standard_error(rt), true, refusal, offset);
         }
-        LoadAnswer::Held { ports: _, flows: _ } => answer(held, duration),
+        LoadAnswer::Held { ports: _, flows: _ } => answer(rt, held, duration),
     }
 }
 
-fn ask_text(text: &[u8], duration: u64) {
+fn ask_text(rt: HostRuntime, text: &[u8], duration: u64) {
     let outcome = read_text(text);
     let held = outcome.planner;
     let read = outcome.answer;
@@ -99,9 +98,9 @@ fn ask_text(text: &[u8], duration: u64) {
             item,
             value,
         } => {
-            say_refusal(streams::standard_error(), line, fault, item, value);
+            say_refusal(streams::standard_error(rt), line, fault, item, value);
         }
-        TextAnswer::Plan { newer: _ } => answer(held, duration),
+        TextAnswer::Plan { newer: _ } => answer(rt, held, duration),
     }
 }
 
@@ -111,32 +110,32 @@ fn is_tag(first: u8) -> bool {
 }
 
 // Bytes where the first of them is a tag, else text.
-fn ask(given: &[u8], duration: u64) {
+fn ask(rt: HostRuntime, given: &[u8], duration: u64) {
     if 0 < given.len() {
         if is_tag(given[0]) {
-            ask_bytes(given, duration);
+            ask_bytes(rt, given, duration);
             return;
         }
     }
-    ask_text(given, duration);
+    ask_text(rt, given, duration);
 }
 
-fn ask_input(duration: u64) {
+fn ask_input(rt: HostRuntime, duration: u64) {
     let mut input = [0u8; ROOM];
-    match streams::read_input(STDIN_FILENO, &mut input) {
+    match streams::read_input(&mut rt.stdin(), &mut input) {
         Input::Failed => {
-            say(streams::standard_error(), b"cannot read the plan\n");
+            say(streams::standard_error(rt), b"cannot read the plan\n");
         }
-        Input::Bytes(n) => ask(&input[..n], duration),
+        Input::Bytes(n) => ask(rt, &input[..n], duration),
     }
 }
 
-fn main() {
-    if arguments::count() == 2 {
-        if let Parsed::Number(duration) = arguments::number(1) {
-            ask_input(duration);
+fn main(rt: HostRuntime) {
+    if arguments::count(&rt) == 2 {
+        if let Parsed::Number(duration) = arguments::number(&rt, 1) {
+            ask_input(rt, duration);
             return;
         }
     }
-    say(streams::standard_error(), b"usage: ask DURATION\n");
+    say(streams::standard_error(rt), b"usage: ask DURATION\n");
 }

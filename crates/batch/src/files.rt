@@ -4,7 +4,12 @@ ghost use Rattle.streams.specs.{Within};
 
 use console::ROOM;
 use planner::{Batch, PlaceAnswer};
+use std::env::Env;
+use std::fs::File;
 use streams::{Input, read_input};
+
+// Of an argument that is looked at.
+const LONGEST: usize = 4_096;
 
 // The batch as it is left, and what became of the file: whether it could be read, and the refusal of its plan with the offset.
 #[derive(Clone, Copy)]
@@ -15,19 +20,21 @@ pub(crate) struct Placed {
     pub(crate) offset: usize,
 }
 
-// The file that this argument names. An argument that is empty, or longer than 4,095 bytes, names none.
-fn read_file(word: usize, buffer: &mut [u8]) -> Input
+// The file that this argument names. An argument that is empty, longer than 4,095 bytes, or no UTF-8 text, names none.
+fn read_file(rt: HostRuntime, word: usize, buffer: &mut [u8]) -> Input
     ensures { Within (length buffer.new) result }
 {
-    let mut name = io::buffer();
-    let n = os::arg(word, &mut name);
-    let file = os::open_read(&name[..n]);
-    if file < 0 {
+    let mut name = [0u8; LONGEST];
+    let Ok(n) = rt.arg(word, &mut name) else {
         return Input::Failed;
-    }
-    let input = read_input(file, buffer);
-    libc::close(file);
-    input
+    };
+    let Ok(path) = str::from_utf8(&name[..n]) else {
+        return Input::Failed;
+    };
+    let Ok(mut file) = File::open(&rt, path) else {
+        return Input::Failed;
+    };
+    read_input(&mut file, buffer)
 }
 
 fn place_bytes(batch: Batch, slot: u64, bytes: &[u8]) -> Placed {
@@ -51,8 +58,8 @@ fn place_bytes(batch: Batch, slot: u64, bytes: &[u8]) -> Placed {
     }
 }
 
-fn place_input(batch: Batch, slot: u64, word: usize, buffer: &mut [u8]) -> Placed {
-    let input = read_file(word, buffer);
+fn place_input(rt: HostRuntime, batch: Batch, slot: u64, word: usize, buffer: &mut [u8]) -> Placed {
+    let input = read_file(rt, word, buffer);
     match input {
         Input::Failed => Placed {
             batch,
@@ -64,7 +71,7 @@ fn place_input(batch: Batch, slot: u64, word: usize, buffer: &mut [u8]) -> Place
     }
 }
 
-pub(crate) fn place_file(batch: Batch, slot: u64, word: usize) -> Placed {
+pub(crate) fn place_file(rt: HostRuntime, batch: Batch, slot: u64, word: usize) -> Placed {
     let mut buffer = [0u8; ROOM];
-    place_input(batch, slot, word, &mut buffer)
+    place_input(rt, batch, slot, word, &mut buffer)
 }

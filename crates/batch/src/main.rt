@@ -44,6 +44,7 @@ fn say_collected(out: Output, batch: Batch, slot: u64) -> Output {
 
 // A line for each file, by what reading it gave.
 fn say_answers<'a>(
+    rt: HostRuntime,
     batch: Batch,
     files: usize,
     readable: &'a [bool; FILES],
@@ -52,7 +53,7 @@ fn say_answers<'a>(
 )
     requires { files ≤ 8 }
 {
-    let mut out = standard_output();
+    let mut out = standard_output(rt);
     let mut i: usize = 0;
     while i < files {
         if refusals[i] == 0 {
@@ -69,7 +70,7 @@ fn say_answers<'a>(
     finish(out);
 }
 
-fn plan_files(files: usize)
+fn plan_files(rt: HostRuntime, files: usize)
     requires { files ≤ 8 }
 {
     let mut batch = planner::empty_batch();
@@ -78,7 +79,7 @@ fn plan_files(files: usize)
     let mut offsets = [0usize; FILES];
     let mut i: usize = 0;
     while i < files {
-        let placed = place_file(batch, i as u64, i + 1);
+        let placed = place_file(rt, batch, i as u64, i + 1);
         let left = placed.batch;
         batch = left;
         readable[i] = placed.readable;
@@ -86,26 +87,33 @@ fn plan_files(files: usize)
         offsets[i] = placed.offset;
         i += 1;
     }
-    say_answers(serve_all(batch), files, &readable, &refusals, &offsets);
+    say_answers(
+        rt,
+        serve_all(rt, batch),
+        files,
+        &readable,
+        &refusals,
+        &offsets,
+    );
 }
 
-fn report_usage() {
+fn report_usage(rt: HostRuntime) {
     say(
-        standard_error(),
+        standard_error(rt),
         b"usage: batch PLAN.. (up to eight files)\n",
     );
 }
 
-fn main() {
-    let words = os::arg_count();
+fn main(rt: HostRuntime) {
+    let words = arguments::count(&rt);
     if words < 2 {
-        report_usage();
+        report_usage(rt);
         return;
     }
     let files = words - 1;
     if FILES < files {
-        report_usage();
+        report_usage(rt);
         return;
     }
-    plan_files(files);
+    plan_files(rt, files);
 }

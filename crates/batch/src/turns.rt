@@ -7,20 +7,20 @@ use streams::{say_with, say_with_two, standard_error};
 const MOST: u64 = 50_000_000;
 
 // How far the plan in a slot has come.
-fn report(batch: Batch, slot: u64) {
+fn report(rt: HostRuntime, batch: Batch, slot: u64) {
     if SLOTS <= slot {
         return;
     }
     let at = slot as usize;
     let held = batch.slots[at];
     if held.state == PENDING {
-        say_with_two(standard_error(), b"place % at %\n", slot, held.duration);
+        say_with_two(standard_error(rt), b"place % at %\n", slot, held.duration);
     } else {
-        say_with(standard_error(), b"place % answered\n", slot);
+        say_with(standard_error(rt), b"place % answered\n", slot);
     }
 }
 
-pub(crate) fn serve_all(batch: Batch) -> Batch {
+pub(crate) fn serve_all(rt: HostRuntime, batch: Batch) -> Batch {
     let mut left = batch;
     let mut made: u64 = 0;
     while made < MOST {
@@ -31,7 +31,7 @@ pub(crate) fn serve_all(batch: Batch) -> Batch {
         };
         let next = outcome.batch;
         left = next;
-        report(left, slot);
+        report(rt, left, slot);
         made += 1;
     }
     left

@@ -4,7 +4,6 @@
 ghost use Rattle.std.specs.Prelude.{◌≤◌, length};
 ghost use Rattle.console.specs.{LoadedAs, LoadedFrom, LoadedInput, Inside};
 
-use libc::STDIN_FILENO;
 use planner::{ConvertAnswer, LoadOutcome};
 use streams::{Input, finish, read_input, say, say_refused_plan, standard_error, standard_output};
 
@@ -18,9 +17,9 @@ pub struct Given {
     pub outcome: LoadOutcome,
 }
 
-fn say_not_converted(answer: ConvertAnswer, place: usize) {
+fn say_not_converted(rt: HostRuntime, answer: ConvertAnswer, place: usize) {
     say_refused_plan(
-        standard_error(),
+        standard_error(rt),
         true,
         planner::convert_number(answer),
         place,
@@ -28,14 +27,14 @@ fn say_not_converted(answer: ConvertAnswer, place: usize) {
 }
 
 // What a converter gave: the bytes that it wrote in front of the buffer, or what it refused.
-pub fn say_converted(answer: ConvertAnswer, buffer: &[u8])
+pub fn say_converted(rt: HostRuntime, answer: ConvertAnswer, buffer: &[u8])
     requires { Inside (length buffer.now) answer }
 {
     match answer {
-        ConvertAnswer::Written(size) => finish(say(standard_output(), &buffer[..size])),
-        ConvertAnswer::Refused { fault: _, offset } => say_not_converted(answer, offset),
-        ConvertAnswer::LongRoute(offset) => say_not_converted(answer, offset),
-        ConvertAnswer::ShortBuffer(needed) => say_not_converted(answer, needed),
+        ConvertAnswer::Written(size) => finish(say(standard_output(rt), &buffer[..size])),
+        ConvertAnswer::Refused { fault: _, offset } => say_not_converted(rt, answer, offset),
+        ConvertAnswer::LongRoute(offset) => say_not_converted(rt, answer, offset),
+        ConvertAnswer::ShortBuffer(needed) => say_not_converted(rt, answer, needed),
     }
 }
 
@@ -46,10 +45,10 @@ fn load_bytes(readable: bool, bytes: &[u8]) -> Given
     Given { readable, outcome }
 }
 
-fn load_input(buffer: &mut [u8]) -> Given
+fn load_input(rt: HostRuntime, buffer: &mut [u8]) -> Given
     ensures { LoadedFrom buffer.new result }
 {
-    let input = read_input(STDIN_FILENO, buffer);
+    let input = read_input(&mut rt.stdin(), buffer);
     match input {
         Input::Failed => load_bytes(false, b""),
         Input::Bytes(n) => load_bytes(true, &buffer[..n]),
@@ -57,9 +56,9 @@ fn load_input(buffer: &mut [u8]) -> Given
 }
 
 // The planner is the one that a load of the bytes read leaves, and the answer is that load's.
-pub fn given_plan() -> Given
+pub fn given_plan(rt: HostRuntime) -> Given
     ensures { LoadedInput result }
 {
     let mut buffer = [0u8; ROOM];
-    load_input(&mut buffer)
+    load_input(rt, &mut buffer)
 }

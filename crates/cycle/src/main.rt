@@ -38,8 +38,8 @@ fn say_searches(out: Output, planner: Planner) -> Output {
     say(out, b"\n")
 }
 
-fn say_plan(out: Output) -> Output {
-    let given = console::given_plan();
+fn say_plan(rt: HostRuntime, out: Output) -> Output {
+    let given = console::given_plan(rt);
     let readable = given.readable;
     let outcome = given.outcome;
     let held = outcome.planner;
@@ -52,6 +52,6 @@ fn say_plan(out: Output) -> Output {
     }
 }
 
-fn main() {
-    streams::finish(say_plan(streams::standard_output()));
+fn main(rt: HostRuntime) {
+    streams::finish(say_plan(rt, streams::standard_output(rt)));
 }

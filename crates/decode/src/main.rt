@@ -25,16 +25,16 @@ fn written(planner: Planner, buffer: &mut [u8]) -> usize
     }
 }
 
-fn write_held(planner: Planner)
+fn write_held(rt: HostRuntime, planner: Planner)
     requires { valid_plan (plan_of planner) ≡ true }
 {
     let mut buffer = [0u8; text_writing::MAX_TEXT];
     let size = written(planner, &mut buffer);
-    streams::finish(say(streams::standard_output(), &buffer[..size]));
+    streams::finish(say(streams::standard_output(rt), &buffer[..size]));
 }
 
-fn main() {
-    let given = console::given_plan();
+fn main(rt: HostRuntime) {
+    let given = console::given_plan(rt);
     let readable = given.readable;
     let outcome = given.outcome;
     let held = outcome.planner;
@@ -42,12 +42,12 @@ fn main() {
     match answer {
         LoadAnswer::Refused { fault: _, offset } => {
             say_refused_plan(
-                streams::standard_error(),
+                streams::standard_error(rt),
                 readable,
                 planner::load_number(answer),
                 offset,
             );
         }
-        LoadAnswer::Held { ports: _, flows: _ } => write_held(held),
+        LoadAnswer::Held { ports: _, flows: _ } => write_held(rt, held),
     }
 }

@@ -18,31 +18,31 @@ use planner::{CheckAnswer, LoadAnswer, Planner};
 use streams::{say, say_refused, say_refused_plan};
 
 // A given duration of 0 is none.
-fn draw(planner: Planner, text: bool, given: u64, admissible: bool) {
+fn draw(rt: HostRuntime, planner: Planner, text: bool, given: u64, admissible: bool) {
     let marks = marks_of(planner, given, admissible);
     let out = if text {
-        text::say_text(streams::standard_output(), planner, marks)
+        text::say_text(streams::standard_output(rt), planner, marks)
     } else {
-        picture::say_picture(streams::standard_output(), planner, marks)
+        picture::say_picture(streams::standard_output(rt), planner, marks)
     };
     streams::finish(out);
 }
 
-fn draw_given(planner: Planner, text: bool, duration: u64) {
+fn draw_given(rt: HostRuntime, planner: Planner, text: bool, duration: u64) {
     let answer = planner::check(planner, duration);
     match answer {
-        CheckAnswer::Admissible => draw(planner, text, duration, true),
-        CheckAnswer::Failing { port: _, count: _ } => draw(planner, text, duration, false),
+        CheckAnswer::Admissible => draw(rt, planner, text, duration, true),
+        CheckAnswer::Failing { port: _, count: _ } => draw(rt, planner, text, duration, false),
         _ => {
-            let out = say_refused(streams::standard_error(), planner::check_number(answer));
+            let out = say_refused(streams::standard_error(rt), planner::check_number(answer));
             say(out, b"\n");
         }
     }
 }
 
 // Where a duration is given it is marked.
-fn draw_plan(text: bool, given: bool, duration: u64) {
-    let read = console::given_plan();
+fn draw_plan(rt: HostRuntime, text: bool, given: bool, duration: u64) {
+    let read = console::given_plan(rt);
     let readable = read.readable;
     let outcome = read.outcome;
     let held = outcome.planner;
@@ -50,7 +50,7 @@ fn draw_plan(text: bool, given: bool, duration: u64) {
     match answer {
         LoadAnswer::Refused { fault: _, offset } => {
             say_refused_plan(
-                streams::standard_error(),
+                streams::standard_error(rt),
                 readable,
                 planner::load_number(answer),
                 offset,
@@ -58,9 +58,9 @@ fn draw_plan(text: bool, given: bool, duration: u64) {
         }
         LoadAnswer::Held { ports: _, flows: _ } => {
             if given {
-                draw_given(held, text, duration);
+                draw_given(rt, held, text, duration);
             } else {
-                draw(held, text, 0, false);
+                draw(rt, held, text, 0, false);
             }
         }
     }
@@ -73,22 +73,22 @@ fn first_words(text: bool) -> usize
     if text { 2 } else { 1 }
 }
 
-fn main() {
-    let text = arguments::is_word(1, b"text");
+fn main(rt: HostRuntime) {
+    let text = arguments::is_word(&rt, 1, b"text");
     let before = first_words(text);
-    let words = arguments::count();
+    let words = arguments::count(&rt);
     if words == before {
-        draw_plan(text, false, 0);
+        draw_plan(rt, text, false, 0);
         return;
     }
     if words == before + 1 {
-        if let Parsed::Number(duration) = arguments::number(before) {
-            draw_plan(text, true, duration);
+        if let Parsed::Number(duration) = arguments::number(&rt, before) {
+            draw_plan(rt, text, true, duration);
             return;
         }
     }
     say(
-        streams::standard_error(),
+        streams::standard_error(rt),
         b"usage: draw [text] [DURATION]\n",
     );
 }

@@ -33,8 +33,8 @@ fn say_entry(out: Output, states: u8, interval: u32) -> Output {
     say_with(out, b" %\n", interval as u64)
 }
 
-pub(crate) fn say_list(list: &[u8]) -> Output {
-    let mut out = streams::standard_output();
+pub(crate) fn say_list(rt: HostRuntime, list: &[u8]) -> Output {
+    let mut out = streams::standard_output(rt);
     let mut at: usize = 0;
     while FIELD_SIZE <= list.len() - at {
         let field = &list[at..];

@@ -15,11 +15,11 @@ use streams::{say, say_refused_plan, say_with, say_with_three};
 // The program's name, and its three arguments.
 const WORDS: usize = 4;
 
-fn report_answer(answer: GatesAnswer) {
+fn report_answer(rt: HostRuntime, answer: GatesAnswer) {
     let refusal = planner::gates_number(answer) as u64;
     if let GatesAnswer::Failing { port, count } = answer {
         say_with_three(
-            streams::standard_error(),
+            streams::standard_error(rt),
             b"refused % port % failing %\n",
             refusal,
             port as u64,
@@ -27,23 +27,23 @@ fn report_answer(answer: GatesAnswer) {
         );
         return;
     }
-    say_with(streams::standard_error(), b"refused %\n", refusal);
+    say_with(streams::standard_error(rt), b"refused %\n", refusal);
 }
 
-fn say_gates(planner: Planner, duration: u64, even: u64, odd: u64) {
+fn say_gates(rt: HostRuntime, planner: Planner, duration: u64, even: u64, odd: u64) {
     let mut list = [0u8; MOST_BYTES];
     let answer = planner::gates(planner, duration, even, odd, &mut list);
     match answer {
         GatesAnswer::Written(n) => {
-            warn(planner, duration);
-            streams::finish(say_list(&list[..n]));
+            warn(rt, planner, duration);
+            streams::finish(say_list(rt, &list[..n]));
         }
-        _ => report_answer(answer),
+        _ => report_answer(rt, answer),
     }
 }
 
-fn plan_gates(duration: u64, even: u64, odd: u64) {
-    let given = console::given_plan();
+fn plan_gates(rt: HostRuntime, duration: u64, even: u64, odd: u64) {
+    let given = console::given_plan(rt);
     let readable = given.readable;
     let outcome = given.outcome;
     let held = outcome.planner;
@@ -51,39 +51,39 @@ fn plan_gates(duration: u64, even: u64, odd: u64) {
     match answer {
         LoadAnswer::Refused { fault: _, offset } => {
             say_refused_plan(
-                streams::standard_error(),
+                streams::standard_error(rt),
                 readable,
                 planner::load_number(answer),
                 offset,
             );
         }
-        LoadAnswer::Held { ports: _, flows: _ } => say_gates(held, duration, even, odd),
+        LoadAnswer::Held { ports: _, flows: _ } => say_gates(rt, held, duration, even, odd),
     }
 }
 
-fn report_usage() {
+fn report_usage(rt: HostRuntime) {
     say(
-        streams::standard_error(),
+        streams::standard_error(rt),
         b"usage: gates DURATION EVEN ODD\n",
     );
 }
 
-fn main() {
-    if arguments::count() != WORDS {
-        report_usage();
+fn main(rt: HostRuntime) {
+    if arguments::count(&rt) != WORDS {
+        report_usage(rt);
         return;
     }
-    let Parsed::Number(duration) = arguments::number(1) else {
-        report_usage();
+    let Parsed::Number(duration) = arguments::number(&rt, 1) else {
+        report_usage(rt);
         return;
     };
-    let Parsed::Number(even) = arguments::number(2) else {
-        report_usage();
+    let Parsed::Number(even) = arguments::number(&rt, 2) else {
+        report_usage(rt);
         return;
     };
-    let Parsed::Number(odd) = arguments::number(3) else {
-        report_usage();
+    let Parsed::Number(odd) = arguments::number(&rt, 3) else {
+        report_usage(rt);
         return;
     };
-    plan_gates(duration, even, odd);
+    plan_gates(rt, duration, even, odd);
 }

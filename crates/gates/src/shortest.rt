@@ -42,12 +42,12 @@ fn too_short(interval: u64, rate: u64) -> bool {
 }
 
 // Of the list of this duration: a guard band or the window is its shortest interval.
-pub(crate) fn warn(planner: Planner, duration: u64) {
+pub(crate) fn warn(rt: HostRuntime, planner: Planner, duration: u64) {
     let rate = slowest(&planner.rates);
     let interval = lower(planner.guard as u64, window(planner.guard, duration));
     if too_short(interval, rate) {
         say_with_two(
-            streams::standard_error(),
+            streams::standard_error(rt),
             b"warning: an interval of % ns is shorter than 60 bytes at % Mbit/s, which taprio refuses\n",
             interval,
             rate,

@@ -23,16 +23,16 @@ fn saved(planner: Planner, buffer: &mut [u8]) -> usize
     }
 }
 
-fn write_saved(planner: Planner)
+fn write_saved(rt: HostRuntime, planner: Planner)
     requires { Saveable planner }
 {
     let mut buffer = [0u8; loading::MAX_BYTES];
     let size = saved(planner, &mut buffer);
-    streams::finish(say(streams::standard_output(), &buffer[..size]));
+    streams::finish(say(streams::standard_output(rt), &buffer[..size]));
 }
 
-fn main() {
-    let given = console::given_plan();
+fn main(rt: HostRuntime) {
+    let given = console::given_plan(rt);
     let readable = given.readable;
     let outcome = given.outcome;
     let held = outcome.planner;
@@ -40,12 +40,12 @@ fn main() {
     match answer {
         LoadAnswer::Refused { fault: _, offset } => {
             say_refused_plan(
-                streams::standard_error(),
+                streams::standard_error(rt),
                 readable,
                 planner::load_number(answer),
                 offset,
             );
         }
-        LoadAnswer::Held { ports: _, flows: _ } => write_saved(held),
+        LoadAnswer::Held { ports: _, flows: _ } => write_saved(rt, held),
     }
 }

@@ -63,10 +63,10 @@ fn say_reached(out: Output, duration: u64) -> Output {
 }
 
 // Portions from 1 ns on, to the end.
-fn say_portions(planner: Planner) -> Output
+fn say_portions(rt: HostRuntime, planner: Planner) -> Output
     requires { valid_plan (plan_of planner) ≡ true }
 {
-    let mut out = streams::standard_output();
+    let mut out = streams::standard_output(rt);
     let mut at: u64 = 1;
     let mut used: u64 = 0;
     loop {
@@ -80,20 +80,20 @@ fn say_portions(planner: Planner) -> Output
     }
 }
 
-fn main() {
-    let given = console::given_plan();
+fn main(rt: HostRuntime) {
+    let given = console::given_plan(rt);
     let readable = given.readable;
     let outcome = given.outcome;
     let held = outcome.planner;
     let answer = outcome.answer;
     let out = match answer {
         LoadAnswer::Refused { fault: _, offset } => say_refused_plan(
-            streams::standard_output(),
+            streams::standard_output(rt),
             readable,
             planner::load_number(answer),
             offset,
         ),
-        LoadAnswer::Held { ports: _, flows: _ } => say_portions(held),
+        LoadAnswer::Held { ports: _, flows: _ } => say_portions(rt, held),
     };
     streams::finish(out);
 }

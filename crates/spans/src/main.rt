@@ -15,10 +15,10 @@ fn say_span(out: Output, first: u64, last: u64) -> Output {
 }
 
 // Every span by the question for one, each time from behind the last: there may be more than a list of any size takes.
-fn say_spans(planner: Planner) -> Output
+fn say_spans(rt: HostRuntime, planner: Planner) -> Output
     requires { valid_plan (plan_of planner) ≡ true }
 {
-    let mut out = streams::standard_output();
+    let mut out = streams::standard_output(rt);
     let top = planner.top as u64;
     let mut at: u64 = 1;
     while at <= top {
@@ -31,23 +31,23 @@ fn say_spans(planner: Planner) -> Output
     out
 }
 
-fn say_one(planner: Planner, duration: u64) {
+fn say_one(rt: HostRuntime, planner: Planner, duration: u64) {
     let answer = planner::span(planner, duration);
     match answer {
         SpanAnswer::Span(span) => {
-            let out = say_span(streams::standard_output(), span.first, span.last);
+            let out = say_span(streams::standard_output(rt), span.first, span.last);
             streams::finish(out);
         }
         _ => {
             let refusal = planner::span_number(answer);
-            say_with(streams::standard_error(), b"refused %\n", refusal as u64);
+            say_with(streams::standard_error(rt), b"refused %\n", refusal as u64);
         }
     }
 }
 
 // All spans, or one from a duration on.
-fn plan_spans(one: bool, duration: u64) {
-    let given = console::given_plan();
+fn plan_spans(rt: HostRuntime, one: bool, duration: u64) {
+    let given = console::given_plan(rt);
     let readable = given.readable;
     let outcome = given.outcome;
     let held = outcome.planner;
@@ -55,7 +55,7 @@ fn plan_spans(one: bool, duration: u64) {
     match answer {
         LoadAnswer::Refused { fault: _, offset } => {
             say_refused_plan(
-                streams::standard_error(),
+                streams::standard_error(rt),
                 readable,
                 planner::load_number(answer),
                 offset,
@@ -63,25 +63,25 @@ fn plan_spans(one: bool, duration: u64) {
         }
         LoadAnswer::Held { ports: _, flows: _ } => {
             if one {
-                say_one(held, duration);
+                say_one(rt, held, duration);
             } else {
-                streams::finish(say_spans(held));
+                streams::finish(say_spans(rt, held));
             }
         }
     }
 }
 
-fn main() {
-    let words = arguments::count();
+fn main(rt: HostRuntime) {
+    let words = arguments::count(&rt);
     if words == 1 {
-        plan_spans(false, 0);
+        plan_spans(rt, false, 0);
         return;
     }
     if words == 2 {
-        if let Parsed::Number(duration) = arguments::number(1) {
-            plan_spans(true, duration);
+        if let Parsed::Number(duration) = arguments::number(&rt, 1) {
+            plan_spans(rt, true, duration);
             return;
         }
     }
-    say(streams::standard_error(), b"usage: spans [DURATION]\n");
+    say(streams::standard_error(rt), b"usage: spans [DURATION]\n");
 }

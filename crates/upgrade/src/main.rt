@@ -2,21 +2,20 @@
 #![tactic(auto)]
 
 use console::say_converted;
-use libc::STDIN_FILENO;
 use streams::{Input, say};
 
-fn convert(plan: &[u8]) {
+fn convert(rt: HostRuntime, plan: &[u8]) {
     let mut buffer = [0u8; loading::MAX_BYTES];
     let answer = planner::upgrade(plan, &mut buffer);
-    say_converted(answer, &buffer);
+    say_converted(rt, answer, &buffer);
 }
 
-fn main() {
+fn main(rt: HostRuntime) {
     let mut input = [0u8; console::ROOM];
-    match streams::read_input(STDIN_FILENO, &mut input) {
+    match streams::read_input(&mut rt.stdin(), &mut input) {
         Input::Failed => {
-            say(streams::standard_error(), b"cannot read the plan\n");
+            say(streams::standard_error(rt), b"cannot read the plan\n");
         }
-        Input::Bytes(n) => convert(&input[..n]),
+        Input::Bytes(n) => convert(rt, &input[..n]),
     }
 }
