@@ -1,0 +1,11 @@
+-- `product` is safe: two numbers of 32 bits have a product of 64.
+use Rattle.std.proofs.Common.{ℕ, ◌*◌, ◌≤◌, mul-le-mul, arith}
+use Rattle.ask.proofs.bits.product.Goals as goal
+
+most : (a b : ℕ) → a ≤ 4294967295 → b ≤ 4294967295 → a * b ≤ 18446744065119617025
+most a b k l = omega (arith, mul-le-mul k l)
+
+pub overflow_mul-result : goal.overflow_mul-result
+overflow_mul-result c =
+    let a = c.args in
+    record { fits = omega (arith, most a.a a.b (omega arith) (omega arith)) }
