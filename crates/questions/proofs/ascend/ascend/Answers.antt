@@ -64,14 +64,14 @@ pub loop-q-smaller : goal.loop-q-smaller
 loop-q-smaller c =
     let v = c.ports.invariant in
     let left : Left (plan_by c.args.guard c.args.top (clock_of c.args.clock) c.args.rates.now c.args.blockings.now c.args.extras.now c.args.periods.now c.args.counts.now c.args.lengths.now c.args.jitters.now c.args.hops.now c.args.routes.now) c.loop-q.t c.ports.q =
-      elim c.ports-test.branch [
-        else-ports-test w ↦ passed_all v.0 w.ports-test.false
+    elim c.ports-test.branch [
+      | else-ports-test w ↦ passed_all v.0 w.ports-test.false
       | then-ports-test+then-port_fails w ↦ passed_until v.0 w.ports-test.true (sym (port_tested v.0 w.ports-test.true v.1 w.port_fails.ensures) ∙ w.if-port_fails.true)
-      ] in
+    ] in
     let s = c.loop-q.invariant.1 in
     -- the port that needs most fails
     let worst : fails (plan_by c.args.guard c.args.top (clock_of c.args.clock) c.args.rates.now c.args.blockings.now c.args.extras.now c.args.periods.now c.args.counts.now c.args.lengths.now c.args.jitters.now c.args.hops.now c.args.routes.now) c.loop-q.t c.neediest-most.result ≡ true =
-      neediest_fails v.0.filled (left_more v.0 left c.if-q-ge-PORTS.false) c.neediest-most.ensures.0 c.neediest-most.ensures.1 in
+    neediest_fails v.0.filled (left_more v.0 left c.if-q-ge-PORTS.false) c.neediest-most.ensures.0 c.neediest-most.ensures.1 in
     omega (arith, s.within, reached_further s c.raise_port-reached.ensures worst)
 
 pub loop-q-preserved : goal.loop-q-preserved
@@ -82,10 +82,10 @@ pub returns : goal.returns
 returns c =
     let v = c.ports.invariant in
     let left : Left (plan_by c.args.guard c.args.top (clock_of c.args.clock) c.args.rates.now c.args.blockings.now c.args.extras.now c.args.periods.now c.args.counts.now c.args.lengths.now c.args.jitters.now c.args.hops.now c.args.routes.now) c.loop-q.t c.ports.q =
-      elim c.ports-test.branch [
-        else-ports-test w ↦ passed_all v.0 w.ports-test.false
+    elim c.ports-test.branch [
+      | else-ports-test w ↦ passed_all v.0 w.ports-test.false
       | then-ports-test+then-port_fails w ↦ passed_until v.0 w.ports-test.true (sym (port_tested v.0 w.ports-test.true v.1 w.port_fails.ensures) ∙ w.if-port_fails.true)
-      ] in
+    ] in
     record {
       is = reached_least c.loop-q.invariant.1 (left_none v.0 left c.if-q-ge-PORTS.true);
       demands = λ _. v.0.filled.demands;

@@ -48,9 +48,9 @@ add_route-requires c =
       hops_bound = (omega (arith, r.hops_most), c.loop-f.invariant.1);
       hops_value = (r.ports, r.once);
       by_index = λ q h.
-        let few : c.flow_frames-frames.result * bits_of (length_of p f) (extra_of p q) ≤ most_bits =
-        rw (framed p T f is c.flow_frames-frames.ensures) (flow_most p c.requires.flows_in_range.0.slot c.requires.flows_in_range.1 T fits f c.loop-f-test.true there q h) in
-        omega (arith, few, c.loop-f.invariant.2 q h, sum_most p c.requires.flows_in_range.0.slot c.requires.flows_in_range.1 T fits q f h c.loop-f.invariant.0);
+          let few : c.flow_frames-frames.result * bits_of (length_of p f) (extra_of p q) ≤ most_bits =
+          rw (framed p T f is c.flow_frames-frames.ensures) (flow_most p c.requires.flows_in_range.0.slot c.requires.flows_in_range.1 T fits f c.loop-f-test.true there q h) in
+          omega (arith, few, c.loop-f.invariant.2 q h, sum_most p c.requires.flows_in_range.0.slot c.requires.flows_in_range.1 T fits q f h c.loop-f.invariant.0);
     }
 
 pub loop-f-preserved : goal.loop-f-preserved
@@ -62,12 +62,12 @@ loop-f-preserved c =
     let sums = c.loop-f.invariant.2 in
     let is : T ≡ widened p T = sym (aligned-widened p T) in
     elim c.if-period-ne0.branch [
-      then-period-ne0 w ↦ (
+      | then-period-ne0 w ↦ (
         omega arith,
         rw w.out-is (w.add_route.auto.out ∙ c.loop-f.invariant.1),
         rw w.out-is (sums_add p T f w.flow_frames-frames.result out w.add_route.new.out (framed p T f is w.flow_frames-frames.ensures) w.add_route.ensures sums),
       )
-    | else-period-ne0 w ↦ (
+      | else-period-ne0 w ↦ (
         omega arith,
         rw w.out-is c.loop-f.invariant.1,
         rw w.out-is (sums_skip p T f out ((c.requires.flows_in_range.0.slot f c.loop-f-test.true).absent w.if-period-ne0.false) sums),

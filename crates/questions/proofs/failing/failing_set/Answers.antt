@@ -17,8 +17,8 @@ port_fails-requires c = (c.requires.1, c.requires.2 c.loop-q.q c.loop-q-test.tru
 pub loop-q-preserved : goal.loop-q-preserved
 loop-q-preserved c =
     elim c.if-port_fails.branch [
-      then-port_fails w ↦ (omega arith, w.set-is ∙ set_or c.loop-q.q _ c.loop-q-test.true c.loop-q.invariant.1 (sym c.port_fails.ensures ∙ w.if-port_fails.true))
-    | else-port_fails w ↦ (omega arith, w.set-is ∙ set_skip c.loop-q.q _ c.loop-q.invariant.1 (sym c.port_fails.ensures ∙ w.if-port_fails.false))
+      | then-port_fails w ↦ (omega arith, w.set-is ∙ set_or c.loop-q.q _ c.loop-q-test.true c.loop-q.invariant.1 (sym c.port_fails.ensures ∙ w.if-port_fails.true))
+      | else-port_fails w ↦ (omega arith, w.set-is ∙ set_skip c.loop-q.q _ c.loop-q.invariant.1 (sym c.port_fails.ensures ∙ w.if-port_fails.false))
     ]
 
 pub returns : goal.returns

@@ -21,8 +21,8 @@ route_holds-requires c = (omega (arith, c.requires.2 (c.args.base + c.loop-i.i) 
 pub loop-i-preserved : goal.loop-i-preserved
 loop-i-preserved c =
     elim c.if-route_holds.branch [
-      then-route_holds w ↦ (omega arith, w.set-is ∙ set_or c.loop-i.i _ c.loop-i-test.true c.loop-i.invariant.1 (sym c.route_holds.ensures ∙ w.if-route_holds.true))
-    | else-route_holds w ↦ (omega arith, w.set-is ∙ set_skip c.loop-i.i _ c.loop-i.invariant.1 (sym c.route_holds.ensures ∙ w.if-route_holds.false))
+      | then-route_holds w ↦ (omega arith, w.set-is ∙ set_or c.loop-i.i _ c.loop-i-test.true c.loop-i.invariant.1 (sym c.route_holds.ensures ∙ w.if-route_holds.true))
+      | else-route_holds w ↦ (omega arith, w.set-is ∙ set_skip c.loop-i.i _ c.loop-i.invariant.1 (sym c.route_holds.ensures ∙ w.if-route_holds.false))
     ]
 
 pub returns : goal.returns

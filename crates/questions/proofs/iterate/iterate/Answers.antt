@@ -54,13 +54,12 @@ pub loop-used-preserved : goal.loop-used-preserved
 loop-used-preserved c =
     let v = c.ports.invariant in
     let left : Left (plan_by c.args.guard c.args.top (clock_of c.args.clock) c.args.rates.now c.args.blockings.now c.args.extras.now c.args.periods.now c.args.counts.now c.args.lengths.now c.args.jitters.now c.args.hops.now c.args.routes.now) c.loop-used.t c.ports.q =
-      elim c.ports-test.branch [
-        else-ports-test w ↦ passed_all v.0 w.ports-test.false
+    elim c.ports-test.branch [
+      | else-ports-test w ↦ passed_all v.0 w.ports-test.false
       | then-ports-test+then-port_fails w ↦ passed_until v.0 w.ports-test.true (sym (port_tested v.0 w.ports-test.true v.1 w.port_fails.ensures) ∙ w.if-port_fails.true)
-      ] in
+    ] in
     let next : c.largest_need-next.result ≡ largest_need (plan_by c.args.guard c.args.top (clock_of c.args.clock) c.args.rates.now c.args.blockings.now c.args.extras.now c.args.periods.now c.args.counts.now c.args.lengths.now c.args.jitters.now c.args.hops.now c.args.routes.now) c.loop-used.t = filled-largest v.0.filled c.largest_need-next.ensures in
-    let more : c.loop-used.t < largest_need (plan_by c.args.guard c.args.top (clock_of c.args.clock) c.args.rates.now c.args.blockings.now c.args.extras.now c.args.periods.now c.args.counts.now c.args.lengths.now c.args.jitters.now c.args.hops.now c.args.routes.now) c.loop-used.t = left_more v.0 left c.if-q-ge-PORTS.false in
-    (
+    let more : c.loop-used.t < largest_need (plan_by c.args.guard c.args.top (clock_of c.args.clock) c.args.rates.now c.args.blockings.now c.args.extras.now c.args.periods.now c.args.counts.now c.args.lengths.now c.args.jitters.now c.args.hops.now c.args.routes.now) c.loop-used.t = left_more v.0 left c.if-q-ge-PORTS.false in (
       filled_length v.0.filled,
       subst (Stepped (plan_by c.args.guard c.args.top (clock_of c.args.clock) c.args.rates.now c.args.blockings.now c.args.extras.now c.args.periods.now c.args.counts.now c.args.lengths.now c.args.jitters.now c.args.hops.now c.args.routes.now) _ _ _) (sym next)
           (step_rises c.loop-used.invariant.1 c.if-steps-used.false more (omega (arith, next, c.if-limit-next.false))),
@@ -71,88 +70,88 @@ pub returns-then-state-eq-FOUND : goal.returns-then-state-eq-FOUND
 returns-then-state-eq-FOUND c =
     let s = c.loop-used.invariant in
     let ended : Halted (plan_by c.args.guard c.args.top (clock_of c.args.clock) c.args.rates.now c.args.blockings.now c.args.extras.now c.args.periods.now c.args.counts.now c.args.lengths.now c.args.jitters.now c.args.hops.now c.args.routes.now) c.args.start c.args.steps c.if-steps-used.state c.if-steps-used.used c.if-steps-used.duration c.if-steps-used.out =
-      elim c.if-steps-used.branch [
-        then-steps-used w ↦ halted_same (stopped s.0 s.2 (steps_end s.1 w.if-steps-used.true)) w.state-is w.used-is w.duration-is w.out-is
+    elim c.if-steps-used.branch [
+      | then-steps-used w ↦ halted_same (stopped s.0 s.2 (steps_end s.1 w.if-steps-used.true)) w.state-is w.used-is w.duration-is w.out-is
       | else-steps-used+then-q-ge-PORTS w ↦
-        let v = w.ports.invariant in
-        let left : Left (plan_by c.args.guard c.args.top (clock_of c.args.clock) c.args.rates.now c.args.blockings.now c.args.extras.now c.args.periods.now c.args.counts.now c.args.lengths.now c.args.jitters.now c.args.hops.now c.args.routes.now) c.loop-used.t w.ports.q =
-        elim w.ports-test.branch [
-          else-ports-test u ↦ passed_all v.0 u.ports-test.false
-        | then-ports-test+then-port_fails u ↦ passed_until v.0 u.ports-test.true (sym (port_tested v.0 u.ports-test.true v.1 u.port_fails.ensures) ∙ u.if-port_fails.true)
-        ] in
-        halted_same
-        (settled (filled_length v.0.filled) refl (step_settles s.1 w.if-steps-used.false (left_settles v.0 left w.if-q-ge-PORTS.true)) v.0.filled.demands)
-        w.state-is w.used-is w.duration-is w.out-is
+          let v = w.ports.invariant in
+          let left : Left (plan_by c.args.guard c.args.top (clock_of c.args.clock) c.args.rates.now c.args.blockings.now c.args.extras.now c.args.periods.now c.args.counts.now c.args.lengths.now c.args.jitters.now c.args.hops.now c.args.routes.now) c.loop-used.t w.ports.q =
+          elim w.ports-test.branch [
+            | else-ports-test u ↦ passed_all v.0 u.ports-test.false
+            | then-ports-test+then-port_fails u ↦ passed_until v.0 u.ports-test.true (sym (port_tested v.0 u.ports-test.true v.1 u.port_fails.ensures) ∙ u.if-port_fails.true)
+          ] in
+          halted_same
+          (settled (filled_length v.0.filled) refl (step_settles s.1 w.if-steps-used.false (left_settles v.0 left w.if-q-ge-PORTS.true)) v.0.filled.demands)
+          w.state-is w.used-is w.duration-is w.out-is
       | else-steps-used+else-q-ge-PORTS+then-limit-next w ↦
-        let v = w.ports.invariant in
-        let left : Left (plan_by c.args.guard c.args.top (clock_of c.args.clock) c.args.rates.now c.args.blockings.now c.args.extras.now c.args.periods.now c.args.counts.now c.args.lengths.now c.args.jitters.now c.args.hops.now c.args.routes.now) c.loop-used.t w.ports.q =
-        elim w.ports-test.branch [
-          else-ports-test u ↦ passed_all v.0 u.ports-test.false
-        | then-ports-test+then-port_fails u ↦ passed_until v.0 u.ports-test.true (sym (port_tested v.0 u.ports-test.true v.1 u.port_fails.ensures) ∙ u.if-port_fails.true)
-        ] in
-        let next : w.largest_need-next.result ≡ largest_need (plan_by c.args.guard c.args.top (clock_of c.args.clock) c.args.rates.now c.args.blockings.now c.args.extras.now c.args.periods.now c.args.counts.now c.args.lengths.now c.args.jitters.now c.args.hops.now c.args.routes.now) c.loop-used.t = filled-largest v.0.filled w.largest_need-next.ensures in
-        halted_same
-        (exceeded (filled_length v.0.filled) refl (step_exceeds s.1 w.if-steps-used.false (left_more v.0 left w.if-q-ge-PORTS.false) (omega (arith, next, w.if-limit-next.true))))
-        w.state-is w.used-is w.duration-is w.out-is
-      ] in
+          let v = w.ports.invariant in
+          let left : Left (plan_by c.args.guard c.args.top (clock_of c.args.clock) c.args.rates.now c.args.blockings.now c.args.extras.now c.args.periods.now c.args.counts.now c.args.lengths.now c.args.jitters.now c.args.hops.now c.args.routes.now) c.loop-used.t w.ports.q =
+          elim w.ports-test.branch [
+            | else-ports-test u ↦ passed_all v.0 u.ports-test.false
+            | then-ports-test+then-port_fails u ↦ passed_until v.0 u.ports-test.true (sym (port_tested v.0 u.ports-test.true v.1 u.port_fails.ensures) ∙ u.if-port_fails.true)
+          ] in
+          let next : w.largest_need-next.result ≡ largest_need (plan_by c.args.guard c.args.top (clock_of c.args.clock) c.args.rates.now c.args.blockings.now c.args.extras.now c.args.periods.now c.args.counts.now c.args.lengths.now c.args.jitters.now c.args.hops.now c.args.routes.now) c.loop-used.t = filled-largest v.0.filled w.largest_need-next.ensures in
+          halted_same
+          (exceeded (filled_length v.0.filled) refl (step_exceeds s.1 w.if-steps-used.false (left_more v.0 left w.if-q-ge-PORTS.false) (omega (arith, next, w.if-limit-next.true))))
+          w.state-is w.used-is w.duration-is w.out-is
+    ] in
     halted_found ended c.if-state-eq-FOUND.true
 
 pub returns-then-state-eq-NONE : goal.returns-then-state-eq-NONE
 returns-then-state-eq-NONE c =
     let s = c.loop-used.invariant in
     let ended : Halted (plan_by c.args.guard c.args.top (clock_of c.args.clock) c.args.rates.now c.args.blockings.now c.args.extras.now c.args.periods.now c.args.counts.now c.args.lengths.now c.args.jitters.now c.args.hops.now c.args.routes.now) c.args.start c.args.steps c.if-steps-used.state c.if-steps-used.used c.if-steps-used.duration c.if-steps-used.out =
-      elim c.if-steps-used.branch [
-        then-steps-used w ↦ halted_same (stopped s.0 s.2 (steps_end s.1 w.if-steps-used.true)) w.state-is w.used-is w.duration-is w.out-is
+    elim c.if-steps-used.branch [
+      | then-steps-used w ↦ halted_same (stopped s.0 s.2 (steps_end s.1 w.if-steps-used.true)) w.state-is w.used-is w.duration-is w.out-is
       | else-steps-used+then-q-ge-PORTS w ↦
-        let v = w.ports.invariant in
-        let left : Left (plan_by c.args.guard c.args.top (clock_of c.args.clock) c.args.rates.now c.args.blockings.now c.args.extras.now c.args.periods.now c.args.counts.now c.args.lengths.now c.args.jitters.now c.args.hops.now c.args.routes.now) c.loop-used.t w.ports.q =
-        elim w.ports-test.branch [
-          else-ports-test u ↦ passed_all v.0 u.ports-test.false
-        | then-ports-test+then-port_fails u ↦ passed_until v.0 u.ports-test.true (sym (port_tested v.0 u.ports-test.true v.1 u.port_fails.ensures) ∙ u.if-port_fails.true)
-        ] in
-        halted_same
-        (settled (filled_length v.0.filled) refl (step_settles s.1 w.if-steps-used.false (left_settles v.0 left w.if-q-ge-PORTS.true)) v.0.filled.demands)
-        w.state-is w.used-is w.duration-is w.out-is
+          let v = w.ports.invariant in
+          let left : Left (plan_by c.args.guard c.args.top (clock_of c.args.clock) c.args.rates.now c.args.blockings.now c.args.extras.now c.args.periods.now c.args.counts.now c.args.lengths.now c.args.jitters.now c.args.hops.now c.args.routes.now) c.loop-used.t w.ports.q =
+          elim w.ports-test.branch [
+            | else-ports-test u ↦ passed_all v.0 u.ports-test.false
+            | then-ports-test+then-port_fails u ↦ passed_until v.0 u.ports-test.true (sym (port_tested v.0 u.ports-test.true v.1 u.port_fails.ensures) ∙ u.if-port_fails.true)
+          ] in
+          halted_same
+          (settled (filled_length v.0.filled) refl (step_settles s.1 w.if-steps-used.false (left_settles v.0 left w.if-q-ge-PORTS.true)) v.0.filled.demands)
+          w.state-is w.used-is w.duration-is w.out-is
       | else-steps-used+else-q-ge-PORTS+then-limit-next w ↦
-        let v = w.ports.invariant in
-        let left : Left (plan_by c.args.guard c.args.top (clock_of c.args.clock) c.args.rates.now c.args.blockings.now c.args.extras.now c.args.periods.now c.args.counts.now c.args.lengths.now c.args.jitters.now c.args.hops.now c.args.routes.now) c.loop-used.t w.ports.q =
-        elim w.ports-test.branch [
-          else-ports-test u ↦ passed_all v.0 u.ports-test.false
-        | then-ports-test+then-port_fails u ↦ passed_until v.0 u.ports-test.true (sym (port_tested v.0 u.ports-test.true v.1 u.port_fails.ensures) ∙ u.if-port_fails.true)
-        ] in
-        let next : w.largest_need-next.result ≡ largest_need (plan_by c.args.guard c.args.top (clock_of c.args.clock) c.args.rates.now c.args.blockings.now c.args.extras.now c.args.periods.now c.args.counts.now c.args.lengths.now c.args.jitters.now c.args.hops.now c.args.routes.now) c.loop-used.t = filled-largest v.0.filled w.largest_need-next.ensures in
-        halted_same
-        (exceeded (filled_length v.0.filled) refl (step_exceeds s.1 w.if-steps-used.false (left_more v.0 left w.if-q-ge-PORTS.false) (omega (arith, next, w.if-limit-next.true))))
-        w.state-is w.used-is w.duration-is w.out-is
-      ] in
+          let v = w.ports.invariant in
+          let left : Left (plan_by c.args.guard c.args.top (clock_of c.args.clock) c.args.rates.now c.args.blockings.now c.args.extras.now c.args.periods.now c.args.counts.now c.args.lengths.now c.args.jitters.now c.args.hops.now c.args.routes.now) c.loop-used.t w.ports.q =
+          elim w.ports-test.branch [
+            | else-ports-test u ↦ passed_all v.0 u.ports-test.false
+            | then-ports-test+then-port_fails u ↦ passed_until v.0 u.ports-test.true (sym (port_tested v.0 u.ports-test.true v.1 u.port_fails.ensures) ∙ u.if-port_fails.true)
+          ] in
+          let next : w.largest_need-next.result ≡ largest_need (plan_by c.args.guard c.args.top (clock_of c.args.clock) c.args.rates.now c.args.blockings.now c.args.extras.now c.args.periods.now c.args.counts.now c.args.lengths.now c.args.jitters.now c.args.hops.now c.args.routes.now) c.loop-used.t = filled-largest v.0.filled w.largest_need-next.ensures in
+          halted_same
+          (exceeded (filled_length v.0.filled) refl (step_exceeds s.1 w.if-steps-used.false (left_more v.0 left w.if-q-ge-PORTS.false) (omega (arith, next, w.if-limit-next.true))))
+          w.state-is w.used-is w.duration-is w.out-is
+    ] in
     halted_none ended c.if-state-eq-NONE.true
 
 pub returns : goal.returns
 returns c =
     let s = c.loop-used.invariant in
     let ended : Halted (plan_by c.args.guard c.args.top (clock_of c.args.clock) c.args.rates.now c.args.blockings.now c.args.extras.now c.args.periods.now c.args.counts.now c.args.lengths.now c.args.jitters.now c.args.hops.now c.args.routes.now) c.args.start c.args.steps c.if-steps-used.state c.if-steps-used.used c.if-steps-used.duration c.if-steps-used.out =
-      elim c.if-steps-used.branch [
-        then-steps-used w ↦ halted_same (stopped s.0 s.2 (steps_end s.1 w.if-steps-used.true)) w.state-is w.used-is w.duration-is w.out-is
+    elim c.if-steps-used.branch [
+      | then-steps-used w ↦ halted_same (stopped s.0 s.2 (steps_end s.1 w.if-steps-used.true)) w.state-is w.used-is w.duration-is w.out-is
       | else-steps-used+then-q-ge-PORTS w ↦
-        let v = w.ports.invariant in
-        let left : Left (plan_by c.args.guard c.args.top (clock_of c.args.clock) c.args.rates.now c.args.blockings.now c.args.extras.now c.args.periods.now c.args.counts.now c.args.lengths.now c.args.jitters.now c.args.hops.now c.args.routes.now) c.loop-used.t w.ports.q =
-        elim w.ports-test.branch [
-          else-ports-test u ↦ passed_all v.0 u.ports-test.false
-        | then-ports-test+then-port_fails u ↦ passed_until v.0 u.ports-test.true (sym (port_tested v.0 u.ports-test.true v.1 u.port_fails.ensures) ∙ u.if-port_fails.true)
-        ] in
-        halted_same
-        (settled (filled_length v.0.filled) refl (step_settles s.1 w.if-steps-used.false (left_settles v.0 left w.if-q-ge-PORTS.true)) v.0.filled.demands)
-        w.state-is w.used-is w.duration-is w.out-is
+          let v = w.ports.invariant in
+          let left : Left (plan_by c.args.guard c.args.top (clock_of c.args.clock) c.args.rates.now c.args.blockings.now c.args.extras.now c.args.periods.now c.args.counts.now c.args.lengths.now c.args.jitters.now c.args.hops.now c.args.routes.now) c.loop-used.t w.ports.q =
+          elim w.ports-test.branch [
+            | else-ports-test u ↦ passed_all v.0 u.ports-test.false
+            | then-ports-test+then-port_fails u ↦ passed_until v.0 u.ports-test.true (sym (port_tested v.0 u.ports-test.true v.1 u.port_fails.ensures) ∙ u.if-port_fails.true)
+          ] in
+          halted_same
+          (settled (filled_length v.0.filled) refl (step_settles s.1 w.if-steps-used.false (left_settles v.0 left w.if-q-ge-PORTS.true)) v.0.filled.demands)
+          w.state-is w.used-is w.duration-is w.out-is
       | else-steps-used+else-q-ge-PORTS+then-limit-next w ↦
-        let v = w.ports.invariant in
-        let left : Left (plan_by c.args.guard c.args.top (clock_of c.args.clock) c.args.rates.now c.args.blockings.now c.args.extras.now c.args.periods.now c.args.counts.now c.args.lengths.now c.args.jitters.now c.args.hops.now c.args.routes.now) c.loop-used.t w.ports.q =
-        elim w.ports-test.branch [
-          else-ports-test u ↦ passed_all v.0 u.ports-test.false
-        | then-ports-test+then-port_fails u ↦ passed_until v.0 u.ports-test.true (sym (port_tested v.0 u.ports-test.true v.1 u.port_fails.ensures) ∙ u.if-port_fails.true)
-        ] in
-        let next : w.largest_need-next.result ≡ largest_need (plan_by c.args.guard c.args.top (clock_of c.args.clock) c.args.rates.now c.args.blockings.now c.args.extras.now c.args.periods.now c.args.counts.now c.args.lengths.now c.args.jitters.now c.args.hops.now c.args.routes.now) c.loop-used.t = filled-largest v.0.filled w.largest_need-next.ensures in
-        halted_same
-        (exceeded (filled_length v.0.filled) refl (step_exceeds s.1 w.if-steps-used.false (left_more v.0 left w.if-q-ge-PORTS.false) (omega (arith, next, w.if-limit-next.true))))
-        w.state-is w.used-is w.duration-is w.out-is
-      ] in
+          let v = w.ports.invariant in
+          let left : Left (plan_by c.args.guard c.args.top (clock_of c.args.clock) c.args.rates.now c.args.blockings.now c.args.extras.now c.args.periods.now c.args.counts.now c.args.lengths.now c.args.jitters.now c.args.hops.now c.args.routes.now) c.loop-used.t w.ports.q =
+          elim w.ports-test.branch [
+            | else-ports-test u ↦ passed_all v.0 u.ports-test.false
+            | then-ports-test+then-port_fails u ↦ passed_until v.0 u.ports-test.true (sym (port_tested v.0 u.ports-test.true v.1 u.port_fails.ensures) ∙ u.if-port_fails.true)
+          ] in
+          let next : w.largest_need-next.result ≡ largest_need (plan_by c.args.guard c.args.top (clock_of c.args.clock) c.args.rates.now c.args.blockings.now c.args.extras.now c.args.periods.now c.args.counts.now c.args.lengths.now c.args.jitters.now c.args.hops.now c.args.routes.now) c.loop-used.t = filled-largest v.0.filled w.largest_need-next.ensures in
+          halted_same
+          (exceeded (filled_length v.0.filled) refl (step_exceeds s.1 w.if-steps-used.false (left_more v.0 left w.if-q-ge-PORTS.false) (omega (arith, next, w.if-limit-next.true))))
+          w.state-is w.used-is w.duration-is w.out-is
+    ] in
     halted_unfinished ended c.if-state-eq-FOUND.false c.if-state-eq-NONE.false

@@ -35,13 +35,13 @@ port_fails-requires c =
 pub loop-q-preserved : goal.loop-q-preserved
 loop-q-preserved c =
     let tested : c.port_fails.result ≡ fails (plan_by c.args.guard c.args.duration (clock_of c.args.clock) c.args.rates.now c.args.blockings.now c.args.extras.now c.args.periods.now c.args.counts.now c.args.lengths.now c.args.jitters.now c.args.hops.now c.args.routes.now) c.args.duration c.loop-q.q =
-      c.port_fails.ensures
-      ∙ ap₂ (fails_by_of (rate_of (plan_by c.args.guard c.args.duration (clock_of c.args.clock) c.args.rates.now c.args.blockings.now c.args.extras.now c.args.periods.now c.args.counts.now c.args.lengths.now c.args.jitters.now c.args.hops.now c.args.routes.now) c.loop-q.q) (blocking_of (plan_by c.args.guard c.args.duration (clock_of c.args.clock) c.args.rates.now c.args.blockings.now c.args.extras.now c.args.periods.now c.args.counts.now c.args.lengths.now c.args.jitters.now c.args.hops.now c.args.routes.now) c.loop-q.q) (extra_of (plan_by c.args.guard c.args.duration (clock_of c.args.clock) c.args.rates.now c.args.blockings.now c.args.extras.now c.args.periods.now c.args.counts.now c.args.lengths.now c.args.jitters.now c.args.hops.now c.args.routes.now) c.loop-q.q)) c.window-available.ensures (c.port_demand-bits.ensures ∙ demand-columns (plan_by c.args.guard c.args.duration (clock_of c.args.clock) c.args.rates.now c.args.blockings.now c.args.extras.now c.args.periods.now c.args.counts.now c.args.lengths.now c.args.jitters.now c.args.hops.now c.args.routes.now) c.loop-q.q c.args.duration)
-      ∙ sym (fails_by (plan_by c.args.guard c.args.duration (clock_of c.args.clock) c.args.rates.now c.args.blockings.now c.args.extras.now c.args.periods.now c.args.counts.now c.args.lengths.now c.args.jitters.now c.args.hops.now c.args.routes.now) c.requires c.args.duration (top_positive (plan_by c.args.guard c.args.duration (clock_of c.args.clock) c.args.rates.now c.args.blockings.now c.args.extras.now c.args.periods.now c.args.counts.now c.args.lengths.now c.args.jitters.now c.args.hops.now c.args.routes.now) c.requires) c.loop-q.q)
+    c.port_fails.ensures
+    ∙ ap₂ (fails_by_of (rate_of (plan_by c.args.guard c.args.duration (clock_of c.args.clock) c.args.rates.now c.args.blockings.now c.args.extras.now c.args.periods.now c.args.counts.now c.args.lengths.now c.args.jitters.now c.args.hops.now c.args.routes.now) c.loop-q.q) (blocking_of (plan_by c.args.guard c.args.duration (clock_of c.args.clock) c.args.rates.now c.args.blockings.now c.args.extras.now c.args.periods.now c.args.counts.now c.args.lengths.now c.args.jitters.now c.args.hops.now c.args.routes.now) c.loop-q.q) (extra_of (plan_by c.args.guard c.args.duration (clock_of c.args.clock) c.args.rates.now c.args.blockings.now c.args.extras.now c.args.periods.now c.args.counts.now c.args.lengths.now c.args.jitters.now c.args.hops.now c.args.routes.now) c.loop-q.q)) c.window-available.ensures (c.port_demand-bits.ensures ∙ demand-columns (plan_by c.args.guard c.args.duration (clock_of c.args.clock) c.args.rates.now c.args.blockings.now c.args.extras.now c.args.periods.now c.args.counts.now c.args.lengths.now c.args.jitters.now c.args.hops.now c.args.routes.now) c.loop-q.q c.args.duration)
+    ∙ sym (fails_by (plan_by c.args.guard c.args.duration (clock_of c.args.clock) c.args.rates.now c.args.blockings.now c.args.extras.now c.args.periods.now c.args.counts.now c.args.lengths.now c.args.jitters.now c.args.hops.now c.args.routes.now) c.requires c.args.duration (top_positive (plan_by c.args.guard c.args.duration (clock_of c.args.clock) c.args.rates.now c.args.blockings.now c.args.extras.now c.args.periods.now c.args.counts.now c.args.lengths.now c.args.jitters.now c.args.hops.now c.args.routes.now) c.requires) c.loop-q.q)
     in
     elim c.if-port_fails.branch [
-      then-port_fails w ↦ (omega (arith, c.loop-q-test.true), w.set-is ∙ set_or c.loop-q.q _ c.loop-q-test.true c.loop-q.invariant.1 (sym tested ∙ w.if-port_fails.true))
-    | else-port_fails w ↦ (omega (arith, c.loop-q-test.true), w.set-is ∙ set_skip c.loop-q.q _ c.loop-q.invariant.1 (sym tested ∙ w.if-port_fails.false))
+      | then-port_fails w ↦ (omega (arith, c.loop-q-test.true), w.set-is ∙ set_or c.loop-q.q _ c.loop-q-test.true c.loop-q.invariant.1 (sym tested ∙ w.if-port_fails.true))
+      | else-port_fails w ↦ (omega (arith, c.loop-q-test.true), w.set-is ∙ set_skip c.loop-q.q _ c.loop-q.invariant.1 (sym tested ∙ w.if-port_fails.false))
     ]
 
 pub returns : goal.returns

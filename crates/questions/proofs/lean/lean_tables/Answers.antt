@@ -52,9 +52,9 @@ returns-then-found-limit c =
     let some : 1 ≤ length c.args.scratch.now = omega (arith, c.if-size-eq0.false) in
     let slot : c.highest_slot-q.result ≡ highest_crossed (plan_by c.args.guard c.args.top (clock_of c.args.clock) c.args.rates.now c.args.blockings.now c.args.extras.now c.args.periods.now c.args.counts.now c.args.lengths.now c.args.jitters.now c.args.hops.now c.args.routes.now) - 1 = c.highest_slot-q.ensures ∙ ap (λ (n : ℕ). n - 1) (highest_routes (plan_by c.args.guard c.args.top (clock_of c.args.clock) c.args.rates.now c.args.blockings.now c.args.extras.now c.args.periods.now c.args.counts.now c.args.lengths.now c.args.jitters.now c.args.hops.now c.args.routes.now)) in
     let left : c.port_demand.result ≡ demand (plan_by c.args.guard c.args.top (clock_of c.args.clock) c.args.rates.now c.args.blockings.now c.args.extras.now c.args.periods.now c.args.counts.now c.args.lengths.now c.args.jitters.now c.args.hops.now c.args.routes.now) (highest_crossed (plan_by c.args.guard c.args.top (clock_of c.args.clock) c.args.rates.now c.args.blockings.now c.args.extras.now c.args.periods.now c.args.counts.now c.args.lengths.now c.args.jitters.now c.args.hops.now c.args.routes.now) - 1) c.lean_seek-found.result =
-      c.port_demand.ensures
-      ∙ demand-columns (plan_by c.args.guard c.args.top (clock_of c.args.clock) c.args.rates.now c.args.blockings.now c.args.extras.now c.args.periods.now c.args.counts.now c.args.lengths.now c.args.jitters.now c.args.hops.now c.args.routes.now) c.highest_slot-q.result c.smaller-at.result
-      ∙ ap₂ (demand (plan_by c.args.guard c.args.top (clock_of c.args.clock) c.args.rates.now c.args.blockings.now c.args.extras.now c.args.periods.now c.args.counts.now c.args.lengths.now c.args.jitters.now c.args.hops.now c.args.routes.now)) slot (omega (arith, c.smaller-at.ensures, c.if-found-limit.true))
+    c.port_demand.ensures
+    ∙ demand-columns (plan_by c.args.guard c.args.top (clock_of c.args.clock) c.args.rates.now c.args.blockings.now c.args.extras.now c.args.periods.now c.args.counts.now c.args.lengths.now c.args.jitters.now c.args.hops.now c.args.routes.now) c.highest_slot-q.result c.smaller-at.result
+    ∙ ap₂ (demand (plan_by c.args.guard c.args.top (clock_of c.args.clock) c.args.rates.now c.args.blockings.now c.args.extras.now c.args.periods.now c.args.counts.now c.args.lengths.now c.args.jitters.now c.args.hops.now c.args.routes.now)) slot (omega (arith, c.smaller-at.ensures, c.if-found-limit.true))
     in
     lean_within (none_number c.args.goal) (wanted c.args.goal) (plan_by c.args.guard c.args.top (clock_of c.args.clock) c.args.rates.now c.args.blockings.now c.args.extras.now c.args.periods.now c.args.counts.now c.args.lengths.now c.args.jitters.now c.args.hops.now c.args.routes.now) c.args.scratch.now ok some c.lean_seek-found.ensures c.if-found-limit.true left
 
@@ -67,9 +67,9 @@ returns c =
     let some : 1 ≤ length c.args.scratch.now = omega (arith, c.if-size-eq0.false) in
     let slot : c.highest_slot-q.result ≡ highest_crossed (plan_by c.args.guard c.args.top (clock_of c.args.clock) c.args.rates.now c.args.blockings.now c.args.extras.now c.args.periods.now c.args.counts.now c.args.lengths.now c.args.jitters.now c.args.hops.now c.args.routes.now) - 1 = c.highest_slot-q.ensures ∙ ap (λ (n : ℕ). n - 1) (highest_routes (plan_by c.args.guard c.args.top (clock_of c.args.clock) c.args.rates.now c.args.blockings.now c.args.extras.now c.args.periods.now c.args.counts.now c.args.lengths.now c.args.jitters.now c.args.hops.now c.args.routes.now)) in
     let left : c.port_demand.result ≡ demand (plan_by c.args.guard c.args.top (clock_of c.args.clock) c.args.rates.now c.args.blockings.now c.args.extras.now c.args.periods.now c.args.counts.now c.args.lengths.now c.args.jitters.now c.args.hops.now c.args.routes.now) (highest_crossed (plan_by c.args.guard c.args.top (clock_of c.args.clock) c.args.rates.now c.args.blockings.now c.args.extras.now c.args.periods.now c.args.counts.now c.args.lengths.now c.args.jitters.now c.args.hops.now c.args.routes.now) - 1) c.args.top =
-      c.port_demand.ensures
-      ∙ demand-columns (plan_by c.args.guard c.args.top (clock_of c.args.clock) c.args.rates.now c.args.blockings.now c.args.extras.now c.args.periods.now c.args.counts.now c.args.lengths.now c.args.jitters.now c.args.hops.now c.args.routes.now) c.highest_slot-q.result c.smaller-at.result
-      ∙ ap₂ (demand (plan_by c.args.guard c.args.top (clock_of c.args.clock) c.args.rates.now c.args.blockings.now c.args.extras.now c.args.periods.now c.args.counts.now c.args.lengths.now c.args.jitters.now c.args.hops.now c.args.routes.now)) slot (omega (arith, c.smaller-at.ensures, c.if-found-limit.false))
+    c.port_demand.ensures
+    ∙ demand-columns (plan_by c.args.guard c.args.top (clock_of c.args.clock) c.args.rates.now c.args.blockings.now c.args.extras.now c.args.periods.now c.args.counts.now c.args.lengths.now c.args.jitters.now c.args.hops.now c.args.routes.now) c.highest_slot-q.result c.smaller-at.result
+    ∙ ap₂ (demand (plan_by c.args.guard c.args.top (clock_of c.args.clock) c.args.rates.now c.args.blockings.now c.args.extras.now c.args.periods.now c.args.counts.now c.args.lengths.now c.args.jitters.now c.args.hops.now c.args.routes.now)) slot (omega (arith, c.smaller-at.ensures, c.if-found-limit.false))
     in
     let f = c.lean_failing-ports.ensures in
     lean_above (none_number c.args.goal) (wanted c.args.goal) (plan_by c.args.guard c.args.top (clock_of c.args.clock) c.args.rates.now c.args.blockings.now c.args.extras.now c.args.periods.now c.args.counts.now c.args.lengths.now c.args.jitters.now c.args.hops.now c.args.routes.now) c.args.scratch.now ok some c.lean_seek-found.ensures (omega (arith, c.if-found-limit.false)) left f.0 f.1

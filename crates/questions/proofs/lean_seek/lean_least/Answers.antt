@@ -28,28 +28,28 @@ overflow_add-result c = omega (arith, top_most (plan_by c.args.guard c.args.top 
 pub returns-then-limit-reached : goal.returns-then-limit-reached
 returns-then-limit-reached c =
     let left : LeftTurn (plan_by c.args.guard c.args.top (clock_of c.args.clock) c.args.rates.now c.args.blockings.now c.args.extras.now c.args.periods.now c.args.counts.now c.args.lengths.now c.args.jitters.now c.args.hops.now c.args.routes.now) c.loop-reached.t c.ports.passed c.ports-test.q c.ports-test.reached =
-      elim c.ports-test.branch [
-        else-ports-test w ↦ all w.ports-test.false
+    elim c.ports-test.branch [
+      | else-ports-test w ↦ all w.ports-test.false
       | then-ports-test+then-t-reached w ↦ further c.ports.q (omega (arith, w.q-is)) (rw w.reached-is w.raise_port-reached.ensures) (omega (arith, w.reached-is, w.if-t-reached.true))
-      ] in
+    ] in
     left_above c.loop-reached.invariant.0 left (omega (arith, c.if-passed-ge-PORTS.false)) c.if-limit-reached.true
 
 pub loop-reached-smaller : goal.loop-reached-smaller
 loop-reached-smaller c =
     let left : LeftTurn (plan_by c.args.guard c.args.top (clock_of c.args.clock) c.args.rates.now c.args.blockings.now c.args.extras.now c.args.periods.now c.args.counts.now c.args.lengths.now c.args.jitters.now c.args.hops.now c.args.routes.now) c.loop-reached.t c.ports.passed c.ports-test.q c.ports-test.reached =
-      elim c.ports-test.branch [
-        else-ports-test w ↦ all w.ports-test.false
+    elim c.ports-test.branch [
+      | else-ports-test w ↦ all w.ports-test.false
       | then-ports-test+then-t-reached w ↦ further c.ports.q (omega (arith, w.q-is)) (rw w.reached-is w.raise_port-reached.ensures) (omega (arith, w.reached-is, w.if-t-reached.true))
-      ] in
+    ] in
     omega (arith, c.loop-reached.invariant.0.within, left_further left (omega (arith, c.if-passed-ge-PORTS.false)))
 
 pub loop-reached-preserved : goal.loop-reached-preserved
 loop-reached-preserved c =
     let left : LeftTurn (plan_by c.args.guard c.args.top (clock_of c.args.clock) c.args.rates.now c.args.blockings.now c.args.extras.now c.args.periods.now c.args.counts.now c.args.lengths.now c.args.jitters.now c.args.hops.now c.args.routes.now) c.loop-reached.t c.ports.passed c.ports-test.q c.ports-test.reached =
-      elim c.ports-test.branch [
-        else-ports-test w ↦ all w.ports-test.false
+    elim c.ports-test.branch [
+      | else-ports-test w ↦ all w.ports-test.false
       | then-ports-test+then-t-reached w ↦ further c.ports.q (omega (arith, w.q-is)) (rw w.reached-is w.raise_port-reached.ensures) (omega (arith, w.reached-is, w.if-t-reached.true))
-      ] in
+    ] in
     left_next c.loop-reached.invariant.0 left (omega (arith, c.if-passed-ge-PORTS.false)) (omega (arith, c.if-limit-reached.false))
 
 pub returns : goal.returns

@@ -12,8 +12,8 @@ need-needed-requires c = c.requires.by_index c.loop-q.q c.loop-q-test.true
 pub loop-q-preserved : goal.loop-q-preserved
 loop-q-preserved c =
     elim c.if-most-needed.branch [
-      then-most-needed w ↦ rw (w.most-is, w.at-is) (neediest_more c.loop-q.invariant c.loop-q-test.true c.need-needed.ensures w.if-most-needed.true)
-    | else-most-needed w ↦ rw (w.most-is, w.at-is) (neediest_same c.loop-q.invariant c.loop-q-test.true c.need-needed.ensures w.if-most-needed.false)
+      | then-most-needed w ↦ rw (w.most-is, w.at-is) (neediest_more c.loop-q.invariant c.loop-q-test.true c.need-needed.ensures w.if-most-needed.true)
+      | else-most-needed w ↦ rw (w.most-is, w.at-is) (neediest_same c.loop-q.invariant c.loop-q-test.true c.need-needed.ensures w.if-most-needed.false)
     ]
 
 pub returns : goal.returns

@@ -60,8 +60,8 @@ loop-f-preserved c =
     let sum = c.loop-f.invariant.1 in
     let holds = c.route_holds.ensures in
     elim c.if-route_holds.branch [
-      then-route_holds w ↦ (omega arith, w.bits-is ∙ sum_crossing p q T f sum (sym holds ∙ w.if-route_holds.true) is w.flow_bits-bits.ensures)
-    | else-route_holds w ↦ (omega arith, w.bits-is ∙ sum_apart p q T f sum (sym holds ∙ w.if-route_holds.false))
+      | then-route_holds w ↦ (omega arith, w.bits-is ∙ sum_crossing p q T f sum (sym holds ∙ w.if-route_holds.true) is w.flow_bits-bits.ensures)
+      | else-route_holds w ↦ (omega arith, w.bits-is ∙ sum_apart p q T f sum (sym holds ∙ w.if-route_holds.false))
     ]
 
 pub returns : goal.returns

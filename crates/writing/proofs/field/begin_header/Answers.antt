@@ -2,7 +2,6 @@
 use mathlib.Core.Path.{refl, sym, ◌∙◌}
 use mathlib.Core.List.{◌++◌}
 use native.Mathlib.Omega.{arith}
-use borrow.Author.Rules.{rules}
 use Rattle.plan_reading.specs.FieldBytes.{bytes4}
 use Rattle.writing.specs.Fields.{head_bytes, header_numbers}
 use Rattle.writing.specs.laws.Laid.{laid-over, laid_short, lay_next}

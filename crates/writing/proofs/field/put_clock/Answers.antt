@@ -1,7 +1,6 @@
 -- `put_clock` meets its contract: the head, and the numbers behind it.
 use mathlib.Core.Path.{refl, sym, ◌∙◌}
 use native.Mathlib.Omega.{arith}
-use borrow.Author.Rules.{rules}
 use Rattle.numbers.specs.Clock.{clock_of}
 use Rattle.plan.specs.Layout.{Kind, layout, numbers_size}
 use Rattle.plan_reading.specs.Part.{clock}

@@ -2,7 +2,6 @@
 use mathlib.Core.Path.{refl, sym, ◌∙◌}
 use mathlib.Core.List.{◌++◌}
 use native.Mathlib.Omega.{arith}
-use borrow.Author.Rules.{rules}
 use Rattle.numbers.specs.Clock.{clock_of}
 use Rattle.plan_reading.specs.FieldBytes.{bytes4}
 use Rattle.writing.specs.Fields.{clock_numbers}

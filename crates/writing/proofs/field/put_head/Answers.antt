@@ -1,7 +1,6 @@
 -- `put_head` meets its contract: the tag, and the length behind it.
 use mathlib.Core.Path.{refl, sym, ◌∙◌}
 use native.Mathlib.Omega.{arith}
-use borrow.Author.Rules.{rules}
 use Rattle.plan_reading.specs.FieldBytes.{bytes2}
 use Rattle.writing.specs.Laid.{bytes1}
 use Rattle.writing.specs.Fields.{head_bytes}

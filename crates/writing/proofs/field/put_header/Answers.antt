@@ -1,5 +1,4 @@
 -- `put_header` meets its contract: the bytes are those of the field.
-use borrow.Author.Rules.{rules}
 use Rattle.plan_reading.specs.FieldBytes.{value_of, bytes_of}
 use Rattle.writing.proofs.field.put_header.Goals as goal
 

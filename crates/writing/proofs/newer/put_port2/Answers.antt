@@ -2,7 +2,6 @@
 use mathlib.Core.Path.{refl, sym, ◌∙◌}
 use mathlib.Core.List.{◌++◌}
 use native.Mathlib.Omega.{arith}
-use borrow.Author.Rules.{rules}
 use Rattle.plan.specs.Layout.{Kind, layout, numbers_size}
 use Rattle.plan_reading.specs.FieldBytes.{bytes2, value_of, bytes_of}
 use Rattle.writing.specs.Fields.{head_bytes, port_numbers, port2_bytes}

@@ -1,7 +1,6 @@
 -- `put1` meets its contract: one byte is set.
 use mathlib.Core.Path.{sym, ◌∙◌}
 use native.Mathlib.Omega.{arith}
-use borrow.Author.Rules.{rules}
 use lib.Seq.{set_split}
 use Rattle.writing.specs.Laid.{bytes1}
 use Rattle.writing.specs.laws.Laid.{laid-over, laid_short}
