@@ -18,6 +18,3 @@ pub mod LargeEnough
 pub mod Lighter
 pub mod NoWorse
 pub mod Reprice
-pub mod laws
-pub mod results
-pub mod worked

@@ -12,8 +12,8 @@ use Rattle.cqf.specs.Plan.{Plan, crosses, valid_plan}
 use Rattle.cqf.specs.Port.{capacity, workload}
 use Rattle.cqf.specs.Condition.{admissible}
 use Rattle.cqf.specs.Reprice.{with_length, replaced, repriced}
-use Rattle.cqf.specs.laws.Few.{Few, few_length, demand_in, fails_in, failing_in, largest_need_in, slack-few, crossed-few, failing-few, admissible-few, lowest-few}
-use Rattle.cqf.specs.laws.FewSteps.{iterate_by, iterate-few}
+use Rattle.cqf.proofs.laws.Few.{Few, few_length, demand_in, fails_in, failing_in, largest_need_in, slack-few, crossed-few, failing-few, admissible-few, lowest-few}
+use Rattle.cqf.proofs.laws.FewSteps.{iterate_by, iterate-few}
 use Rattle.span_lists.specs.Span.{spans, ending_from}
 use Rattle.answers.specs.Answer.{Answer, result, refusal}
 use Rattle.answers.specs.Refusals.{bad_duration, short_buffer, no_plan_held, not_admissible, not_crossed}

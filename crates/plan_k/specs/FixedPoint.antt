@@ -6,9 +6,9 @@ use Rattle.cqf.specs.Ceil.{ceil_div}
 use Rattle.cqf.specs.Port.{wire_bits}
 use Rattle.cqf.specs.Widened.{widened}
 use Rattle.cqf.specs.Condition.{begun, frames}
-use Rattle.cqf.specs.laws.Few.{demand_in, largest_need_in}
-use Rattle.cqf.specs.laws.FewSteps.{iterate_by}
-use Rattle.cqf.specs.worked.K.{plan_k, few_k}
+use Rattle.cqf.proofs.laws.Few.{demand_in, largest_need_in}
+use Rattle.cqf.proofs.laws.FewSteps.{iterate_by}
+use Rattle.cqf.proofs.worked.K.{plan_k, few_k}
 use Rattle.plan_reading.specs.Reading.{loose}
 use Rattle.answers.specs.Answer.{result, refusal}
 use Rattle.questions.specs.FixedPoint.{fixed_point_answer}

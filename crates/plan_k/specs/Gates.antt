@@ -7,8 +7,8 @@ use Rattle.cqf.specs.Ceil.{ceil_div}
 use Rattle.cqf.specs.Port.{wire_bits, window, capacity, workload}
 use Rattle.cqf.specs.Widened.{widened}
 use Rattle.cqf.specs.Condition.{begun, frames}
-use Rattle.cqf.specs.laws.Few.{demand_in, fails_in, failing_in}
-use Rattle.cqf.specs.worked.K.{plan_k, few_k}
+use Rattle.cqf.proofs.laws.Few.{demand_in, fails_in, failing_in}
+use Rattle.cqf.proofs.worked.K.{plan_k, few_k}
 use Rattle.plan_reading.specs.Reading.{loose}
 use Rattle.gate_lists.specs.GateList.{bit, both_closed, one_open, gate_cycle, gate_list, gate_list_bytes, list_bytes}
 use Rattle.answers.specs.Answer.{Answer, result, refusal}

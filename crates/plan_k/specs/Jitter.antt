@@ -7,12 +7,12 @@ use Rattle.cqf.specs.Ceil.{ceil_div}
 use Rattle.cqf.specs.Port.{wire_bits, window, capacity, workload}
 use Rattle.cqf.specs.Widened.{widened}
 use Rattle.cqf.specs.Condition.{begun, frames}
-use Rattle.cqf.specs.laws.Prefix.{blank_from}
-use Rattle.cqf.specs.laws.Few.{Few, few, few_of, demand_in, fails_in, failing_in}
-use Rattle.cqf.specs.laws.FewValid.{valid_in, valid_few}
-use Rattle.cqf.specs.worked.K.{plan_k}
-use Rattle.cqf.specs.worked.Jitter.{plan_kj}
-use Rattle.cqf.specs.worked.Clock.{plan_kc, few_kc}
+use Rattle.cqf.proofs.laws.Prefix.{blank_from}
+use Rattle.cqf.proofs.laws.Few.{Few, few, few_of, demand_in, fails_in, failing_in}
+use Rattle.cqf.proofs.laws.FewValid.{valid_in, valid_few}
+use Rattle.cqf.proofs.worked.K.{plan_k}
+use Rattle.cqf.proofs.worked.Jitter.{plan_kj}
+use Rattle.cqf.proofs.worked.Clock.{plan_kc, few_kc}
 use Rattle.plan.specs.Bytes.{number2, number4, size_at, whole_at, value_at, numbers2}
 use Rattle.plan.specs.Layout.{form_by}
 use Rattle.plan.specs.Field.{route_ports, route_in, value_in, kind_by, field_in, field_at, repeats}

@@ -7,8 +7,8 @@ use Rattle.cqf.specs.Bounded.{elem, distinct, every}
 use Rattle.cqf.specs.Limits.{port_slots}
 use Rattle.cqf.specs.Plan.{Plan, no_plan, valid_plan}
 use Rattle.cqf.specs.Condition.{least, margin_safe}
-use Rattle.cqf.specs.worked.K.{plan_k}
-use Rattle.cqf.specs.worked.Lighter.{plan_heavy, plan_light, valid_heavy, valid_light, lighter_K, least_heavy, least_light, margin_safe_heavy, margin_safe_light}
+use Rattle.cqf.proofs.worked.K.{plan_k}
+use Rattle.cqf.proofs.worked.Lighter.{plan_heavy, plan_light, valid_heavy, valid_light, lighter_K, least_heavy, least_light, margin_safe_heavy, margin_safe_light}
 use Rattle.plan.specs.Bytes.{number2, number4, size_at, whole_at, value_at, numbers2}
 use Rattle.plan.specs.Layout.{form_by}
 use Rattle.plan.specs.Field.{route_ports, route_in, value_in, kind_by, field_in, field_at, repeats}

@@ -9,8 +9,8 @@ use Rattle.cqf.specs.Port.{wire_bits}
 use Rattle.cqf.specs.Widened.{widened}
 use Rattle.cqf.specs.Condition.{begun, frames}
 use Rattle.cqf.specs.Need.{largest_need, least_from}
-use Rattle.cqf.specs.laws.Few.{demand_in, largest_need_in, largest-few}
-use Rattle.cqf.specs.worked.K.{plan_k, few_k}
+use Rattle.cqf.proofs.laws.Few.{demand_in, largest_need_in, largest-few}
+use Rattle.cqf.proofs.worked.K.{plan_k, few_k}
 use Rattle.span_lists.specs.laws.Pieces.{upward_start, upward_next, upward_ends}
 use Rattle.answers.specs.Answer.{result}
 use Rattle.plan_reading.specs.Reading.{loose}

@@ -9,8 +9,8 @@ use Rattle.cqf.specs.Port.{wire_bits, window, capacity, workload}
 use Rattle.cqf.specs.Widened.{widened}
 use Rattle.cqf.specs.Condition.{begun, frames}
 use Rattle.cqf.specs.Reprice.{with_length, replaced, repriced}
-use Rattle.cqf.specs.laws.Few.{demand_in}
-use Rattle.cqf.specs.worked.K.{plan_k, few_k}
+use Rattle.cqf.proofs.laws.Few.{demand_in}
+use Rattle.cqf.proofs.worked.K.{plan_k, few_k}
 use Rattle.plan_reading.specs.Reading.{loose}
 use Rattle.answers.specs.Answer.{Answer, result, refusal}
 use Rattle.questions.specs.Reprice.{change_answer, reprice_answer, written_over, reprice_leaves}

@@ -2,7 +2,7 @@
 use Rattle.std.specs.Prelude.{◌≡◌, refl}
 use Rattle.cqf.specs.Bounded.{sublist}
 use Rattle.cqf.specs.Plan.{no_plan}
-use Rattle.cqf.specs.worked.K.{plan_k}
+use Rattle.cqf.proofs.worked.K.{plan_k}
 use Rattle.plan_reading.specs.FieldBytes.{bytes2s, value_of, bytes_of, row_bytes}
 use Rattle.plan_reading.specs.Saved.{collect, saved_parts, saved_bytes}
 use Rattle.plan_k.specs.PlanK.{bytes_k}

@@ -3,7 +3,7 @@ use Rattle.std.specs.Prelude.{◌≡◌, refl, List, [], ◌∷◌, map, ℕ, le
 use Rattle.std.proofs.Common.{ap, ◌∙◌}
 use Rattle.cqf.specs.Bounded.{any_to, all_to, elem, distinct, every, sublist}
 use Rattle.cqf.specs.Plan.{Plan, no_plan, valid_plan, valid_port, valid_flow}
-use Rattle.cqf.specs.worked.K.{plan_k}
+use Rattle.cqf.proofs.worked.K.{plan_k}
 use Rattle.span_lists.specs.Span.{Span, spans, ending_from}
 use Rattle.span_lists.specs.worked.Spans.{span, plan_kt, spans_k, spans_k50}
 use Rattle.plan.specs.Bytes.{number2, number4, size_at, whole_at, value_at, numbers2}

@@ -4,7 +4,7 @@ use Rattle.std.proofs.Common.{ap, arith}
 use Rattle.std.proofs.Math.Option.{some}
 use Rattle.cqf.specs.Bounded.{elem, distinct, every}
 use Rattle.cqf.specs.Plan.{no_plan}
-use Rattle.cqf.specs.worked.K.{plan_k}
+use Rattle.cqf.proofs.worked.K.{plan_k}
 use Rattle.plan.specs.Bytes.{number2, number4, size_at, whole_at, value_at, numbers2}
 use Rattle.plan.specs.Layout.{form_by}
 use Rattle.plan.specs.Field.{route_ports, route_in, value_in, kind_by, field_in, field_at, repeats}

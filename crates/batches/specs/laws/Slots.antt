@@ -10,9 +10,9 @@ use Rattle.cqf.specs.Bounded.{within}
 use Rattle.cqf.specs.Plan.{Plan, valid_plan}
 use Rattle.cqf.specs.Need.{least_from}
 use Rattle.cqf.specs.FixedPoint.{steps_from, Outcome, found, none, unfinished, iterate, ended, Converges}
-use Rattle.cqf.specs.laws.Ranges.{top_positive}
-use Rattle.cqf.specs.laws.Ended.{ended-none}
-use Rattle.cqf.specs.laws.Converges.{converges}
+use Rattle.cqf.proofs.laws.Ranges.{top_positive}
+use Rattle.cqf.proofs.laws.Ended.{ended-none}
+use Rattle.cqf.proofs.laws.Converges.{converges}
 use Rattle.answers.specs.Answer.{Answer}
 use Rattle.questions.specs.FixedPoint.{FixedPoint, outcome_answer, fixed_point_answer}
 use Rattle.questions.specs.laws.Answers.{fixed_point_within}

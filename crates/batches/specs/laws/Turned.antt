@@ -9,7 +9,7 @@ use Rattle.cqf.specs.Limits.{max_top}
 use Rattle.cqf.specs.Plan.{Plan, valid_plan}
 use Rattle.cqf.specs.Condition.{failing, lowest_failing}
 use Rattle.cqf.specs.FixedPoint.{Outcome, found, none, unfinished, after_steps, iterate}
-use Rattle.cqf.specs.laws.Ranges.{top_most}
+use Rattle.cqf.proofs.laws.Ranges.{top_most}
 use Rattle.answers.specs.Answer.{Answer, result, refusal, refusal_number}
 use Rattle.questions.specs.FixedPoint.{FixedPoint, outcome_answer, fixed_point_answer}
 use Rattle.batches.specs.Slot.{Slot, pending, answered, turn_steps, slot_by, turned}

@@ -9,7 +9,7 @@ use Rattle.std.proofs.Math.Decide.{dec_lt, dec_le, ℕ_discrete}
 use native.Mathlib.Omega.{arith}
 use borrow.Author.Tests.{lt-ltb, le-ltb}
 use Rattle.cqf.specs.Bounded.{lowest}
-use Rattle.cqf.specs.laws.Bounded.{lowest-passes, lowest_below}
+use Rattle.cqf.proofs.laws.Bounded.{lowest-passes, lowest_below}
 use Rattle.batches.specs.Slot.{is_pending}
 use Rattle.batches.specs.Batch.{Batch, slot_count, slot_at, slot_after, serve_answer, served}
 

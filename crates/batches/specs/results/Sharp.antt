@@ -10,7 +10,7 @@ use Rattle.cqf.specs.Bounded.{lowest}
 use Rattle.cqf.specs.Plan.{Plan, valid_plan}
 use Rattle.cqf.specs.Ceil.{ceil_div}
 use Rattle.cqf.specs.FixedPoint.{steps_from, iterate}
-use Rattle.cqf.specs.laws.Ceil.{ceil_covers, ceil_before, ceil_positive}
+use Rattle.cqf.proofs.laws.Ceil.{ceil_covers, ceil_before, ceil_positive}
 use Rattle.plan_reading.specs.Reading.{accepted, loose, read_as_of}
 use Rattle.plan_reading.specs.results.StrictTheorem.{read_loosely}
 use Rattle.plan_reading.specs.laws.validity.Valid.{accepted_valid}

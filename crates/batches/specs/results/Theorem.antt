@@ -7,7 +7,7 @@ use Rattle.std.proofs.lemmas.Bool.{false≢true}
 use Rattle.std.proofs.Math.Decide.{dec_le}
 use Rattle.cqf.specs.Plan.{Plan, valid_plan}
 use Rattle.cqf.specs.FixedPoint.{steps_from}
-use Rattle.cqf.specs.laws.Ceil.{ceil_covers}
+use Rattle.cqf.proofs.laws.Ceil.{ceil_covers}
 use Rattle.plan_reading.specs.Reading.{PlanRead, accepted, rejected, loose, read_as_of}
 use Rattle.plan_reading.specs.results.StrictTheorem.{read_loosely}
 use Rattle.plan_reading.specs.laws.validity.Valid.{accepted_valid}

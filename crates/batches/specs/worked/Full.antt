@@ -8,9 +8,9 @@ use Rattle.cqf.specs.Port.{wire_bits, window, capacity, workload}
 use Rattle.cqf.specs.Widened.{widened}
 use Rattle.cqf.specs.Condition.{begun, frames, failing, lowest_failing}
 use Rattle.cqf.specs.FixedPoint.{steps_from, none, iterate}
-use Rattle.cqf.specs.laws.Prefix.{blank_from}
-use Rattle.cqf.specs.laws.Few.{Few, few, few_of, demand_in, fails_in, failing_in, largest_need_in, failing-few, lowest-few}
-use Rattle.cqf.specs.laws.FewSteps.{iterate_by, iterate-few}
+use Rattle.cqf.proofs.laws.Prefix.{blank_from}
+use Rattle.cqf.proofs.laws.Few.{Few, few, few_of, demand_in, fails_in, failing_in, largest_need_in, failing-few, lowest-few}
+use Rattle.cqf.proofs.laws.FewSteps.{iterate_by, iterate-few}
 use Rattle.plan.specs.Bytes.{number2, number4, size_at, whole_at, value_at, numbers2}
 use Rattle.plan.specs.Field.{route_ports, route_in, value_in, kind_by, field_in, field_at, repeats}
 use Rattle.plan_reading.specs.Store.{store, store_all}

@@ -3,7 +3,7 @@ use Rattle.std.specs.Prelude.{◌≡◌, refl, Bool, true, false, List, ℕ, ◌
 use Rattle.std.proofs.Common.{sym, ap, ◌∙◌, subst, arith}
 use Rattle.cqf.specs.Form.{Form, older, newer, form_number, form_from, form_fits}
 use Rattle.cqf.specs.Plan.{Plan, no_plan, valid_plan}
-use Rattle.cqf.specs.laws.Ranges.{top_positive}
+use Rattle.cqf.proofs.laws.Ranges.{top_positive}
 use Rattle.plan.specs.Layout.{form_by}
 use Rattle.plan_reading.specs.Reading.{PlanRead, accepted, rejected, loose, read_as_of, max_bytes}
 use Rattle.plan_reading.specs.Saved.{form_bytes}

@@ -8,8 +8,8 @@ use Rattle.std.proofs.Math.Decide.{ℕ_discrete}
 use Rattle.cqf.specs.Form.{Form, older, newer, most_hops_in}
 use Rattle.cqf.specs.Limits.{flow_slots, route_stride}
 use Rattle.cqf.specs.Plan.{Plan, period_of, hops_of, route_of, valid_plan}
-use Rattle.cqf.specs.laws.Lists.{sublist_length}
-use Rattle.cqf.specs.laws.Valid.{Empty, Held, slot_cases}
+use Rattle.cqf.proofs.laws.Lists.{sublist_length}
+use Rattle.cqf.proofs.laws.Valid.{Empty, Held, slot_cases}
 use Rattle.plan.specs.Bytes.{tag_at}
 use Rattle.plan.specs.Layout.{Kind, layout, form_by}
 use Rattle.plan.specs.Field.{Field, field, field_at}

@@ -9,8 +9,8 @@ use Rattle.cqf.specs.Limits.{port_slots}
 use Rattle.cqf.specs.Plan.{Plan, rate_of, blocking_of, extra_of, valid_plan}
 use Rattle.cqf.specs.Port.{ns_per_bit, capacity_of, blocking_bits_of, window_of, window, capacity}
 use Rattle.cqf.specs.Condition.{fails, lowest_failing, admissible}
-use Rattle.cqf.specs.laws.Bounded.{lowest-passes}
-use Rattle.cqf.specs.laws.Condition.{some_fails}
+use Rattle.cqf.proofs.laws.Bounded.{lowest-passes}
+use Rattle.cqf.proofs.laws.Condition.{some_fails}
 use Rattle.answers.specs.Answer.{Answer, result, refusal, refusal_number}
 use Rattle.answers.specs.Refusals.{bad_duration, no_plan_held, not_admissible}
 use Rattle.questions.specs.Outcome.{failing_at, check_answer}

@@ -14,13 +14,13 @@ use Rattle.cqf.specs.Plan.{Plan, period_of, count_of, jitter_of, hops_of, route_
 use Rattle.cqf.specs.Widened.{widened_by, widened}
 use Rattle.cqf.specs.Condition.{frames_by, frames}
 use Rattle.emissions.specs.BadEmission.{hop_on, hop, latest_hop, burst_cycle, burst_frames, burst_instant}
-use Rattle.cqf.specs.laws.Bounded.{lowest_le}
-use Rattle.cqf.specs.laws.Bounds.{max_to-least}
-use Rattle.cqf.specs.laws.Lists.{sublist_length}
-use Rattle.cqf.specs.laws.Valid.{Empty, Held, slot_cases, present_held}
-use Rattle.cqf.specs.laws.Begun.{widened_most}
-use Rattle.cqf.specs.laws.Demand.{frames_by_lem}
-use Rattle.cqf.specs.laws.Ranges.{top_most, drift_most, timing_most}
+use Rattle.cqf.proofs.laws.Bounded.{lowest_le}
+use Rattle.cqf.proofs.laws.Bounds.{max_to-least}
+use Rattle.cqf.proofs.laws.Lists.{sublist_length}
+use Rattle.cqf.proofs.laws.Valid.{Empty, Held, slot_cases, present_held}
+use Rattle.cqf.proofs.laws.Begun.{widened_most}
+use Rattle.cqf.proofs.laws.Demand.{frames_by_lem}
+use Rattle.cqf.proofs.laws.Ranges.{top_most, drift_most, timing_most}
 use Rattle.answers.specs.Answer.{result, refusal}
 use Rattle.answers.specs.Refusals.{bad_duration, no_plan_held, not_crossed, absent_flow}
 use Rattle.emissions.specs.Burst.{routes_only, burst, burst_answer}

@@ -9,9 +9,9 @@ use Rattle.cqf.specs.Bounded.{max_to, lowest, elem, sublist}
 use Rattle.cqf.specs.Limits.{flow_slots}
 use Rattle.cqf.specs.Plan.{Plan, route_of}
 use Rattle.emissions.specs.BadEmission.{hop_on, hop, latest_hop}
-use Rattle.cqf.specs.laws.Bounded.{lowest_le, lowest-passes, lowest_below}
-use Rattle.cqf.specs.laws.Bounds.{max_to-next}
-use Rattle.cqf.specs.laws.Lists.{elem_index, elem_at, sublist_length, sublist-at}
+use Rattle.cqf.proofs.laws.Bounded.{lowest_le, lowest-passes, lowest_below}
+use Rattle.cqf.proofs.laws.Bounds.{max_to-next}
+use Rattle.cqf.proofs.laws.Lists.{elem_index, elem_at, sublist_length, sublist-at}
 use Rattle.emissions.specs.Burst.{late_on}
 use Rattle.emissions.specs.Queued.{queued_port}
 

@@ -13,14 +13,14 @@ use Rattle.cqf.specs.Plan.{Plan, period_of, count_of, jitter_of, hops_of, route_
 use Rattle.cqf.specs.Condition.{begun, frames}
 use Rattle.cqf.specs.Emission.{Keeps}
 use Rattle.cqf.specs.Cycles.{Permitted}
-use Rattle.cqf.specs.laws.Bounded.{cond_some}
-use Rattle.cqf.specs.laws.Bounds.{max_to_most, max_to-least}
-use Rattle.cqf.specs.laws.Lists.{sublist_length}
-use Rattle.cqf.specs.laws.Tabulate.{tabulate_length, tabulate-at}
-use Rattle.cqf.specs.laws.Valid.{crosses_held}
-use Rattle.cqf.specs.laws.Burst.{burst, all_in, burst_length, burst-at}
-use Rattle.cqf.specs.laws.Worst as Worst
-use Rattle.cqf.specs.laws.Worst.{worst, chosen, worst_keeps, chosen_permitted}
+use Rattle.cqf.proofs.laws.Bounded.{cond_some}
+use Rattle.cqf.proofs.laws.Bounds.{max_to_most, max_to-least}
+use Rattle.cqf.proofs.laws.Lists.{sublist_length}
+use Rattle.cqf.proofs.laws.Tabulate.{tabulate_length, tabulate-at}
+use Rattle.cqf.proofs.laws.Valid.{crosses_held}
+use Rattle.cqf.proofs.laws.Burst.{burst, all_in, burst_length, burst-at}
+use Rattle.cqf.proofs.laws.Worst as Worst
+use Rattle.cqf.proofs.laws.Worst.{worst, chosen, worst_keeps, chosen_permitted}
 use Rattle.emissions.specs.BadEmission.{hop, latest_hop, burst_cycle, burst_frames, burst_instant, bad_emission, bad_cycles}
 use Rattle.emissions.specs.laws.Moved.{Later, moved_keeps, moved_permitted}
 

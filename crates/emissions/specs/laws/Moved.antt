@@ -6,7 +6,7 @@ use Rattle.std.proofs.lemmas.List.{length-map}
 use Rattle.cqf.specs.Plan.{Plan, present, count_of, jitter_of}
 use Rattle.cqf.specs.Emission.{Emission, Keeps}
 use Rattle.cqf.specs.Cycles.{Cycles, cycles_of, Partition, Permitted, aligned, parted}
-use Rattle.cqf.specs.laws.Partition.{cycle_of}
+use Rattle.cqf.proofs.laws.Partition.{cycle_of}
 
 -- each number of the later list is d more
 pub record Later (d : ℕ) (l late : ℕ → List ℕ) : Type 0 where

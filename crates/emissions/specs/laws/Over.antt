@@ -13,8 +13,8 @@ use Rattle.cqf.specs.Plan.{Plan, rate_of, blocking_of, extra_of, valid_plan}
 use Rattle.cqf.specs.Port.{window_of, window, fails_by_of}
 use Rattle.cqf.specs.Widened.{widened}
 use Rattle.cqf.specs.Run.{overrun_at}
-use Rattle.cqf.specs.laws.Bounded.{sum_to_le, any_to_true, any_to_some, lowest_le, lowest-passes, lowest_below}
-use Rattle.cqf.specs.laws.Ranges.{top_most}
+use Rattle.cqf.proofs.laws.Bounded.{sum_to_le, any_to_true, any_to_some, lowest_le, lowest-passes, lowest_below}
+use Rattle.cqf.proofs.laws.Ranges.{top_most}
 use Rattle.questions.specs.Failing.{fails_in}
 use Rattle.emissions.specs.BadEmission.{latest_hop, burst_bits, unsent_at, first_unsent}
 use Rattle.emissions.specs.Queued.{queued_flow}

@@ -13,12 +13,12 @@ use Rattle.cqf.specs.Plan.{Plan, route_of, present, crosses, valid_plan}
 use Rattle.cqf.specs.Port.{wire_bits}
 use Rattle.cqf.specs.Widened.{widened, widened_by}
 use Rattle.cqf.specs.Condition.{frames}
-use Rattle.cqf.specs.laws.Bounded.{sum_to_le, cond_some}
-use Rattle.cqf.specs.laws.Bounds.{sum_to_most}
-use Rattle.cqf.specs.laws.Demand.{frames_by_lem, flow_bits_most}
-use Rattle.cqf.specs.laws.Lists.{every-at}
-use Rattle.cqf.specs.laws.Ranges.{extra_most}
-use Rattle.cqf.specs.laws.Valid.{Held, crosses_held, held_present}
+use Rattle.cqf.proofs.laws.Bounded.{sum_to_le, cond_some}
+use Rattle.cqf.proofs.laws.Bounds.{sum_to_most}
+use Rattle.cqf.proofs.laws.Demand.{frames_by_lem, flow_bits_most}
+use Rattle.cqf.proofs.laws.Lists.{every-at}
+use Rattle.cqf.proofs.laws.Ranges.{extra_most}
+use Rattle.cqf.proofs.laws.Valid.{Held, crosses_held, held_present}
 use Rattle.emissions.specs.BadEmission.{hop_on, hop, latest_hop, burst_cycle, burst_frames, burst_at, burst_bits}
 use Rattle.emissions.specs.Queued.{queued_port, flow_bits, queued_flow}
 use Rattle.emissions.specs.laws.Track.{within_list}

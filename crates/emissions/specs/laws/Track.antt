@@ -6,8 +6,8 @@ use Rattle.std.proofs.Math.Bool.{and-eq-true_iff}
 use Rattle.std.proofs.Math.Decide.{dec_lt}
 use Rattle.cqf.specs.Bounded.{sum_to, count_to, lowest}
 use Rattle.cqf.specs.Run.{is_queued_at}
-use Rattle.cqf.specs.laws.Bounded.{sum_to_le, count_to_all, count_to_none, lowest_le, lowest_below}
-use Rattle.cqf.specs.laws.Places.{track, track_queued, queued_track}
+use Rattle.cqf.proofs.laws.Bounded.{sum_to_le, count_to_all, count_to_none, lowest_le, lowest_below}
+use Rattle.cqf.proofs.laws.Places.{track, track_queued, queued_track}
 
 -- tests that say the same
 same_test : (a b : Bool) → (a ≡ true → b ≡ true) → (b ≡ true → a ≡ true) → a ≡ b

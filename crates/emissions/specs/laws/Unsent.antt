@@ -14,13 +14,13 @@ use Rattle.cqf.specs.Plan.{Plan, route_of, crosses, valid_plan}
 use Rattle.cqf.specs.Port.{wire_bits}
 use Rattle.cqf.specs.Condition.{frames, demand, crossed, fails}
 use Rattle.cqf.specs.Run.{Places, source, running, run, is_queued_at, queued_bits, overrun_at, overrun}
-use Rattle.cqf.specs.laws.Bounded.{sum_to_le, any_to_true, any_to_some, cond_some, lowest-passes, lowest_below}
-use Rattle.cqf.specs.laws.Bounds.{max_to-at}
-use Rattle.cqf.specs.laws.Valid.{crosses_held, held_present}
-use Rattle.cqf.specs.laws.Condition.{frames_pos, overrun-at}
-use Rattle.cqf.specs.laws.Need.{fails-crossed}
-use Rattle.cqf.specs.laws.Places.{track, moved, run_goes, run-stops, run-track}
-use Rattle.cqf.specs.laws.Sending.{queued_of}
+use Rattle.cqf.proofs.laws.Bounded.{sum_to_le, any_to_true, any_to_some, cond_some, lowest-passes, lowest_below}
+use Rattle.cqf.proofs.laws.Bounds.{max_to-at}
+use Rattle.cqf.proofs.laws.Valid.{crosses_held, held_present}
+use Rattle.cqf.proofs.laws.Condition.{frames_pos, overrun-at}
+use Rattle.cqf.proofs.laws.Need.{fails-crossed}
+use Rattle.cqf.proofs.laws.Places.{track, moved, run_goes, run-stops, run-track}
+use Rattle.cqf.proofs.laws.Sending.{queued_of}
 use Rattle.emissions.specs.BadEmission.{hop, latest_hop, burst_cycle, burst_frames, bad_cycles, burst_at, burst_bits, unsent_at, first_unsent, unsent_slot}
 use Rattle.emissions.specs.Unsent.{sendable}
 use Rattle.emissions.specs.Meaning.{LeftUnsent}

@@ -9,7 +9,7 @@ use Rattle.cqf.specs.Widened.{widened}
 use Rattle.cqf.specs.Condition.{begun, frames}
 use Rattle.emissions.specs.Unsent.{sendable}
 use Rattle.emissions.specs.BadEmission.{hop, latest_hop, burst_cycle, burst_frames, burst_instant, bad_emission, burst_at, burst_bits}
-use Rattle.cqf.specs.worked.K.{plan_k}
+use Rattle.cqf.proofs.worked.K.{plan_k}
 
 emission_k : map (bad_emission plan_k 120000 0) (0 ∷ 1 ∷ 2 ∷ []) ≡ (0 ∷ 100000 ∷ []) ∷ (0 ∷ 110000 ∷ []) ∷ [] ∷ []
 unfolding plan_k no_plan bad_emission burst_frames burst_instant burst_cycle latest_hop hop max_to lowest tabulate elem sublist frames begun widened ceil_div

@@ -3,7 +3,7 @@ use Rattle.std.specs.Prelude.{ℕ, ◌<◌, ◌≡◌, refl, Bool, true, false, 
 use Rattle.std.proofs.Common.{sym, eqb-true}
 use Rattle.std.proofs.Math.Bool.{and-eq-true_iff}
 use Rattle.cqf.specs.Bounded.{all_to}
-use Rattle.cqf.specs.laws.Bounded.{all_to-at}
+use Rattle.cqf.proofs.laws.Bounded.{all_to-at}
 use Rattle.gate_lists.specs.GateList.{queues, bit, both_closed, one_open}
 use Rattle.gate_lists.specs.Playing.{is_open}
 

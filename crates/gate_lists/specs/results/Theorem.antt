@@ -8,8 +8,8 @@ use Rattle.std.proofs.Math.ListN.{length}
 use Rattle.cqf.specs.Plan.{Plan, valid_plan}
 use Rattle.cqf.specs.Port.{window}
 use Rattle.cqf.specs.Condition.{admissible}
-use Rattle.cqf.specs.laws.Longer.{longer}
-use Rattle.cqf.specs.laws.Ranges.{top_most}
+use Rattle.cqf.proofs.laws.Longer.{longer}
+use Rattle.cqf.proofs.laws.Ranges.{top_most}
 use Rattle.gate_lists.specs.GateList.{Gates, field_size, list_size, queues, list_bytes, both_closed, one_open, lasting, gate_cycle, gate_list, gate_list_bytes}
 use Rattle.gate_lists.specs.Playing.{PlaysTwoCycles, played_at, played, counted, each_lasts, field_ends}
 use Rattle.gate_lists.specs.laws.Played.{plays, totals, counts, each_lasts_lem, field_ends_lem}

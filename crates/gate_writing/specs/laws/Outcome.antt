@@ -2,7 +2,7 @@
 use Rattle.std.specs.Prelude.{ℕ, ◌≡◌, Bool, true, false, List, length}
 use Rattle.std.proofs.Common.{sym, ap, ◌∙◌, arith}
 use Rattle.cqf.specs.Plan.{Plan}
-use Rattle.cqf.specs.laws.Ranges.{top_most}
+use Rattle.cqf.proofs.laws.Ranges.{top_most}
 use Rattle.plan_reading.specs.laws.fields.Within.{within_high}
 use Rattle.gate_lists.specs.GateList.{gate_list_bytes}
 use Rattle.answers.specs.Answer.{Answer, result, refusal}

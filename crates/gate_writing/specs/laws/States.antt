@@ -2,7 +2,7 @@
 use Rattle.std.specs.Prelude.{ℕ, suc, ◌+◌, ◌≤◌, ◌≡◌, refl, Bool, true, false, ◌||◌, leb, eqb}
 use Rattle.std.proofs.Common.{le_antisymm, arith, leb-true, eqb-true}
 use Rattle.cqf.specs.Bounded.{all_to}
-use Rattle.cqf.specs.laws.Bounded.{all_to-at}
+use Rattle.cqf.proofs.laws.Bounded.{all_to-at}
 use Rattle.gate_lists.specs.GateList.{bit, both_closed}
 use Rattle.gate_writing.specs.Gates.{last_queue, queues_ok}
 use Rattle.gate_writing.specs.laws.Gates.{even_below, odd_below, queues-apart}

@@ -7,8 +7,8 @@ use Rattle.std.proofs.Math.ListN.{get_or-eq_default}
 use Rattle.cqf.specs.Bounded.{every, sublist}
 use Rattle.cqf.specs.Limits.{port_slots, port_ok}
 use Rattle.cqf.specs.Plan.{port_in}
-use Rattle.cqf.specs.laws.Bounded.{any_to_some, any_to-none}
-use Rattle.cqf.specs.laws.Route.{sublist_more, every_more, rate_at, port_in_there}
+use Rattle.cqf.proofs.laws.Bounded.{any_to_some, any_to-none}
+use Rattle.cqf.proofs.laws.Route.{sublist_more, every_more, rate_at, port_in_there}
 use Rattle.plan_reading.specs.laws.fields.Within.{within_low, within_high, slot_below}
 use Rattle.plan_reading.specs.laws.stores.Columns.{zeros}
 use Rattle.loading.specs.Loading.{Covers, AtMost, marks_of, lacking}

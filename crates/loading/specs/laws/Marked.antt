@@ -8,7 +8,7 @@ use Rattle.cqf.specs.Bounded.{every}
 use Rattle.cqf.specs.Form.{Form}
 use Rattle.cqf.specs.Limits.{port_slots, flow_slots, port_ok, flow_ok}
 use Rattle.cqf.specs.Plan.{port_in}
-use Rattle.cqf.specs.laws.Route.{port_in_there}
+use Rattle.cqf.proofs.laws.Route.{port_in_there}
 use Rattle.plan.specs.Bytes.{number2, tag_at, value_at}
 use Rattle.plan.specs.Layout.{Kind, layout, hops_allowed}
 use Rattle.plan.specs.Field.{Field, field, field_at, field_by}

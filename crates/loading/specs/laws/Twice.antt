@@ -4,8 +4,8 @@ use Rattle.std.proofs.Common.{sym, ap, ◌∙◌}
 use Rattle.std.proofs.Math.Bool.{and-false}
 use Rattle.cqf.specs.Bounded.{all_to, elem, every, distinct, sublist}
 use Rattle.cqf.specs.Limits.{port_ok}
-use Rattle.cqf.specs.laws.Bounds.{all_to_false}
-use Rattle.cqf.specs.laws.Route.{route_test}
+use Rattle.cqf.proofs.laws.Bounds.{all_to_false}
+use Rattle.cqf.proofs.laws.Route.{route_test}
 
 sublist-behind : (x : ℕ) (l : List ℕ) (at h : ℕ) → sublist (x ∷ l) (suc at) h ≡ sublist l at h
 unfolding sublist

@@ -4,7 +4,7 @@ use Rattle.std.proofs.Common.{sym, ap, ◌∙◌, arith, eqb-true, leb-true, eq-
 use Rattle.std.proofs.Math.Bool.{and-eq-true_iff}
 use mathlib.Mathlib.Data.Bool.Basic.{eq-false_of_not-eq-true}
 use Rattle.cqf.specs.Bounded.{within}
-use Rattle.cqf.specs.laws.Bounded.{cond_some}
+use Rattle.cqf.proofs.laws.Bounded.{cond_some}
 use Rattle.plan.specs.Layout.{Kind, layout, numbers_size, hops_allowed}
 use Rattle.plan.specs.Field.{hops_in, size_ok}
 

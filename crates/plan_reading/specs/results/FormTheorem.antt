@@ -9,7 +9,7 @@ use Rattle.std.proofs.Math.Decide.{dec_lt}
 use Rattle.std.proofs.Math.ListN.{length}
 use Rattle.cqf.specs.Form.{Form, older, newer, form_number, form_fits}
 use Rattle.cqf.specs.Plan.{Plan, clocks_equal, extra_of, jitter_of, valid_plan}
-use Rattle.cqf.specs.laws.Ranges.{top_positive}
+use Rattle.cqf.proofs.laws.Ranges.{top_positive}
 use Rattle.plan.specs.Bytes.{Octets}
 use Rattle.plan.specs.Layout.{form_by}
 use Rattle.plan_reading.specs.Part.{Part, header, port, flow, extra, jitter, clock}

@@ -3,7 +3,7 @@ use Rattle.std.specs.Prelude.{ℕ, zero, suc, ◌≤◌, ◌<◌, ◌≡◌, ref
 use Rattle.std.proofs.Common.{arith, eqb-true}
 use Rattle.cqf.specs.Bounded.{every}
 use Rattle.cqf.specs.Limits.{blocking_ok, length_ok, port_ok, max_length}
-use Rattle.cqf.specs.laws.Bounded.{or_cases}
+use Rattle.cqf.proofs.laws.Bounded.{or_cases}
 use Rattle.plan_reading.specs.laws.fields.Within.{within_high}
 use Rattle.plan_text.specs.Line.{first_failing, port_test}
 

@@ -12,7 +12,7 @@ use Rattle.cqf.specs.Bounded.{every, distinct}
 use Rattle.cqf.specs.Form.{Form, most_hops_in}
 use Rattle.cqf.specs.Limits.{port_slots, flow_slots, port_ok, flow_ok, guard_ok, top_ok}
 use Rattle.cqf.specs.Plan.{Plan, no_plan, rate_of, extra_of, period_of, jitter_of, hops_of, present, port_in}
-use Rattle.cqf.specs.laws.Route.{port_in_there}
+use Rattle.cqf.proofs.laws.Route.{port_in_there}
 use Rattle.plan_reading.specs.Store.{store, store_all}
 use Rattle.plan_reading.specs.Reading.{has_flow}
 use Rattle.plan_reading.specs.Sized.{Sized}

@@ -13,8 +13,8 @@ use Rattle.cqf.specs.Bounded.{every, distinct}
 use Rattle.cqf.specs.Form.{Form, older, newer, form_number, form_fits, most_hops_in}
 use Rattle.cqf.specs.Limits.{port_slots, flow_slots, port_ok, flow_ok, extra_ok, jitter_ok, period_ok, count_ok, length_ok, hops_ok}
 use Rattle.cqf.specs.Plan.{Plan, rate_of, extra_of, period_of, count_of, length_of, jitter_of, hops_of, route_of, present, port_in, valid_port, valid_flow, valid_plan}
-use Rattle.cqf.specs.laws.Bounded.{or_cases, all_to-every, any_to_some}
-use Rattle.cqf.specs.laws.Route.{port_in_there}
+use Rattle.cqf.proofs.laws.Bounded.{or_cases, all_to-every, any_to_some}
+use Rattle.cqf.proofs.laws.Route.{port_in_there}
 use Rattle.plan_reading.specs.Reading.{has_flow}
 use Rattle.plan_reading.specs.laws.reading.Absent.{flow_there}
 use Rattle.plan_reading.specs.laws.validity.Slots.{valid_extra, valid_in, valid_jitter, port_whole, flow_whole}

@@ -1,7 +1,7 @@
 -- Plan K as text.
 use Rattle.std.specs.Prelude.{ℕ, ◌≡◌, refl, List, [], ◌∷◌}
 use Rattle.cqf.specs.Form.{older}
-use Rattle.cqf.specs.worked.K.{plan_k}
+use Rattle.cqf.proofs.worked.K.{plan_k}
 use Rattle.plan_text.specs.Text.{read_text, reads, rejected}
 use Rattle.plan_text.specs.Print.{text_of}
 use Rattle.plan_text.specs.declared.grammar.Fault.{Fault}

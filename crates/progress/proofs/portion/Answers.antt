@@ -2,7 +2,7 @@
 use Rattle.std.proofs.Common.{◌≡◌, ap, sym, ◌∙◌, ℕ, ◌+◌, ◌≤◌, arith}
 use Rattle.cqf.specs.Limits.{max_top}
 use Rattle.cqf.specs.Plan.{Plan}
-use Rattle.cqf.specs.laws.Ranges.{top_most}
+use Rattle.cqf.proofs.laws.Ranges.{top_most}
 use Rattle.answers.specs.Answer.{Answer}
 use Rattle.questions.specs.FixedPoint.{FixedPoint, fixed_point_answer}
 use Rattle.sequences.specs.Iterations.{last_plus, plus_steps}

@@ -5,9 +5,9 @@ use Rattle.std.proofs.Math.Decide.{dec_le}
 use Rattle.cqf.specs.Plan.{Plan, valid_plan}
 use Rattle.cqf.specs.Need.{least_from}
 use Rattle.cqf.specs.FixedPoint.{steps_from, Outcome, found, none, unfinished, iterate, Converges}
-use Rattle.cqf.specs.laws.Ranges.{top_positive}
-use Rattle.cqf.specs.laws.Ended.{ended-found, ended-none, ended_finished}
-use Rattle.cqf.specs.laws.Converges.{converges, steps_top}
+use Rattle.cqf.proofs.laws.Ranges.{top_positive}
+use Rattle.cqf.proofs.laws.Ended.{ended-found, ended-none, ended_finished}
+use Rattle.cqf.proofs.laws.Converges.{converges, steps_top}
 use Rattle.answers.specs.Answer.{result, refusal, refusal_number}
 use Rattle.answers.specs.Refusals.{bad_duration, no_plan_held, no_least, not_finished}
 use Rattle.questions.specs.FixedPoint.{outcome_answer, fixed_point_answer}

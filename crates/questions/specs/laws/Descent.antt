@@ -5,7 +5,7 @@ use Rattle.std.proofs.Math.Decide.{ℕ_discrete}
 use Rattle.cqf.specs.Plan.{Plan}
 use Rattle.cqf.specs.Condition.{margin_safe}
 use Rattle.cqf.specs.Need.{largest_need}
-use Rattle.cqf.specs.laws.Search.{Descended, descent_bottom, descent_stop, descent_next}
+use Rattle.cqf.proofs.laws.Search.{Descended, descent_bottom, descent_stop, descent_next}
 use Rattle.questions.specs.laws.Scratch.{Filled}
 
 -- every duration from below + 1 to top is admissible, and most is the most that a port needs at below, or 1

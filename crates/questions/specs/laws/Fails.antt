@@ -10,8 +10,8 @@ use Rattle.cqf.specs.Limits.{port_slots}
 use Rattle.cqf.specs.Plan.{Plan, rate_of, blocking_of, extra_of, valid_plan}
 use Rattle.cqf.specs.Port.{workload_of, fails_by_of, capacity, workload}
 use Rattle.cqf.specs.Condition.{demand, crossed, slack, fails, failing, lowest_failing}
-use Rattle.cqf.specs.laws.Condition.{demand_pos, demand-crossed}
-use Rattle.cqf.specs.laws.Tabulate.{tabulate-at}
+use Rattle.cqf.proofs.laws.Condition.{demand_pos, demand-crossed}
+use Rattle.cqf.proofs.laws.Tabulate.{tabulate-at}
 use Rattle.questions.specs.Failing.{set_to, fails_in}
 use Rattle.questions.specs.laws.Sets.{set_same, set_lowest, set_ones}
 

@@ -12,8 +12,8 @@ use Rattle.cqf.specs.Port.{wire_bits}
 use Rattle.cqf.specs.Widened.{widened_by, widened}
 use Rattle.cqf.specs.Condition.{frames, demand}
 use Rattle.cqf.specs.Need.{need_by, need}
-use Rattle.cqf.specs.laws.Demand.{frames_by_lem, share, demand_sum, flow_bits_most}
-use Rattle.cqf.specs.laws.Search.{busy_rate}
+use Rattle.cqf.proofs.laws.Demand.{frames_by_lem, share, demand_sum, flow_bits_most}
+use Rattle.cqf.proofs.laws.Search.{busy_rate}
 use Rattle.questions.specs.FlowSet.{word_slots, bit_at, flow_word, Crossing, flow_bits, word_bits, set_bits, WordCountable, SetCountable}
 use Rattle.questions.specs.declared.flow_set.FlowSet.{FlowSet}
 use Rattle.questions.specs.laws.Sums.{slot_in_range, crossing_period}

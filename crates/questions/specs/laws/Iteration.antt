@@ -8,7 +8,7 @@ use Rattle.cqf.specs.Plan.{Plan}
 use Rattle.cqf.specs.Condition.{demand}
 use Rattle.cqf.specs.Need.{largest_need}
 use Rattle.cqf.specs.FixedPoint.{settles, found, none, unfinished, iterate}
-use Rattle.cqf.specs.laws.FixedPoint.{then_settled, then_over, then_rises}
+use Rattle.cqf.proofs.laws.FixedPoint.{then_settled, then_over, then_rises}
 use Rattle.questions.specs.Iterate.{Iterates}
 
 -- what is left of the steps, by their outcome

@@ -8,11 +8,11 @@ use Rattle.cqf.specs.Limits.{port_slots}
 use Rattle.cqf.specs.Plan.{Plan, valid_plan}
 use Rattle.cqf.specs.Condition.{fails, least, margin_safe}
 use Rattle.cqf.specs.PortSteps.{PortSteps, begin, port_margin_safe}
-use Rattle.cqf.specs.laws.Bounds.{max_to_most, max_to-least, max_to-at, max_to-next}
-use Rattle.cqf.specs.laws.Need.{admissible-none}
-use Rattle.cqf.specs.laws.PortSteps.{steps_then, steps_from, steps_least, steps_above}
-use Rattle.cqf.specs.laws.PortMarginSafe.{own_positive, own_le, largest-own}
-use Rattle.cqf.specs.laws.Ranges.{top_positive}
+use Rattle.cqf.proofs.laws.Bounds.{max_to_most, max_to-least, max_to-at, max_to-next}
+use Rattle.cqf.proofs.laws.Need.{admissible-none}
+use Rattle.cqf.proofs.laws.PortSteps.{steps_then, steps_from, steps_least, steps_above}
+use Rattle.cqf.proofs.laws.PortMarginSafe.{own_positive, own_le, largest-own}
+use Rattle.cqf.proofs.laws.Ranges.{top_positive}
 use Rattle.questions.specs.PortSearch.{Raised}
 
 -- up: t was reached by steps of single ports

@@ -13,8 +13,8 @@ use Rattle.cqf.specs.Bounded.{within}
 use Rattle.cqf.specs.Plan.{Plan, valid_plan}
 use Rattle.cqf.specs.Condition.{admissible}
 use Rattle.cqf.specs.Need.{largest_need, least_from}
-use Rattle.cqf.specs.laws.Need.{admissible-none}
-use Rattle.cqf.specs.laws.Search.{largest-none}
+use Rattle.cqf.proofs.laws.Need.{admissible-none}
+use Rattle.cqf.proofs.laws.Search.{largest-none}
 use Rattle.span_lists.specs.laws.Pieces.{need_within, need_in, need_above, need_below, upward_start, upward_next}
 use Rattle.answers.specs.Answer.{Answer, result, refusal}
 use Rattle.answers.specs.Refusals.{bad_duration, no_plan_held}

@@ -7,10 +7,10 @@ use Rattle.cqf.specs.Limits.{port_slots}
 use Rattle.cqf.specs.Plan.{Plan, rate_of, blocking_of, extra_of}
 use Rattle.cqf.specs.Condition.{fails}
 use Rattle.cqf.specs.Need.{need_by, need, largest_need}
-use Rattle.cqf.specs.laws.Search.{need-fails}
+use Rattle.cqf.proofs.laws.Search.{need-fails}
 use Rattle.questions.specs.PortSearch.{need_in}
 use Rattle.questions.specs.laws.Scratch.{Filled, filled_bits, filled-largest}
-use Rattle.cqf.specs.laws.Bounds.{max_to_most, max_to-next}
+use Rattle.cqf.proofs.laws.Bounds.{max_to_most, max_to-next}
 
 -- of the ports below q none needs more than the one in slot at, which needs most
 pub record Neediest (needs : ℕ → ℕ) (q most at : ℕ) : Type 0 where

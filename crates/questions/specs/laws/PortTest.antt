@@ -8,7 +8,7 @@ use Rattle.cqf.specs.Port.{window_of, fails_by_of}
 use Rattle.cqf.specs.Condition.{fails}
 use Rattle.cqf.specs.Need.{largest_need}
 use Rattle.cqf.specs.FixedPoint.{settles}
-use Rattle.cqf.specs.laws.Search.{fails-largest, none-largest}
+use Rattle.cqf.proofs.laws.Search.{fails-largest, none-largest}
 use Rattle.questions.specs.laws.Fails.{fails_by}
 use Rattle.questions.specs.laws.Scratch.{Filled, filled_bits}
 

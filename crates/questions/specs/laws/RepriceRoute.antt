@@ -13,12 +13,12 @@ use Rattle.cqf.specs.Port.{bits_of, workload_of, wire_bits, window, capacity, wo
 use Rattle.cqf.specs.Widened.{widened_by, widened}
 use Rattle.cqf.specs.Condition.{frames_by, frames, demand, slack}
 use Rattle.cqf.specs.Reprice.{with_length, replaced, repriced}
-use Rattle.cqf.specs.laws.Bounded.{sum_to_term}
-use Rattle.cqf.specs.laws.Route.{sublist_more, elem_more}
-use Rattle.cqf.specs.laws.Demand.{share, demand_sum}
-use Rattle.cqf.specs.laws.Replaced.{replaced_more}
-use Rattle.cqf.specs.laws.Reprice.{demand-with}
-use Rattle.cqf.specs.laws.Repriced.{slack_is}
+use Rattle.cqf.proofs.laws.Bounded.{sum_to_term}
+use Rattle.cqf.proofs.laws.Route.{sublist_more, elem_more}
+use Rattle.cqf.proofs.laws.Demand.{share, demand_sum}
+use Rattle.cqf.proofs.laws.Replaced.{replaced_more}
+use Rattle.cqf.proofs.laws.Reprice.{demand-with}
+use Rattle.cqf.proofs.laws.Repriced.{slack_is}
 use Rattle.tables.specs.Columns.{plan_by, columns, ExtrasInRange}
 use Rattle.questions.specs.laws.Sums.{AllInRange, framed, demand_most, demand-columns, elem_here}
 

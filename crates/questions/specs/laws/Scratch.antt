@@ -8,10 +8,10 @@ use Rattle.cqf.specs.Plan.{Plan, rate_of, blocking_of, extra_of, valid_plan}
 use Rattle.cqf.specs.Condition.{demand}
 use Rattle.cqf.specs.Need.{need_by, need, largest_need}
 use Rattle.cqf.specs.Overflow.{most_demand}
-use Rattle.cqf.specs.laws.Bounds.{max_to_same}
-use Rattle.cqf.specs.laws.Tabulate.{tabulate_length, tabulate-at}
-use Rattle.cqf.specs.laws.Ranges.{top_most}
-use Rattle.cqf.specs.laws.Search.{busy_rate}
+use Rattle.cqf.proofs.laws.Bounds.{max_to_same}
+use Rattle.cqf.proofs.laws.Tabulate.{tabulate_length, tabulate-at}
+use Rattle.cqf.proofs.laws.Ranges.{top_most}
+use Rattle.cqf.proofs.laws.Search.{busy_rate}
 use Rattle.tables.specs.Columns.{columns}
 use Rattle.questions.specs.laws.Widened.{demand_fits}
 use Rattle.questions.specs.laws.Sums.{demand-columns}

@@ -11,7 +11,7 @@ use Rattle.cqf.specs.Condition.{admissible}
 use Rattle.cqf.specs.Need.{least_from}
 use Rattle.span_lists.specs.Span.{Span, IsSpan, last_from, spans, ending_from}
 use Rattle.span_lists.specs.results.Theorem.{spans_are}
-use Rattle.cqf.specs.laws.LeastFrom.{least_from_admissible, least_from_above}
+use Rattle.cqf.proofs.laws.LeastFrom.{least_from_admissible, least_from_above}
 use Rattle.span_lists.specs.laws.Runs.{last_run, last_high, last_above, last_from_lem}
 use Rattle.span_lists.specs.laws.Ending.{ending_from_lem}
 use Rattle.answers.specs.Answer.{Answer, result, refusal}

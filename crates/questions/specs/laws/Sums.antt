@@ -12,12 +12,12 @@ use Rattle.cqf.specs.Plan.{Plan, extra_of, period_of, count_of, length_of, jitte
 use Rattle.cqf.specs.Port.{bits_of, wire_bits}
 use Rattle.cqf.specs.Widened.{widened}
 use Rattle.cqf.specs.Condition.{frames_by, begun, frames, demand}
-use Rattle.cqf.specs.laws.Bounds.{sum_to_most}
-use Rattle.cqf.specs.laws.Valid.{Empty, Held, slot_cases}
-use Rattle.cqf.specs.laws.Lists.{elem_at, sublist_length, sublist-at}
-use Rattle.cqf.specs.laws.Route.{sublist_more, elem_more}
-use Rattle.cqf.specs.laws.Tabulate.{tabulate_length, tabulate-at}
-use Rattle.cqf.specs.laws.Demand.{frames_by_lem, share, demand_sum, flow_bits_most, share-none, demand-next}
+use Rattle.cqf.proofs.laws.Bounds.{sum_to_most}
+use Rattle.cqf.proofs.laws.Valid.{Empty, Held, slot_cases}
+use Rattle.cqf.proofs.laws.Lists.{elem_at, sublist_length, sublist-at}
+use Rattle.cqf.proofs.laws.Route.{sublist_more, elem_more}
+use Rattle.cqf.proofs.laws.Tabulate.{tabulate_length, tabulate-at}
+use Rattle.cqf.proofs.laws.Demand.{frames_by_lem, share, demand_sum, flow_bits_most, share-none, demand-next}
 use Rattle.tables.specs.Columns.{columns, FlowInRange, ExtrasInRange, Marked}
 
 -- a stronger test that each number of a list passes

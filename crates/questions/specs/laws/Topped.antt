@@ -11,9 +11,9 @@ use Rattle.cqf.specs.Plan.{Plan, present, clock_ok, valid_port, valid_flow, vali
 use Rattle.cqf.specs.Port.{wire_bits, window, capacity, workload, exceeds}
 use Rattle.cqf.specs.Widened.{widened}
 use Rattle.cqf.specs.Condition.{begun, frames, demand, crossed, fails, failing, lowest_failing}
-use Rattle.cqf.specs.laws.Demand.{demand_sum}
-use Rattle.cqf.specs.laws.Ranges.{top_most}
-use Rattle.cqf.specs.laws.Valid.{valid_by}
+use Rattle.cqf.proofs.laws.Demand.{demand_sum}
+use Rattle.cqf.proofs.laws.Ranges.{top_most}
+use Rattle.cqf.proofs.laws.Valid.{valid_by}
 use Rattle.tables.specs.Columns.{plan_by}
 
 -- the tables with T for their top

@@ -6,9 +6,9 @@ use mathlib.Mathlib.Data.Bool.Basic.{eq-false_of_not-eq-true}
 use Rattle.cqf.specs.Plan.{Plan}
 use Rattle.cqf.specs.Need.{need}
 use Rattle.cqf.specs.PortSteps.{PortSteps, begin, next}
-use Rattle.cqf.specs.laws.PortSteps.{steps_from}
-use Rattle.cqf.specs.laws.PortMarginSafe.{Lowered, lowered_start, lowered_floor, lowered_stops, lowered_next}
-use Rattle.cqf.specs.laws.Search.{fails-need, need-fails}
+use Rattle.cqf.proofs.laws.PortSteps.{steps_from}
+use Rattle.cqf.proofs.laws.PortMarginSafe.{Lowered, lowered_start, lowered_floor, lowered_stops, lowered_next}
+use Rattle.cqf.proofs.laws.Search.{fails-need, need-fails}
 use Rattle.questions.specs.PortSearch.{Walkable, Walked}
 
 -- up: t was reached by steps of the port; down: the port fails at no duration above t

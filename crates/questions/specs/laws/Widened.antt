@@ -11,9 +11,9 @@ use Rattle.cqf.specs.Plan.{Plan, equal_clocks, period_of, count_of, jitter_of, c
 use Rattle.cqf.specs.Port.{wire_bits}
 use Rattle.cqf.specs.Widened.{widened_by, widened}
 use Rattle.cqf.specs.Condition.{frames_by, frames, demand}
-use Rattle.cqf.specs.laws.Begun.{widened-aligned, widened_most}
-use Rattle.cqf.specs.laws.Demand.{frames_by_lem, demand_sum}
-use Rattle.cqf.specs.laws.Ranges.{top_most, drift_most, timing_most, extra_most}
+use Rattle.cqf.proofs.laws.Begun.{widened-aligned, widened_most}
+use Rattle.cqf.proofs.laws.Demand.{frames_by_lem, demand_sum}
+use Rattle.cqf.proofs.laws.Ranges.{top_most, drift_most, timing_most, extra_most}
 use Rattle.tables.specs.Columns.{columns}
 use Rattle.questions.specs.laws.Sums.{slot_in_range, demand_most}
 

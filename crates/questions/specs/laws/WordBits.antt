@@ -11,7 +11,7 @@ use Rattle.cqf.specs.Bounded.{sum_to}
 use Rattle.questions.specs.Failing.{set_to}
 use Rattle.questions.specs.FlowSet.{word_slots, bit_at, word_bits}
 use Rattle.questions.specs.laws.Sets.{shift}
-use Rattle.cqf.specs.laws.Bounds.{sum_to_most}
+use Rattle.cqf.proofs.laws.Bounds.{sum_to_most}
 
 -- a number shifted twice
 shifted : (n i j : ℕ) → n / 2 ^ i / 2 ^ j ≡ n / 2 ^ (i + j)

@@ -5,7 +5,7 @@ use Rattle.std.proofs.Math.Decide.{ℕ_discrete}
 use Rattle.cqf.specs.Bounded.{sum_to}
 use Rattle.cqf.specs.Limits.{flow_slots, max_hops, route_stride}
 use Rattle.cqf.specs.Plan.{Plan, hops_of, route_of}
-use Rattle.cqf.specs.laws.Lists.{sublist_length}
+use Rattle.cqf.proofs.laws.Lists.{sublist_length}
 use Rattle.plan.specs.Bytes.{head_size}
 use Rattle.plan_reading.specs.Strict.{Entry}
 use Rattle.plan_reading.specs.FieldBytes.{value_of, bytes_of, row_bytes}

@@ -4,7 +4,7 @@ use Rattle.std.proofs.Common.{sym, ap, ◌∙◌, add-one, arith, lt-ltb, le-ltb
 use mathlib.Core.List.{List, ◌∷◌, append-nil}
 use Rattle.cqf.specs.Bounded.{sublist}
 use Rattle.cqf.specs.Limits.{max_hops}
-use Rattle.cqf.specs.laws.Lists.{sublist_length}
+use Rattle.cqf.proofs.laws.Lists.{sublist_length}
 use Rattle.plan.specs.Layout.{Kind}
 use Rattle.plan_reading.specs.Strict.{Entry}
 use Rattle.plan_reading.specs.FieldBytes.{bytes_of, row_bytes}

@@ -8,9 +8,9 @@ use Rattle.cqf.specs.Bounded.{sum_to}
 use Rattle.cqf.specs.Form.{Form, older, newer}
 use Rattle.cqf.specs.Limits.{port_slots, flow_slots}
 use Rattle.cqf.specs.Plan.{Plan, clocks_equal, rate_of, period_of, extra_of, jitter_of, valid_plan}
-use Rattle.cqf.specs.laws.Bounds.{sum_to_most}
-use Rattle.cqf.specs.laws.Ranges.{extra_most}
-use Rattle.cqf.specs.laws.Valid.{Empty, Held, slot_cases}
+use Rattle.cqf.proofs.laws.Bounds.{sum_to_most}
+use Rattle.cqf.proofs.laws.Ranges.{extra_most}
+use Rattle.cqf.proofs.laws.Valid.{Empty, Held, slot_cases}
 use Rattle.plan_reading.specs.Part.{Part}
 use Rattle.plan_reading.specs.Strict.{Entry}
 use Rattle.plan_reading.specs.FieldBytes.{bytes_of, row_bytes}

@@ -7,8 +7,8 @@ use Rattle.cqf.specs.Bounded.{within}
 use Rattle.cqf.specs.Plan.{Plan, valid_plan}
 use Rattle.cqf.specs.Condition.{least}
 use Rattle.cqf.specs.FixedPoint.{steps_from, Outcome, found, none, unfinished, after_steps, iterate, Converges}
-use Rattle.cqf.specs.laws.Ranges.{top_positive}
-use Rattle.cqf.specs.laws.Converges.{converges, converges_least}
+use Rattle.cqf.proofs.laws.Ranges.{top_positive}
+use Rattle.cqf.proofs.laws.Converges.{converges, converges_least}
 use Rattle.answers.specs.Answer.{Answer, result, refusal, refusal_number}
 use Rattle.answers.specs.Refusals.{no_least, not_finished}
 use Rattle.questions.specs.Outcome.{failing_at}

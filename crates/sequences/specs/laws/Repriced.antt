@@ -6,9 +6,9 @@ use Rattle.cqf.specs.Bounded.{within}
 use Rattle.cqf.specs.Limits.{port_slots, flow_slots, port_ok}
 use Rattle.cqf.specs.Plan.{Plan, crosses, valid_plan}
 use Rattle.cqf.specs.Condition.{crossed, slack}
-use Rattle.cqf.specs.laws.Bounded.{any_to_true, any_to_some}
-use Rattle.cqf.specs.laws.LongerSlack.{slack_rises, slack_falls}
-use Rattle.cqf.specs.laws.Repriced.{HoldsSlacks, crosses_slot}
+use Rattle.cqf.proofs.laws.Bounded.{any_to_true, any_to_some}
+use Rattle.cqf.proofs.laws.LongerSlack.{slack_rises, slack_falls}
+use Rattle.cqf.proofs.laws.Repriced.{HoldsSlacks, crosses_slot}
 use Rattle.answers.specs.Answer.{result, refusal}
 use Rattle.answers.specs.Refusals.{bad_duration, no_plan_held, not_crossed}
 use Rattle.questions.specs.Outcome.{asked, slack_answer}

@@ -7,8 +7,8 @@ use Rattle.cqf.specs.Limits.{port_slots}
 use Rattle.cqf.specs.Plan.{Plan}
 use Rattle.cqf.specs.Condition.{demand, least, margin_safe}
 use Rattle.cqf.specs.PortSteps.{highest_crossed}
-use Rattle.cqf.specs.laws.HighestCrossed.{highest_slot}
-use Rattle.cqf.specs.laws.Tabulate.{tabulate_length, tabulate-at}
+use Rattle.cqf.proofs.laws.HighestCrossed.{highest_slot}
+use Rattle.cqf.proofs.laws.Tabulate.{tabulate_length, tabulate-at}
 use Rattle.questions.specs.Outcome.{searched, search_leaves, found_demands, least_answer, least_leaves, margin_safe_answer, margin_safe_leaves}
 use Rattle.questions.specs.Lean.{lean_searched, lean_search_leaves, lean_least_answer, lean_least_leaves, lean_margin_safe_answer, lean_margin_safe_leaves}
 use Rattle.sequences.specs.Calls.{Call, after}

@@ -9,7 +9,7 @@ use Rattle.cqf.specs.Bounded.{within}
 use Rattle.cqf.specs.Plan.{Plan, valid_plan}
 use Rattle.cqf.specs.Condition.{least, margin_safe}
 use Rattle.cqf.specs.Lighter.{Lighter}
-use Rattle.cqf.specs.results.LighterTheorem.{no_worse}
+use Rattle.cqf.proofs.results.LighterTheorem.{no_worse}
 use Rattle.plan_reading.specs.Reading.{accepted, Mode, read_as_of}
 use Rattle.plan_reading.specs.results.StrictTheorem.{read_loosely}
 use Rattle.plan_reading.specs.laws.validity.Valid.{accepted_valid}

@@ -9,7 +9,7 @@ use Rattle.cqf.specs.Bounded.{within}
 use Rattle.cqf.specs.Plan.{Plan, valid_plan}
 use Rattle.cqf.specs.Condition.{admissible}
 use Rattle.cqf.specs.Need.{least_from}
-use Rattle.cqf.specs.laws.LeastFrom.{least_from_admissible, least_from_above}
+use Rattle.cqf.proofs.laws.LeastFrom.{least_from_admissible, least_from_above}
 use Rattle.plan_reading.specs.Reading.{accepted, Mode, read_as_of}
 use Rattle.plan_reading.specs.results.StrictTheorem.{read_loosely}
 use Rattle.plan_reading.specs.laws.validity.Valid.{accepted_valid}

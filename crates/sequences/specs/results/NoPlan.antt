@@ -7,7 +7,7 @@ use Rattle.cqf.specs.Form.{form_from}
 use Rattle.cqf.specs.Bounded.{within}
 use Rattle.cqf.specs.Plan.{Plan, valid_plan}
 use Rattle.cqf.specs.Condition.{admissible, least, margin_safe}
-use Rattle.cqf.specs.laws.Ranges.{top_positive}
+use Rattle.cqf.proofs.laws.Ranges.{top_positive}
 use Rattle.plan_reading.specs.laws.validity.Valid.{accepted_valid}
 use Rattle.answers.specs.Answer.{result, refusal_number}
 use Rattle.answers.specs.Refusals.{no_plan_held, not_admissible, no_least, no_margin_safe}

@@ -13,10 +13,10 @@ use Rattle.cqf.specs.Limits.{port_slots, flow_slots}
 use Rattle.cqf.specs.Plan.{Plan, rate_of, period_of, crosses, valid_plan}
 use Rattle.cqf.specs.Condition.{frames, crossed, slack}
 use Rattle.cqf.specs.Reprice.{with_length, repriced}
-use Rattle.cqf.specs.laws.Valid.{present_slot}
-use Rattle.cqf.specs.laws.Reprice.{crossed_same}
-use Rattle.cqf.specs.laws.RepriceValid.{length_slot, length_valid}
-use Rattle.cqf.specs.laws.Repriced.{crosses_slot, repriced_length, repriced_here, repriced_kept, holds_repriced, slack_longer, slack-apart}
+use Rattle.cqf.proofs.laws.Valid.{present_slot}
+use Rattle.cqf.proofs.laws.Reprice.{crossed_same}
+use Rattle.cqf.proofs.laws.RepriceValid.{length_slot, length_valid}
+use Rattle.cqf.proofs.laws.Repriced.{crosses_slot, repriced_length, repriced_here, repriced_kept, holds_repriced, slack_longer, slack-apart}
 use Rattle.plan.specs.Layout.{form_by}
 use Rattle.plan_reading.specs.Reading.{accepted, Mode, loose, read_as_of, read_plan, max_bytes}
 use Rattle.plan_reading.specs.Sized.{Sized}

@@ -8,8 +8,8 @@ use Rattle.cqf.specs.Form.{form_number}
 use Rattle.cqf.specs.Plan.{Plan, valid_plan}
 use Rattle.cqf.specs.Condition.{admissible, failing, lowest_failing}
 use Rattle.cqf.specs.LargeEnough.{LargeEnough}
-use Rattle.cqf.specs.results.Theorem.{large_enough}
-use Rattle.cqf.specs.laws.Longer.{longer}
+use Rattle.cqf.proofs.results.Theorem.{large_enough}
+use Rattle.cqf.proofs.laws.Longer.{longer}
 use Rattle.plan_reading.specs.FieldOrder.{SameFields}
 use Rattle.plan_reading.specs.Reading.{accepted, loose, read_plan}
 use Rattle.plan_reading.specs.Strict.{Accepts}

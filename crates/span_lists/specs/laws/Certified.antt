@@ -13,8 +13,8 @@ use Rattle.cqf.specs.Need.{largest_need}
 use Rattle.span_lists.specs.Span.{Span, IsSpan, spans, ending_from}
 use Rattle.span_lists.specs.results.Theorem.{spans_are, spans_sound}
 use Rattle.span_lists.specs.laws.Ending.{ending_all, ending_next}
-use Rattle.cqf.specs.laws.LeastFrom.{least_from_above}
-use Rattle.cqf.specs.laws.Search.{Ascended, ascent_start, ascent_next, ascent_over}
+use Rattle.cqf.proofs.laws.LeastFrom.{least_from_above}
+use Rattle.cqf.proofs.laws.Search.{Ascended, ascent_start, ascent_next, ascent_over}
 use Rattle.span_lists.specs.laws.Pieces.{piece}
 
 -- all from first to last are admissible, by pieces from last downwards: the start of each is no less than the largest need at its end

@@ -11,12 +11,12 @@ use Rattle.cqf.specs.Plan.{Plan, valid_plan}
 use Rattle.cqf.specs.Condition.{demand, admissible}
 use Rattle.cqf.specs.Need.{need, largest_need, least_from}
 use Rattle.span_lists.specs.Span.{last_from}
-use Rattle.cqf.specs.laws.Bounds.{max_to_most}
-use Rattle.cqf.specs.laws.Condition.{demand_pos}
-use Rattle.cqf.specs.laws.Need.{need_for, need_some, not_admissible, jump_down}
-use Rattle.cqf.specs.laws.Ranges.{crossed_rate}
-use Rattle.cqf.specs.laws.LeastFrom.{least_from_none, least_from_above}
-use Rattle.cqf.specs.laws.Search.{Ascended, ascent_found, ascent_next, ascent_over, largest-none, largest-fails}
+use Rattle.cqf.proofs.laws.Bounds.{max_to_most}
+use Rattle.cqf.proofs.laws.Condition.{demand_pos}
+use Rattle.cqf.proofs.laws.Need.{need_for, need_some, not_admissible, jump_down}
+use Rattle.cqf.proofs.laws.Ranges.{crossed_rate}
+use Rattle.cqf.proofs.laws.LeastFrom.{least_from_none, least_from_above}
+use Rattle.cqf.proofs.laws.Search.{Ascended, ascent_found, ascent_next, ascent_over, largest-none, largest-fails}
 use Rattle.span_lists.specs.laws.Runs.{last_is}
 
 module _ (p : Plan) (valid : valid_plan p ≡ true) where

@@ -10,7 +10,7 @@ use Rattle.std.proofs.lemmas.Bool.{not-true}
 use Rattle.cqf.specs.Plan.{Plan}
 use Rattle.cqf.specs.Condition.{admissible, smallest}
 use Rattle.span_lists.specs.Span.{Span, Holds, IsSpan, begins, last_from, span_from}
-use Rattle.cqf.specs.laws.Smallest.{smallest_positive, smallest_le, smallest-passes, smallest_below, smallest_is, smallest-none}
+use Rattle.cqf.proofs.laws.Smallest.{smallest_positive, smallest_le, smallest-passes, smallest_below, smallest_is, smallest-none}
 
 module _ (p : Plan) (T : ℕ) where
   refused_test : ℕ → Bool

@@ -10,7 +10,7 @@ use Rattle.std.proofs.Math.Decide.{dec_le, dec_lt}
 use Rattle.cqf.specs.Plan.{Plan}
 use Rattle.cqf.specs.Condition.{admissible, safe_from, least, margin_safe}
 use Rattle.span_lists.specs.Span.{Span, Holds, IsSpan, spans, ending_from, Rising, Spans}
-use Rattle.cqf.specs.laws.Smallest.{smallest_positive, smallest_le, smallest-passes, smallest_below, least_of, margin_safe_of, safe_at, safe_every}
+use Rattle.cqf.proofs.laws.Smallest.{smallest_positive, smallest_le, smallest-passes, smallest_below, least_of, margin_safe_of, safe_at, safe_every}
 use Rattle.span_lists.specs.laws.Runs.{held, span_begins, span-next}
 use Rattle.span_lists.specs.laws.SpanList.{spans-rising, spans_each}
 use Rattle.span_lists.specs.laws.Ending.{Sound, rising_above, ending_from_lem, ending_in, ending_rising, ending_all, ending_first, rising_last}

@@ -7,8 +7,8 @@ use Rattle.cqf.specs.Port.{wire_bits}
 use Rattle.cqf.specs.Widened.{widened}
 use Rattle.cqf.specs.Condition.{begun, frames, demand}
 use Rattle.cqf.specs.Need.{need, largest_need}
-use Rattle.cqf.specs.worked.K.{plan_k}
-use Rattle.cqf.specs.worked.Clock.{plan_kc}
+use Rattle.cqf.proofs.worked.K.{plan_k}
+use Rattle.cqf.proofs.worked.Clock.{plan_kc}
 use Rattle.span_lists.specs.Span.{Span, spans}
 use Rattle.span_lists.specs.laws.Certified.{Shown, runs, refuses, shows, shown}
 

@@ -5,7 +5,7 @@ use Rattle.std.proofs.Math.Bool.{or-false}
 use Rattle.std.proofs.Math.Decide.{ℕ_discrete}
 use Rattle.cqf.specs.Bounded.{elem, sublist}
 use Rattle.cqf.specs.Limits.{port_slots}
-use Rattle.cqf.specs.laws.Route.{sublist_more, elem_more}
+use Rattle.cqf.proofs.laws.Route.{sublist_more, elem_more}
 use Rattle.tables.specs.Columns.{Marked}
 
 -- nothing is marked for a route of no port

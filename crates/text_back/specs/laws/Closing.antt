@@ -6,7 +6,7 @@ use Rattle.std.proofs.Math.Bool.{true, and-eq-true_iff}
 use Rattle.cqf.specs.Bounded.{every, sublist}
 use Rattle.cqf.specs.Limits.{flow_slots, route_stride}
 use Rattle.cqf.specs.Plan.{Plan, hops_of, route_of, port_in, valid_plan}
-use Rattle.cqf.specs.laws.Valid.{Empty, Held, slot_cases}
+use Rattle.cqf.proofs.laws.Valid.{Empty, Held, slot_cases}
 use Rattle.plan_reading.specs.Tidy.{tidied}
 use Rattle.plan_reading.specs.laws.saved.Tidy.{tidied_route}
 use Rattle.plan_text.specs.Text.{Absent, missing, missing_of, absent_to}

@@ -10,8 +10,8 @@ use Rattle.cqf.specs.Bounded.{any_to, distinct}
 use Rattle.cqf.specs.Form.{Form, most_hops_in}
 use Rattle.cqf.specs.Limits.{port_slots, flow_slots, route_stride}
 use Rattle.cqf.specs.Plan.{Plan, no_plan, clocks_equal, rate_of, blocking_of, extra_of, period_of, count_of, length_of, jitter_of, hops_of, route_of, valid_plan}
-use Rattle.cqf.specs.laws.Bounded.{any_to_some}
-use Rattle.cqf.specs.laws.Lists.{sublist_length}
+use Rattle.cqf.proofs.laws.Bounded.{any_to_some}
+use Rattle.cqf.proofs.laws.Lists.{sublist_length}
 use Rattle.plan_reading.specs.Part.{Part, clock}
 use Rattle.plan_reading.specs.Put.{Put}
 use Rattle.plan_reading.specs.Saved.{when, collect, header_part, port_part, flow_part, extra_part, jitter_part, clock_part, clock_parts}

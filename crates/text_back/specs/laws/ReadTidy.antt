@@ -10,7 +10,7 @@ use Rattle.std.proofs.Math.Seq.{get_or-set_same}
 use Rattle.cqf.specs.Bounded.{every, distinct}
 use Rattle.cqf.specs.Limits.{flow_slots, route_stride, max_hops, period_ok, count_ok, length_ok, hops_ok}
 use Rattle.cqf.specs.Plan.{Plan, period_of, count_of, length_of, hops_of, route_of, port_in}
-use Rattle.cqf.specs.laws.Bounded.{or_cases}
+use Rattle.cqf.proofs.laws.Bounded.{or_cases}
 use Rattle.plan_reading.specs.Store.{store, store_all}
 use Rattle.plan_reading.specs.Tidy.{Tidy}
 use Rattle.plan_reading.specs.laws.fields.Passes.{and_three}

@@ -5,7 +5,7 @@ use mathlib.Core.List.Memᴰ
 use mathlib.Core.List.{List, ◌++◌, Memᴰ}
 use Rattle.cqf.specs.Limits.{port_slots, flow_slots, route_stride, hops_ok}
 use Rattle.cqf.specs.Plan.{Plan, rate_of, blocking_of, extra_of, period_of, count_of, length_of, jitter_of, hops_of, route_of, valid_plan}
-use Rattle.cqf.specs.laws.Lists.{sublist_length}
+use Rattle.cqf.proofs.laws.Lists.{sublist_length}
 use Rattle.plan_reading.specs.Part.{Part, header, port, flow, extra, jitter, clock}
 use Rattle.plan_reading.specs.Ranges.{PartOk, PortOk, FlowOk, ExtraOk, JitterOk}
 use Rattle.plan_reading.specs.Saved.{collect, port_part, flow_part, extra_part, jitter_part, clock_parts}

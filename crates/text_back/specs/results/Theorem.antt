@@ -9,7 +9,7 @@ use Rattle.cqf.specs.Bounded.{any_to}
 use Rattle.cqf.specs.Form.{Form, form_number, form_fits}
 use Rattle.cqf.specs.Limits.{flow_slots}
 use Rattle.cqf.specs.Plan.{Plan, clocks_equal, period_of, present, valid_plan}
-use Rattle.cqf.specs.laws.Bounded.{any_to_true, any_to_some}
+use Rattle.cqf.proofs.laws.Bounded.{any_to_true, any_to_some}
 use Rattle.plan_reading.specs.Saved.{form_bytes}
 use Rattle.plan_reading.specs.Sized.{Sized}
 use Rattle.plan_reading.specs.Tidy.{Tidy, tidied}

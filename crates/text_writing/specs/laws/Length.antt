@@ -6,8 +6,8 @@ use Rattle.cqf.specs.Bounded.{every, sublist}
 use Rattle.cqf.specs.Form.{Form, older, newer}
 use Rattle.cqf.specs.Limits.{port_slots, flow_slots, max_hops, route_stride}
 use Rattle.cqf.specs.Plan.{Plan, rate_of, blocking_of, extra_of, period_of, count_of, length_of, jitter_of, hops_of, route_of, port_in, clocks_equal, valid_plan}
-use Rattle.cqf.specs.laws.Lists.{sublist_length}
-use Rattle.cqf.specs.laws.Valid.{Empty, Held, slot_cases}
+use Rattle.cqf.proofs.laws.Lists.{sublist_length}
+use Rattle.cqf.proofs.laws.Valid.{Empty, Held, slot_cases}
 use Rattle.words.specs.Words.{space}
 use Rattle.plan_text.specs.Names.{guard_word, top_word, format_word, port_word, rate_word, blocker_word, extra_word, flow_word, period_word, count_word, length_word, jitter_word, route_word, clocks_word, drift_word, timing_word, sync_word}
 use Rattle.plan_text.specs.Line.{Word}

@@ -8,7 +8,7 @@ use Rattle.answers.specs.Answer.{result, refusal}
 use Rattle.answers.specs.Refusals.{short_buffer, no_plan_held}
 use Rattle.cqf.specs.Form.{Form}
 use Rattle.cqf.specs.Plan.{Plan, valid_plan}
-use Rattle.cqf.specs.laws.Valid.{Empty, Held, slot_cases}
+use Rattle.cqf.proofs.laws.Valid.{Empty, Held, slot_cases}
 use Rattle.plan_text.specs.Print.{text_of}
 use Rattle.writing.specs.Laid.{over}
 use Rattle.writing.specs.laws.Laid.{laid-over, laid_short}

@@ -6,8 +6,8 @@ use Rattle.cqf.specs.Limits.{max_hops, max_count}
 use Rattle.cqf.specs.Overflow.{most_widened, most_begun}
 use Rattle.cqf.specs.Plan.{Plan, hops_of}
 use Rattle.cqf.specs.Widened.{widened_by}
-use Rattle.cqf.specs.laws.Valid.{Held}
-use Rattle.cqf.specs.laws.Ranges.{top_most}
+use Rattle.cqf.proofs.laws.Valid.{Held}
+use Rattle.cqf.proofs.laws.Ranges.{top_most}
 use Rattle.numbers.specs.Clock.{clock_of}
 use Rattle.tables.specs.Columns.{plan_by}
 use Rattle.emissions.specs.laws.Burst.{hops_within, over_fits, flow_held, latest_most, cycle_is, brought_is, frames_is, burst_is, kept_most}

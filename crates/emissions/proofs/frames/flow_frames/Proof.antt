@@ -6,7 +6,7 @@ use native.Mathlib.Omega.{arith}
 use borrow.Author.Rules.{rules}
 use Rattle.cqf.specs.Limits.{max_count}
 use Rattle.cqf.specs.Overflow.{most_begun}
-use Rattle.cqf.specs.laws.Begun.{begun_most}
+use Rattle.cqf.proofs.laws.Begun.{begun_most}
 use Rattle.emissions.proofs.frames.flow_frames.Statement.{statement}
 use Rattle.emissions.proofs.frames.flow_frames.Tie as tie
 

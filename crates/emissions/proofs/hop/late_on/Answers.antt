@@ -2,7 +2,7 @@
 use mathlib.Core.Path.{◌∙◌}
 use native.Mathlib.Omega.{arith}
 use Rattle.cqf.specs.Bounded.{sublist}
-use Rattle.cqf.specs.laws.Lists.{sublist_length}
+use Rattle.cqf.proofs.laws.Lists.{sublist_length}
 use Rattle.emissions.specs.laws.Hops.{late_holds, late_misses}
 use Rattle.emissions.proofs.hop.late_on.Goals as goal
 

@@ -7,7 +7,7 @@ use borrow.Author.Rules.{rules}
 use Rattle.cqf.specs.Bounded.{lowest, tabulate}
 use Rattle.cqf.specs.Limits.{port_slots}
 use Rattle.cqf.specs.Plan.{Plan}
-use Rattle.cqf.specs.laws.Tabulate.{tabulate-at}
+use Rattle.cqf.proofs.laws.Tabulate.{tabulate-at}
 use Rattle.numbers.specs.Clock.{clock_of}
 use Rattle.tables.specs.Columns.{plan_by}
 use Rattle.questions.specs.Failing.{fails_in}

@@ -3,8 +3,8 @@ use lib.ListN.{length-set}
 use Rattle.cqf.specs.Limits.{port_slots, flow_slots}
 use Rattle.cqf.specs.Overflow.{most_widened}
 use Rattle.cqf.specs.Plan.{Plan, valid_plan, route_of}
-use Rattle.cqf.specs.laws.Ranges.{extra_most}
-use Rattle.cqf.specs.laws.Valid.{Held}
+use Rattle.cqf.proofs.laws.Ranges.{extra_most}
+use Rattle.cqf.proofs.laws.Valid.{Held}
 use Rattle.numbers.specs.Clock.{clock_of}
 use Rattle.tables.specs.Columns.{plan_by}
 use Rattle.emissions.specs.Queued.{queued_port}

@@ -2,7 +2,7 @@
 use mathlib.Core.Path.{sym}
 use native.Mathlib.Omega.{arith}
 use Rattle.cqf.specs.Bounded.{sublist}
-use Rattle.cqf.specs.laws.Lists.{sublist_length, sublist-at}
+use Rattle.cqf.proofs.laws.Lists.{sublist_length, sublist-at}
 use Rattle.emissions.specs.laws.Hops.{past_end}
 use Rattle.emissions.proofs.queued.port_at.Goals as goal
 

@@ -5,7 +5,7 @@ use native.Mathlib.Omega.{arith}
 use borrow.Author.Rules.{rules}
 use lib.ListN.{get_or}
 use Rattle.cqf.specs.Bounded.{sublist}
-use Rattle.cqf.specs.laws.Lists.{sublist_length}
+use Rattle.cqf.proofs.laws.Lists.{sublist_length}
 use Rattle.emissions.specs.BadEmission.{hop_on}
 use Rattle.emissions.specs.laws.Hops.{port-apart, port-before, port-found}
 use Rattle.emissions.proofs.queued.queued_port.Statement.{statement}

@@ -3,7 +3,7 @@ use mathlib.Core.Path.{◌≡◌, sym, ◌∙◌}
 use mathlib.Core.Bool.{true}
 use borrow.Author.Rules.{rules}
 use Rattle.cqf.specs.Limits.{port_slots, port_ok}
-use Rattle.cqf.specs.laws.Route.{rate_at}
+use Rattle.cqf.proofs.laws.Route.{rate_at}
 use Rattle.plan_reading.specs.laws.fields.Within.{within_low, slot_below}
 use Rattle.loading.proofs.first.has_port.Statement.{statement}
 use Rattle.loading.proofs.first.has_port.Tie as tie

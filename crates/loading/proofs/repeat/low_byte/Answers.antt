@@ -2,7 +2,7 @@
 use native.Mathlib.Omega.{arith}
 use lib.ListN.{get_or}
 use Rattle.cqf.specs.Limits.{port_slots, port_ok}
-use Rattle.cqf.specs.laws.Lists.{every-at}
+use Rattle.cqf.proofs.laws.Lists.{every-at}
 use Rattle.plan.specs.Bytes.{number2}
 use Rattle.plan.specs.Field.{route_ports, route_port}
 use Rattle.plan.specs.laws.Route.{route_length_lem, route_at}

@@ -8,8 +8,8 @@ use lib.ListN.{length, get_or, length-set, get_or-replicate}
 use Rattle.cqf.specs.Bounded.{all_to, elem, every, sublist}
 use Rattle.cqf.specs.Limits.{port_slots, port_ok}
 use Rattle.cqf.specs.Plan.{port_in}
-use Rattle.cqf.specs.laws.Bounds.{all_to-next}
-use Rattle.cqf.specs.laws.Lists.{every-at}
+use Rattle.cqf.proofs.laws.Bounds.{all_to-next}
+use Rattle.cqf.proofs.laws.Lists.{every-at}
 use Rattle.plan.specs.Field.{route_ports, route_port, route_length}
 use Rattle.plan.specs.laws.Route.{route_length_lem}
 use Rattle.plan_reading.specs.laws.fields.Within.{within_low, within_high}

@@ -4,7 +4,7 @@ use native.Mathlib.Nat.{mul-le-mul, le_trans}
 use native.Mathlib.Omega.{arith}
 use borrow.Author.Rules.{rules}
 use Rattle.cqf.specs.Limits.{million}
-use Rattle.cqf.specs.laws.Ceil.{ceil_least}
+use Rattle.cqf.proofs.laws.Ceil.{ceil_least}
 use Rattle.numbers.proofs.clock.widened.Statement.{statement}
 use Rattle.numbers.proofs.clock.widened.Tie as tie
 

@@ -6,7 +6,7 @@ use mathlib.Core.List.{List, [], ◌∷◌, Memᴰ}
 use Rattle.cqf.specs.Form.{Form, newer}
 use Rattle.cqf.specs.Limits.{port_slots, flow_slots}
 use Rattle.cqf.specs.Plan.{Plan, rate_of, period_of, valid_plan}
-use Rattle.cqf.specs.laws.Ranges.{top_positive}
+use Rattle.cqf.proofs.laws.Ranges.{top_positive}
 use Rattle.plan.specs.Bytes.{Octets}
 use Rattle.plan.specs.Layout.{Kind, layout, form_by, hops_allowed}
 use Rattle.plan.specs.Field.{in_ranges}

@@ -7,8 +7,8 @@ use Rattle.std.proofs.Math.Decide.{ℕ_discrete}
 use Rattle.cqf.specs.Form.{newer}
 use Rattle.cqf.specs.Limits.{port_slots, flow_slots, route_stride, drift_ok, timing_jitter_ok, sync_error_ok, hops_ok}
 use Rattle.cqf.specs.Plan.{Plan, rate_of, period_of, hops_of, route_of, valid_plan}
-use Rattle.cqf.specs.laws.Lists.{sublist_length}
-use Rattle.cqf.specs.laws.Route.{port_in_there}
+use Rattle.cqf.proofs.laws.Lists.{sublist_length}
+use Rattle.cqf.proofs.laws.Route.{port_in_there}
 use Rattle.plan.specs.Layout.{Kind}
 use Rattle.plan_reading.specs.Strict.{Entry}
 use Rattle.plan_reading.specs.Saved.{header2_field, port2_field, flow2_field, field_when, collect_fields, port2_fields, flow2_fields, newer_fields}

@@ -4,7 +4,7 @@ use Rattle.std.proofs.Common.{arith, length-append}
 use Rattle.cqf.specs.Form.{older, newer, most_hops_in}
 use Rattle.cqf.specs.Limits.{port_slots, flow_slots, route_stride}
 use Rattle.cqf.specs.Plan.{Plan, rate_of, period_of, hops_of, route_of}
-use Rattle.cqf.specs.laws.Lists.{sublist_length}
+use Rattle.cqf.proofs.laws.Lists.{sublist_length}
 use Rattle.plan.specs.Bytes.{head_size}
 use Rattle.plan.specs.Layout.{Kind, numbers_size}
 use Rattle.plan_reading.specs.Strict.{Entry}

@@ -13,7 +13,7 @@ use Rattle.cqf.specs.Form.{newer}
 use Rattle.cqf.specs.Limits.{port_slots, flow_slots, length_ok}
 use Rattle.cqf.specs.Plan.{Plan, rate_of, period_of, present, valid_plan}
 use Rattle.cqf.specs.Reprice.{with_length}
-use Rattle.cqf.specs.laws.RepriceValid.{length_slot, length_valid}
+use Rattle.cqf.proofs.laws.RepriceValid.{length_slot, length_valid}
 use Rattle.plan_reading.specs.Strict.{Entry}
 use Rattle.plan_reading.specs.Reading.{accepted, Mode, read_as_of, max_bytes}
 use Rattle.plan_reading.specs.FieldBytes.{size_of, bytes_of, row_bytes}

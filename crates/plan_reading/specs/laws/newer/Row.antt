@@ -12,7 +12,7 @@ use Rattle.cqf.specs.Bounded.{count_to}
 use Rattle.cqf.specs.Form.{newer}
 use Rattle.cqf.specs.Limits.{port_slots, flow_slots}
 use Rattle.cqf.specs.Plan.{Plan, rate_of, blocking_of, extra_of, period_of, count_of, length_of, jitter_of, route_of, present, valid_plan}
-use Rattle.cqf.specs.laws.Bounded.{any_to_true}
+use Rattle.cqf.proofs.laws.Bounded.{any_to_true}
 use Rattle.plan_reading.specs.Part.{Part, header, port, flow, extra, jitter, clock, parts_of}
 use Rattle.plan_reading.specs.Draft.{blank, added, ports_in, flows_in, sum_of}
 use Rattle.plan_reading.specs.Reading.{accepted, Mode, read_as_of, max_bytes}

@@ -6,7 +6,7 @@ use borrow.Author.Tests.{eq-eqb, ne_eqb, lt-ltb, le-ltb, ltb-true, ltb-false, no
 use Rattle.cqf.specs.Bounded.{every}
 use Rattle.cqf.specs.Limits.{flow_slots, flow_ok}
 use Rattle.cqf.specs.Plan.{port_in}
-use Rattle.cqf.specs.laws.Route.{rate_at}
+use Rattle.cqf.proofs.laws.Route.{rate_at}
 use Rattle.plan.specs.Bytes.{number2, head_size, tag_at, size_at, whole_at, value_at}
 use Rattle.plan.specs.Layout.{Kind, layout}
 use Rattle.plan_reading.specs.Part.{Part, header, port, flow, extra, jitter, clock}

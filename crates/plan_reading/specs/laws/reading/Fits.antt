@@ -7,7 +7,7 @@ use Rattle.std.proofs.Math.Decide.{ℕ_discrete}
 use Rattle.cqf.specs.Form.{Form, older, newer, form_number, most_hops_in, form_fits}
 use Rattle.cqf.specs.Limits.{flow_slots}
 use Rattle.cqf.specs.Plan.{Plan, no_plan, hops_of}
-use Rattle.cqf.specs.laws.Bounded.{all_to-every}
+use Rattle.cqf.proofs.laws.Bounded.{all_to-every}
 use Rattle.plan.specs.Layout.{Kind, layout, form_by, hops_allowed}
 use Rattle.plan.specs.Field.{Field, field, field_at}
 use Rattle.plan_reading.specs.Part.{Part, header, port, flow, extra, jitter, clock, parts_by, parts_of}

@@ -5,7 +5,7 @@ use Rattle.cqf.specs.Form.{Form}
 use Rattle.cqf.specs.Bounded.{count_to}
 use Rattle.cqf.specs.Limits.{port_slots, flow_slots}
 use Rattle.cqf.specs.Plan.{Plan, no_plan, rate_of, period_of}
-use Rattle.cqf.specs.laws.Bounded.{count_to_none}
+use Rattle.cqf.proofs.laws.Bounded.{count_to_none}
 use Rattle.plan.specs.Field.{Field}
 use Rattle.plan_reading.specs.Draft.{Draft, blank, taken, added}
 use Rattle.plan_reading.specs.Ranges.{NumbersOk}

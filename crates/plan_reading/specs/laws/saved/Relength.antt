@@ -14,7 +14,7 @@ use Rattle.cqf.specs.Form.{older, form_number, form_fits}
 use Rattle.cqf.specs.Limits.{port_slots, flow_slots, length_ok}
 use Rattle.cqf.specs.Plan.{Plan, clocks_equal, rate_of, extra_of, period_of, jitter_of, present, valid_plan}
 use Rattle.cqf.specs.Reprice.{with_length}
-use Rattle.cqf.specs.laws.RepriceValid.{length_slot, length_valid}
+use Rattle.cqf.proofs.laws.RepriceValid.{length_slot, length_valid}
 use Rattle.plan_reading.specs.Reading.{accepted, Mode, read_as_of}
 use Rattle.plan_reading.specs.Part.{Part}
 use Rattle.plan_reading.specs.Saved.{when, collect, header_part, port_part, port_parts, flow_part, flow_parts, extra_part, extra_parts, jitter_part, jitter_parts, clock_part, clock_parts, saved_parts, part_bytes, saved_bytes}

@@ -9,7 +9,7 @@ use Rattle.std.proofs.Math.Option.{some}
 use Rattle.cqf.specs.Form.{Form, older}
 use Rattle.cqf.specs.Limits.{port_slots, flow_slots}
 use Rattle.cqf.specs.Plan.{Clock, Plan, no_plan, equal_clocks}
-use Rattle.cqf.specs.laws.Ranges.{top_positive}
+use Rattle.cqf.proofs.laws.Ranges.{top_positive}
 use Rattle.plan.specs.Bytes.{Octets}
 use Rattle.plan.specs.Layout.{Kind, form_by}
 use Rattle.plan_reading.specs.Part.{Part, header, port, flow, extra, jitter, clock}

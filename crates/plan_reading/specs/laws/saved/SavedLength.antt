@@ -6,9 +6,9 @@ use Rattle.std.proofs.Math.ListN.{length}
 use Rattle.cqf.specs.Form.{Form, older, newer, form_number, most_hops_in, form_fits}
 use Rattle.cqf.specs.Limits.{port_slots, flow_slots, max_hops, route_stride}
 use Rattle.cqf.specs.Plan.{Plan, clocks_equal, rate_of, extra_of, period_of, jitter_of, hops_of, route_of, valid_plan}
-use Rattle.cqf.specs.laws.Bounded.{all_to-at}
-use Rattle.cqf.specs.laws.Lists.{sublist_length}
-use Rattle.cqf.specs.laws.Valid.{Empty, Held, slot_cases}
+use Rattle.cqf.proofs.laws.Bounded.{all_to-at}
+use Rattle.cqf.proofs.laws.Lists.{sublist_length}
+use Rattle.cqf.proofs.laws.Valid.{Empty, Held, slot_cases}
 use Rattle.plan.specs.Bytes.{head_size}
 use Rattle.plan.specs.Layout.{Kind, layout, numbers_size}
 use Rattle.plan_reading.specs.Part.{Part}

@@ -8,9 +8,9 @@ use Rattle.cqf.specs.Bounded.{every, distinct}
 use Rattle.cqf.specs.Form.{older, most_hops_in}
 use Rattle.cqf.specs.Limits.{port_slots, flow_slots, route_stride, guard_ok, top_ok, port_ok, rate_ok, length_ok, blocking_ok, extra_ok, period_ok, count_ok, jitter_ok, hops_ok}
 use Rattle.cqf.specs.Plan.{Plan, clock_ok, rate_of, period_of, hops_of, present, port_in, valid_plan}
-use Rattle.cqf.specs.laws.Bounded.{any_to_true}
-use Rattle.cqf.specs.laws.Lists.{sublist_length}
-use Rattle.cqf.specs.laws.Route.{port_in_there}
+use Rattle.cqf.proofs.laws.Bounded.{any_to_true}
+use Rattle.cqf.proofs.laws.Lists.{sublist_length}
+use Rattle.cqf.proofs.laws.Route.{port_in_there}
 use Rattle.plan_reading.specs.Part.{Part, header, port, flow, extra, jitter, clock}
 use Rattle.plan_reading.specs.Ranges.{PartOk}
 use Rattle.plan_reading.specs.Strict.{rising}

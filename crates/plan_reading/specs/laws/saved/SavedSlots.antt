@@ -9,8 +9,8 @@ use Rattle.std.proofs.Math.ListN.{length}
 use Rattle.cqf.specs.Bounded.{sublist}
 use Rattle.cqf.specs.Limits.{port_slots, flow_slots, route_stride}
 use Rattle.cqf.specs.Plan.{Plan, no_plan, rate_of, blocking_of, extra_of, period_of, count_of, length_of, jitter_of, hops_of, route_of, valid_plan}
-use Rattle.cqf.specs.laws.Lists.{sublist_length}
-use Rattle.cqf.specs.laws.Valid.{Empty, Held, slot_cases, held_period}
+use Rattle.cqf.proofs.laws.Lists.{sublist_length}
+use Rattle.cqf.proofs.laws.Valid.{Empty, Held, slot_cases, held_period}
 use Rattle.plan_reading.specs.Part.{Part, port, flow, extra, jitter}
 use Rattle.plan_reading.specs.Put.{Put}
 use Rattle.plan_reading.specs.Store.{port_number, flow_number}

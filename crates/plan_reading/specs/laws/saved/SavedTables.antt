@@ -7,8 +7,8 @@ use Rattle.cqf.specs.Bounded.{tabulate}
 use Rattle.cqf.specs.Form.{older, most_hops_in}
 use Rattle.cqf.specs.Limits.{port_slots, flow_slots, route_stride}
 use Rattle.cqf.specs.Plan.{Clock, Plan, no_plan, equal_clocks, clocks_equal, hops_of, valid_plan}
-use Rattle.cqf.specs.laws.Lists.{sublist-at}
-use Rattle.cqf.specs.laws.Tabulate.{tabulate_length, tabulate-at}
+use Rattle.cqf.proofs.laws.Lists.{sublist-at}
+use Rattle.cqf.proofs.laws.Tabulate.{tabulate_length, tabulate-at}
 use Rattle.plan_reading.specs.Part.{Part, clock}
 use Rattle.plan_reading.specs.Store.{puts_clock, store}
 use Rattle.plan_reading.specs.Ranges.{PartOk}

@@ -5,8 +5,8 @@ use Rattle.std.proofs.Math.Decide.{dec_lt}
 use Rattle.cqf.specs.Bounded.{tabulate}
 use Rattle.cqf.specs.Limits.{flow_slots, route_stride}
 use Rattle.cqf.specs.Plan.{Plan, hops_of, route_of}
-use Rattle.cqf.specs.laws.Lists.{sublist_length}
-use Rattle.cqf.specs.laws.Tabulate.{tabulate_length, tabulate-at}
+use Rattle.cqf.proofs.laws.Lists.{sublist_length}
+use Rattle.cqf.proofs.laws.Tabulate.{tabulate_length, tabulate-at}
 use Rattle.plan_reading.specs.Part.{Part, flow}
 use Rattle.plan_reading.specs.Store.{puts_route}
 use Rattle.plan_reading.specs.Ranges.{PartOk}

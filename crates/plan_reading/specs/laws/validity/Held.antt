@@ -8,8 +8,8 @@ use Rattle.std.proofs.Math.Dec.{eqb}
 use Rattle.cqf.specs.Bounded.{every, distinct, all_to, any_to}
 use Rattle.cqf.specs.Limits.{port_slots, flow_slots, guard_ok, top_ok, rate_ok, length_ok, blocking_ok, extra_ok, period_ok, count_ok, jitter_ok, hops_ok}
 use Rattle.cqf.specs.Plan.{Plan, clock_ok, rate_of, blocking_of, extra_of, period_of, count_of, length_of, jitter_of, hops_of, route_of, present, port_in, valid_port, valid_flow, valid_plan}
-use Rattle.cqf.specs.laws.Bounded.{or_cases, all_to-at}
-use Rattle.cqf.specs.laws.Slot.{empty_at, held_at}
+use Rattle.cqf.proofs.laws.Bounded.{or_cases, all_to-at}
+use Rattle.cqf.proofs.laws.Slot.{empty_at, held_at}
 use Rattle.plan_reading.specs.laws.fields.Within.{within_low}
 use Rattle.plan_reading.specs.laws.fields.Passes.{and_three}
 

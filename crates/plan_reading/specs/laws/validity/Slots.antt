@@ -5,8 +5,8 @@ use Rattle.std.proofs.Math.Bool.{and-eq-true_iff, or-true}
 use Rattle.cqf.specs.Bounded.{every, distinct}
 use Rattle.cqf.specs.Limits.{max_hops, rate_ok, blocking_ok, extra_ok, length_ok, period_ok, count_ok, jitter_ok, hops_ok}
 use Rattle.cqf.specs.Plan.{Plan, rate_of, blocking_of, extra_of, period_of, count_of, length_of, jitter_of, hops_of, route_of, port_in, valid_port, valid_flow}
-use Rattle.cqf.specs.laws.Bounded.{or_cases}
-use Rattle.cqf.specs.laws.Slot.{empty_at}
+use Rattle.cqf.proofs.laws.Bounded.{or_cases}
+use Rattle.cqf.proofs.laws.Slot.{empty_at}
 use Rattle.plan_reading.specs.Reading.{has_flow}
 use Rattle.plan_reading.specs.laws.fields.Passes.{and_three}
 

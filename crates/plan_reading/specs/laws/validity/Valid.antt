@@ -6,8 +6,8 @@ use Rattle.std.proofs.Math.Decide.{ℕ_discrete}
 use Rattle.cqf.specs.Bounded.{any_to}
 use Rattle.cqf.specs.Limits.{port_slots, flow_slots, top_ok}
 use Rattle.cqf.specs.Plan.{Plan, present, valid_port, valid_flow, valid_plan}
-use Rattle.cqf.specs.laws.Bounded.{all_to-every, any_to_some}
-use Rattle.cqf.specs.laws.Route.{port_in_there}
+use Rattle.cqf.proofs.laws.Bounded.{all_to-every, any_to_some}
+use Rattle.cqf.proofs.laws.Route.{port_in_there}
 use Rattle.plan.specs.Bytes.{tag_at, value_at}
 use Rattle.cqf.specs.Form.{Form}
 use Rattle.plan.specs.Layout.{form_by}

@@ -2,7 +2,7 @@ use mathlib.Core.Path.{◌≡◌, sym, ◌∙◌}
 use mathlib.Core.Bool.{true}
 use native.Mathlib.Omega.{arith}
 use Rattle.cqf.specs.Condition.{fails}
-use Rattle.cqf.specs.laws.Ranges.{top_most, extra_most}
+use Rattle.cqf.proofs.laws.Ranges.{top_most, extra_most}
 use Rattle.numbers.specs.Clock.{clock_of}
 use Rattle.tables.specs.Columns.{plan_by}
 use Rattle.questions.specs.laws.LeanSearch.{reached_start, reached_first, reached_least, reached_further, reached_next, reached_above}

@@ -9,7 +9,7 @@ use borrow.Author.Rules.{rules}
 use Rattle.cqf.specs.Bounded.{elem, sublist}
 use Rattle.cqf.specs.Limits.{port_slots}
 use Rattle.cqf.specs.Port.{bits_of}
-use Rattle.cqf.specs.laws.Route.{next-port}
+use Rattle.cqf.proofs.laws.Route.{next-port}
 use Rattle.tables.specs.Columns.{Marked}
 use Rattle.tables.specs.laws.Marks.{mark_none, mark_next, unmarked}
 use Rattle.questions.proofs.demand.add_route.Statement.{statement}

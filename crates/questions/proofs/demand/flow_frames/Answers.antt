@@ -4,7 +4,7 @@ use Prim.Native.Nat.{ℕ, ◌*◌, ◌≤◌}
 use native.Mathlib.Nat.{mul-le-mul}
 use native.Mathlib.Omega.{arith}
 use Rattle.cqf.specs.Overflow.{most_begun}
-use Rattle.cqf.specs.laws.Begun.{begun_most}
+use Rattle.cqf.proofs.laws.Begun.{begun_most}
 use Rattle.questions.proofs.demand.flow_frames.Goals as goal
 
 pub overflow_mul-result : goal.overflow_mul-result

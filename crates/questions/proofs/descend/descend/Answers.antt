@@ -3,8 +3,8 @@ use Prim.Native.Nat.{max}
 use native.Mathlib.Numerals.{add-one}
 use native.Mathlib.Omega.{arith}
 use Rattle.cqf.specs.Need.{largest_need}
-use Rattle.cqf.specs.laws.Ranges.{extra_most}
-use Rattle.cqf.specs.laws.Search.{descent_start}
+use Rattle.cqf.proofs.laws.Ranges.{extra_most}
+use Rattle.cqf.proofs.laws.Search.{descent_start}
 use Rattle.numbers.specs.Clock.{clock_of}
 use Rattle.tables.specs.Columns.{plan_by}
 use Rattle.questions.specs.laws.Sums.{slot_in_range}

@@ -3,7 +3,7 @@ use mathlib.Core.Path.{◌≡◌}
 use Prim.Native.Nat.{suc}
 use lib.ListN.{length}
 use Rattle.cqf.specs.Limits.{port_slots}
-use Rattle.cqf.specs.laws.Search.{Descended}
+use Rattle.cqf.proofs.laws.Search.{Descended}
 use Rattle.numbers.specs.Clock.{clock_of}
 use Rattle.tables.specs.Columns.{plan_by}
 use Rattle.questions.proofs.descend.descend.Given as goal

@@ -2,7 +2,7 @@
 use mathlib.Core.Path.{◌∙◌}
 use native.Mathlib.Nat.{le_refl}
 use native.Mathlib.Omega.{arith}
-use Rattle.cqf.specs.laws.Ranges.{top_positive, extra_most}
+use Rattle.cqf.proofs.laws.Ranges.{top_positive, extra_most}
 use Rattle.numbers.specs.Clock.{clock_of}
 use Rattle.tables.specs.Columns.{plan_by}
 use Rattle.questions.specs.laws.Sums.{slot_in_range}

@@ -6,7 +6,7 @@ use native.Mathlib.Omega.{arith}
 use Rattle.cqf.specs.Limits.{port_slots}
 use Rattle.cqf.specs.Plan.{Plan}
 use Rattle.cqf.specs.Condition.{crossed}
-use Rattle.cqf.specs.laws.HighestCrossed.{highest_is, highest_none}
+use Rattle.cqf.proofs.laws.HighestCrossed.{highest_is, highest_none}
 use Rattle.questions.specs.PortSearch.{routes_only}
 use Rattle.questions.proofs.highest.highest_slot.Goals as goal
 

@@ -5,8 +5,8 @@ use Rattle.cqf.specs.Bounded.{any_to}
 use Rattle.cqf.specs.Limits.{flow_slots}
 use Rattle.cqf.specs.Plan.{crosses}
 use Rattle.cqf.specs.Condition.{crossed}
-use Rattle.cqf.specs.laws.Bounded.{any_to_some}
-use Rattle.cqf.specs.laws.Bounds.{any_to-next}
+use Rattle.cqf.proofs.laws.Bounded.{any_to_some}
+use Rattle.cqf.proofs.laws.Bounds.{any_to-next}
 use Rattle.questions.specs.PortSearch.{routes_only}
 use Rattle.questions.proofs.highest.is_crossed.Goals as goal
 

@@ -2,7 +2,7 @@ use mathlib.Core.Path.{◌≡◌, refl, sym, subst, ◌∙◌}
 use Prim.Native.Nat.{◌<◌}
 use native.Mathlib.Omega.{arith}
 use Rattle.cqf.specs.Need.{largest_need}
-use Rattle.cqf.specs.laws.Ranges.{extra_most}
+use Rattle.cqf.proofs.laws.Ranges.{extra_most}
 use Rattle.numbers.specs.Clock.{clock_of}
 use Rattle.tables.specs.Columns.{plan_by}
 use Rattle.questions.specs.laws.Sums.{slot_in_range}

@@ -5,7 +5,7 @@ use Rattle.cqf.specs.Limits.{port_slots}
 use Rattle.cqf.specs.Plan.{rate_of, blocking_of, extra_of}
 use Rattle.cqf.specs.Port.{fails_by_of}
 use Rattle.cqf.specs.Condition.{fails}
-use Rattle.cqf.specs.laws.Ranges.{top_positive, top_most, extra_most}
+use Rattle.cqf.proofs.laws.Ranges.{top_positive, top_most, extra_most}
 use Rattle.numbers.specs.Clock.{clock_of}
 use Rattle.tables.specs.Columns.{plan_by}
 use Rattle.questions.specs.Failing.{set_to}

@@ -6,8 +6,8 @@ use native.Mathlib.Omega.{arith}
 use lib.ListN.{length}
 use Rattle.cqf.specs.Condition.{demand}
 use Rattle.cqf.specs.PortSteps.{highest_crossed}
-use Rattle.cqf.specs.laws.HighestCrossed.{highest_slot}
-use Rattle.cqf.specs.laws.Ranges.{extra_most}
+use Rattle.cqf.proofs.laws.HighestCrossed.{highest_slot}
+use Rattle.cqf.proofs.laws.Ranges.{extra_most}
 use Rattle.numbers.specs.Clock.{clock_of}
 use Rattle.tables.specs.Columns.{plan_by}
 use Rattle.questions.specs.Search.{wanted, none_number}

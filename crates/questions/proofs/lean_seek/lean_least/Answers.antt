@@ -1,5 +1,5 @@
 use native.Mathlib.Omega.{arith}
-use Rattle.cqf.specs.laws.Ranges.{top_most}
+use Rattle.cqf.proofs.laws.Ranges.{top_most}
 use Rattle.numbers.specs.Clock.{clock_of}
 use Rattle.tables.specs.Columns.{plan_by}
 use Rattle.questions.specs.laws.LeanSearch.{reached_start, reached_first, reached_least, reached_stays, turn_start, turn_next, turn_all, LeftTurn, all, further, left_further, left_next, left_above}

@@ -1,5 +1,5 @@
 use native.Mathlib.Omega.{arith}
-use Rattle.cqf.specs.laws.Ranges.{top_positive}
+use Rattle.cqf.proofs.laws.Ranges.{top_positive}
 use Rattle.numbers.specs.Clock.{clock_of}
 use Rattle.tables.specs.Columns.{plan_by}
 use Rattle.questions.specs.laws.LeanSearch.{safe_start, safe_first, safe_within, safe_next, safe_all, safe_above}

@@ -4,7 +4,7 @@ use native.Mathlib.Omega.{arith}
 use borrow.Author.Rules.{rules}
 use Rattle.cqf.specs.Bounded.{max_to}
 use Rattle.cqf.specs.Limits.{port_slots}
-use Rattle.cqf.specs.laws.Bounds.{max_to-next}
+use Rattle.cqf.proofs.laws.Bounds.{max_to-next}
 use Rattle.questions.proofs.need.largest_need.Goals as goal
 
 pub loop-q-init : goal.loop-q-init

@@ -1,5 +1,5 @@
 -- `questions::need_at::need_into` meets its contract: the demands are those of the duration, and the need is the largest of them.
-use Rattle.cqf.specs.laws.Ranges.{extra_most}
+use Rattle.cqf.proofs.laws.Ranges.{extra_most}
 use Rattle.numbers.specs.Clock.{clock_of}
 use Rattle.tables.specs.Columns.{plan_by}
 use Rattle.questions.specs.laws.Sums.{slot_in_range}

@@ -8,7 +8,7 @@ use Rattle.cqf.specs.Plan.{Plan}
 use Rattle.cqf.specs.Condition.{admissible}
 use Rattle.cqf.specs.Need.{least_from}
 use Rattle.cqf.specs.FixedPoint.{LeastAdmissible}
-use Rattle.cqf.specs.laws.LeastFrom.{least_from_admissible}
+use Rattle.cqf.proofs.laws.LeastFrom.{least_from_admissible}
 use Rattle.span_lists.specs.Span.{Span, last_from}
 use Rattle.numbers.specs.Clock.{clock_of}
 use Rattle.tables.specs.Columns.{plan_by}

@@ -5,7 +5,7 @@ use native.Mathlib.Omega.{arith}
 use borrow.Author.Rules.{rules}
 use Rattle.cqf.specs.Port.{bits_of}
 use Rattle.cqf.specs.Condition.{frames_by}
-use Rattle.cqf.specs.laws.Demand.{flow_bits_most}
+use Rattle.cqf.proofs.laws.Demand.{flow_bits_most}
 use Rattle.questions.proofs.port_demand.flow_bits.Statement.{statement}
 use Rattle.questions.proofs.port_demand.flow_bits.Tie as tie
 

@@ -8,7 +8,7 @@ use Rattle.cqf.specs.Limits.{flow_slots}
 use Rattle.cqf.specs.Overflow.{most_widened}
 use Rattle.cqf.specs.Plan.{equal_clocks}
 use Rattle.cqf.specs.Widened.{widened}
-use Rattle.cqf.specs.laws.Demand.{demand_sum}
+use Rattle.cqf.proofs.laws.Demand.{demand_sum}
 use Rattle.numbers.specs.Clock.{clock_of}
 use Rattle.tables.specs.Columns.{columns}
 use Rattle.questions.specs.laws.Widened.{aligned-widened, demand-widened}

@@ -5,7 +5,7 @@ use Prim.Native.Nat.{◌-◌, ◌≤◌}
 use Rattle.cqf.specs.Bounded.{sum_to}
 use Rattle.cqf.specs.Limits.{flow_slots}
 use Rattle.cqf.specs.Plan.{equal_clocks}
-use Rattle.cqf.specs.laws.Demand.{share}
+use Rattle.cqf.proofs.laws.Demand.{share}
 use Rattle.tables.specs.Columns.{columns}
 use Rattle.questions.proofs.port_demand.port_demand.Given as goal
 

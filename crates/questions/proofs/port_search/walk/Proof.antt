@@ -4,7 +4,7 @@ use mathlib.Core.Bool.{true}
 use native.Mathlib.Omega.{arith}
 use Rattle.cqf.specs.Plan.{Plan}
 use Rattle.cqf.specs.Need.{need}
-use Rattle.cqf.specs.laws.Ranges.{extra_most}
+use Rattle.cqf.proofs.laws.Ranges.{extra_most}
 use Rattle.numbers.specs.Clock.{clock_of}
 use Rattle.tables.specs.Columns.{plan_by}
 use Rattle.questions.specs.laws.FlowSets.{crossing_countable, crossing_need, crossing_served}

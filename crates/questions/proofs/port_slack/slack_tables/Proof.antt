@@ -14,7 +14,7 @@ use Rattle.cqf.specs.Overflow.{most_widened, most_demand}
 use Rattle.cqf.specs.Plan.{Plan, rate_of, blocking_of, extra_of, valid_plan}
 use Rattle.cqf.specs.Widened.{widened_by}
 use Rattle.cqf.specs.Condition.{demand}
-use Rattle.cqf.specs.laws.Ranges.{top_most, extra_most}
+use Rattle.cqf.proofs.laws.Ranges.{top_most, extra_most}
 use Rattle.plan_reading.specs.laws.fields.Within.{within_low, within_high, slot_below}
 use Rattle.numbers.specs.Clock.{clock_of}
 use Rattle.tables.specs.Columns.{plan_by}

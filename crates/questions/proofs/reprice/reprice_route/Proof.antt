@@ -14,8 +14,8 @@ use Rattle.cqf.specs.Plan.{Plan, period_of, count_of, length_of, jitter_of, hops
 use Rattle.cqf.specs.Condition.{demand, slack}
 use Rattle.cqf.specs.Overflow.{most_demand}
 use Rattle.cqf.specs.Reprice.{with_length, replaced, repriced}
-use Rattle.cqf.specs.laws.Route.{next-port}
-use Rattle.cqf.specs.laws.Replaced.{replaced-none}
+use Rattle.cqf.proofs.laws.Route.{next-port}
+use Rattle.cqf.proofs.laws.Replaced.{replaced-none}
 use Rattle.numbers.specs.Clock.{clock_of}
 use Rattle.tables.specs.Columns.{plan_by, FlowInRange}
 use Rattle.questions.specs.laws.Sums.{elem_here}

@@ -11,8 +11,8 @@ use borrow.Author.Rules.{rules}
 use Rattle.cqf.specs.Bounded.{within}
 use Rattle.cqf.specs.Limits.{port_slots, flow_slots, max_length, length_ok, flow_ok}
 use Rattle.cqf.specs.Plan.{Plan, period_of, present, valid_plan}
-use Rattle.cqf.specs.laws.Ranges.{top_most, extra_most}
-use Rattle.cqf.specs.laws.RepriceValid.{length_slot}
+use Rattle.cqf.proofs.laws.Ranges.{top_most, extra_most}
+use Rattle.cqf.proofs.laws.RepriceValid.{length_slot}
 use Rattle.plan_reading.specs.laws.fields.Within.{within_low, within_high, slot_below}
 use Rattle.numbers.specs.Clock.{clock_of}
 use Rattle.tables.specs.Columns.{plan_by}

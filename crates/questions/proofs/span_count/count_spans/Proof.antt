@@ -5,7 +5,7 @@ use native.Mathlib.Numerals.{add-one}
 use native.Mathlib.Omega.{arith}
 use lib.ListN.{length}
 use Rattle.cqf.specs.Plan.{Plan}
-use Rattle.cqf.specs.laws.Ranges.{top_most}
+use Rattle.cqf.proofs.laws.Ranges.{top_most}
 use Rattle.span_lists.specs.Span.{spans}
 use Rattle.numbers.specs.Clock.{clock_of}
 use Rattle.tables.specs.Columns.{plan_by}

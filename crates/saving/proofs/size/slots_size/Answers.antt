@@ -6,7 +6,7 @@ use native.Mathlib.Omega.{arith}
 use Rattle.cqf.specs.Bounded.{sum_to}
 use Rattle.cqf.specs.Limits.{flow_slots}
 use Rattle.cqf.specs.Plan.{Plan}
-use Rattle.cqf.specs.laws.Bounds.{sum_to_most}
+use Rattle.cqf.proofs.laws.Bounds.{sum_to_most}
 use Rattle.numbers.specs.Clock.{clock_of}
 use Rattle.tables.specs.Columns.{columns}
 use Rattle.saving.specs.declared.kind.Kind.{Kind}

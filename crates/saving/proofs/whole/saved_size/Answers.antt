@@ -7,7 +7,7 @@ use Rattle.cqf.specs.Bounded.{sum_to}
 use Rattle.cqf.specs.Form.{Form}
 use Rattle.cqf.specs.Limits.{flow_slots}
 use Rattle.cqf.specs.Plan.{Plan}
-use Rattle.cqf.specs.laws.Bounds.{sum_to_most}
+use Rattle.cqf.proofs.laws.Bounds.{sum_to_most}
 use Rattle.numbers.specs.Clock.{clock_of}
 use Rattle.plan.specs.Answer.{form_of}
 use Rattle.tables.specs.Columns.{columns}

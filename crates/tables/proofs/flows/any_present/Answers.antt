@@ -8,8 +8,8 @@ use borrow.Author.Rules.{rules}
 use borrow.Author.Tests.{lt-ltb}
 use Rattle.cqf.specs.Bounded.{any_to}
 use Rattle.cqf.specs.Limits.{flow_slots}
-use Rattle.cqf.specs.laws.Bounded.{any_to_some}
-use Rattle.cqf.specs.laws.Bounds.{any_to-next}
+use Rattle.cqf.proofs.laws.Bounded.{any_to_some}
+use Rattle.cqf.proofs.laws.Bounds.{any_to-next}
 use Rattle.tables.proofs.flows.any_present.Goals as goal
 
 pub loop-f-init : goal.loop-f-init

@@ -7,7 +7,7 @@ use lib.ListN.{get_or}
 use borrow.Author.Rules.{rules}
 use Rattle.cqf.specs.Limits.{max_hops}
 use Rattle.cqf.specs.Plan.{equal_clocks}
-use Rattle.cqf.specs.laws.Slot.{slot_count, slot_length, slot_jitter, slot_hops, slot_range, slot_route, ranged_hops}
+use Rattle.cqf.proofs.laws.Slot.{slot_count, slot_length, slot_jitter, slot_hops, slot_range, slot_route, ranged_hops}
 use Rattle.tables.specs.Columns.{columns}
 use Rattle.tables.proofs.flows.valid_flow.Statement.{statement}
 use Rattle.tables.proofs.flows.valid_flow.Tie as tie

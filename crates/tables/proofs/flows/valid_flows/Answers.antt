@@ -3,7 +3,7 @@ use native.Mathlib.Omega.{arith}
 use borrow.Author.Rules.{rules}
 use Rattle.cqf.specs.Bounded.{all_to}
 use Rattle.cqf.specs.Limits.{flow_slots}
-use Rattle.cqf.specs.laws.Bounds.{all_to-next, all_to_false}
+use Rattle.cqf.proofs.laws.Bounds.{all_to-next, all_to_false}
 use Rattle.tables.proofs.flows.valid_flows.Goals as goal
 
 pub loop-f-init : goal.loop-f-init

@@ -6,8 +6,8 @@ use native.Mathlib.Omega.{arith}
 use lib.ListN.{get_or, length-set, get_or-replicate}
 use Rattle.cqf.specs.Bounded.{all_to, elem, every, distinct, sublist}
 use Rattle.cqf.specs.Plan.{port_in}
-use Rattle.cqf.specs.laws.Bounds.{all_to-next, all_to_false}
-use Rattle.cqf.specs.laws.Route.{route_test, port_in_low, port_in_high, port_in_absent, port_in_there}
+use Rattle.cqf.proofs.laws.Bounds.{all_to-next, all_to_false}
+use Rattle.cqf.proofs.laws.Route.{route_test, port_in_low, port_in_high, port_in_absent, port_in_there}
 use Rattle.tables.specs.laws.Marks.{mark_next, marked_new, marked_again}
 use Rattle.tables.proofs.flows.valid_route.Invariants.{passes}
 use Rattle.tables.proofs.flows.valid_route.Goals as goal

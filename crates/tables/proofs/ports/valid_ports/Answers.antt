@@ -4,7 +4,7 @@ use borrow.Author.Rules.{rules}
 use Rattle.cqf.specs.Bounded.{all_to}
 use Rattle.cqf.specs.Limits.{port_slots}
 use Rattle.cqf.specs.Plan.{valid_port}
-use Rattle.cqf.specs.laws.Bounds.{all_to-next, all_to_false}
+use Rattle.cqf.proofs.laws.Bounds.{all_to-next, all_to_false}
 use Rattle.tables.proofs.ports.valid_ports.Goals as goal
 
 pub loop-q-init : goal.loop-q-init

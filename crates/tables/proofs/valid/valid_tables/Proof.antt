@@ -2,7 +2,7 @@
 use mathlib.Core.Path.{refl, sym, ◌∙◌}
 use mathlib.Core.Bool.{and-false}
 use Rattle.cqf.specs.Plan.{Plan, valid_port, valid_flow}
-use Rattle.cqf.specs.laws.Valid.{valid_by}
+use Rattle.cqf.proofs.laws.Valid.{valid_by}
 use Rattle.numbers.specs.Clock.{clock_of}
 use Rattle.tables.specs.Columns.{plan_by}
 use Rattle.tables.proofs.valid.valid_tables.Statement.{statement}

@@ -1,0 +1,4 @@
+-- Laws of the definitions, theorems, and examples worked out.
+pub mod laws
+pub mod results
+pub mod worked
