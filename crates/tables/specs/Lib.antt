@@ -2,3 +2,4 @@
 pub mod Columns
 pub mod Tables
 pub mod laws
+pub mod Lent

@@ -4,7 +4,7 @@ ghost use Rattle.cqf.specs.Bounded.{all_to};
 ghost use Rattle.cqf.specs.Limits.{flow_slots};
 ghost use Rattle.cqf.specs.Form.{form_from, most_hops_in, held_top};
 
-use crate::{FLOWS, columns};
+use crate::columns;
 
 // Forms are numbered from 0.
 const FORMS: u32 = 2;
@@ -26,12 +26,10 @@ fn hops_within(hops: &columns::Hops, most: u8) -> bool
     ensures { result ≡ all_to flow_slots (λ f. leb (get_or hops.now f 0) most) }
 {
     let mut within = true;
-    let mut f: usize = 0;
-    while f < FLOWS {
-        if most < hops[f] {
+    for count in hops.iter() {
+        if most < *count {
             within = false;
         }
-        f += 1;
     }
     within
 }
@@ -39,10 +37,7 @@ fn hops_within(hops: &columns::Hops, most: u8) -> bool
 pub fn held_top(form: u32, hops: &columns::Hops, top: u32) -> u32
     ensures { result ≡ held_top form hops.now top }
 {
-    if FORMS <= form {
-        return 0;
-    }
-    if !hops_within(hops, most_hops(form)) {
+    if FORMS <= form || !hops_within(hops, most_hops(form)) {
         return 0;
     }
     top

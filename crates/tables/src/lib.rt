@@ -15,12 +15,14 @@ pub const FLOWS: usize = numbers::limits::MAX_FLOW as usize;
 pub const STRIDE: usize = 24;
 
 pub mod columns; // columns.rt: the type of each column
+mod lending; // lending.rt: the tables lent column by column, and those that hold a plan
 mod valid; // valid.rt: whether the tables hold a plan that the rules accept
 mod forms; // forms.rt: the top by the form
 mod ports; // ports.rt: the slots of the ports
 mod flows; // flows.rt: the slots of the flows
 
 pub use forms::held_top;
+pub use lending::{Held, Lent, hold};
 pub use valid::valid_tables;
 
 // The held plan: port n in slot n - 1, flow n in slot n - 1, a flow's route at its slot times the stride. An absent port has rate 0,

@@ -11,6 +11,7 @@ use Rattle.cqf.proofs.laws.Route.{route_test, port_in_low, port_in_high, port_in
 use Rattle.tables.specs.laws.Marks.{mark_next, marked_new, marked_again}
 use Rattle.tables.proofs.flows.valid_route.Invariants.{passes}
 use Rattle.tables.proofs.flows.valid_route.Goals as goal
+use Rattle.tables.proofs.flows.valid_route.Goals.{then-n-lt1-via-then-n-lt1, then-n-lt1-via-else-n-lt1+then-n-gt-LAST_PORT, then-rates-q-eq0-via-then-rates-q-eq0, then-rates-q-eq0-via-else-rates-q-eq0+then-seen-q-ne0}
 
 -- one port that fails the test makes the route invalid
 module _ (rates routes : List ℕ) (base hops i : ℕ) (within : i < hops) where
@@ -29,59 +30,45 @@ module _ (rates routes : List ℕ) (base hops i : ℕ) (within : i < hops) where
 
 pub loop-i-init : goal.loop-i-init
 unfolding all_to elem sublist
-loop-i-init c = (omega arith, refl, refl, λ q h. get_or-replicate 64 q 0 0 h)
+loop-i-init c = (refl, refl, λ q h. get_or-replicate 64 q 0 0 h)
 
 pub returns-then-n-lt1 : goal.returns-then-n-lt1
 returns-then-n-lt1 c =
-    let at = c.before.before.before in
-    let a = at.args in
-    outside a.rates.now a.routes.now a.base a.hops at.loop-i.i (omega arith)
-    (port_in_low a.rates.now _ c.if-n-lt1.true)
-
-pub returns-then-n-gt-LAST_PORT : goal.returns-then-n-gt-LAST_PORT
-returns-then-n-gt-LAST_PORT c =
-    let at = c.before.before.before.before in
-    let a = at.args in
-    outside a.rates.now a.routes.now a.base a.hops at.loop-i.i (omega arith)
-    (port_in_high a.rates.now _ c.if-n-gt-LAST_PORT.true)
-
-pub overflow_cast-q : goal.overflow_cast-q
-overflow_cast-q c = omega arith
-
-pub overflow_sub-q : goal.overflow_sub-q
-overflow_sub-q c = omega arith
+    let a = c.args in
+    outside a.rates.now a.routes.now a.base a.hops c.loop-i.i c.loop-i-test.true
+    (elim c.then-n-lt1.branch [
+      | then-n-lt1-via-then-n-lt1 w ↦ port_in_low a.rates.now _ w.if-n-lt1.true
+      | then-n-lt1-via-else-n-lt1+then-n-gt-LAST_PORT w ↦ port_in_high a.rates.now _ w.if-n-gt-LAST_PORT.true
+    ])
 
 pub returns-then-rates-q-eq0 : goal.returns-then-rates-q-eq0
 returns-then-rates-q-eq0 c =
-    let at = c.before.before.before.before.before.before in
-    let a = at.args in
-    outside a.rates.now a.routes.now a.base a.hops at.loop-i.i (omega arith)
-    (port_in_absent a.rates.now (get_or a.routes.now (a.base + at.loop-i.i) 0) (omega arith) c.if-rates-q-eq0.true)
-
-pub returns-then-seen-q-ne0 : goal.returns-then-seen-q-ne0
-returns-then-seen-q-ne0 c =
-    let at = c.before.before.before.before.before.before.before in
-    let a = at.args in
-    let n = get_or a.routes.now (a.base + at.loop-i.i) 0 in
-    twice a.rates.now a.routes.now a.base a.hops at.loop-i.i (omega arith)
-    (marked_again at.loop-i.seen (sublist a.routes.now a.base at.loop-i.i) n at.loop-i.invariant.3 (omega arith) (omega arith) c.if-seen-q-ne0.true)
+    let a = c.args in
+    let i = c.loop-i.i in
+    let n = get_or a.routes.now (a.base + i) 0 in
+    elim c.then-rates-q-eq0.branch [
+      | then-rates-q-eq0-via-then-rates-q-eq0 w ↦
+          outside a.rates.now a.routes.now a.base a.hops i c.loop-i-test.true
+          (port_in_absent a.rates.now n c.if-n-lt1.false w.if-rates-q-eq0.true)
+      | then-rates-q-eq0-via-else-rates-q-eq0+then-seen-q-ne0 w ↦
+          twice a.rates.now a.routes.now a.base a.hops i c.loop-i-test.true
+          (marked_again c.loop-i.seen (sublist a.routes.now a.base i) n c.loop-i.invariant.2 c.if-n-lt1.false c.if-n-gt-LAST_PORT.false w.if-seen-q-ne0.true)
+    ]
 
 pub loop-i-preserved : goal.loop-i-preserved
 loop-i-preserved c =
-    let at = c.before.before.before.before.before.before.before in
-    let a = at.args in
-    let n = get_or a.routes.now (a.base + at.loop-i.i) 0 in
-    let r = sublist a.routes.now a.base at.loop-i.i in
-    let new : elem n r ≡ false = marked_new at.loop-i.seen r n at.loop-i.invariant.3 (omega arith) (omega arith) c.if-seen-q-ne0.false in
+    let a = c.args in
+    let i = c.loop-i.i in
+    let n = get_or a.routes.now (a.base + i) 0 in
+    let r = sublist a.routes.now a.base i in
+    let new : elem n r ≡ false = marked_new c.loop-i.seen r n c.loop-i.invariant.2 c.if-n-lt1.false c.if-n-gt-LAST_PORT.false c.if-seen-q-ne0.false in
     let there : port_in a.rates.now n ≡ true = port_in_there a.rates.now n (omega arith) (omega arith) c.if-rates-q-eq0.false in (
-      omega arith,
-      simp length-set at.loop-i.invariant.1,
-      all_to-next at.loop-i.i (passes a.rates.now a.routes.now a.base) at.loop-i.invariant.2 (rw (there, new)),
-      mark_next [] at.loop-i.seen a.routes.now a.base at.loop-i.i (λ _. 1) 1 at.loop-i.invariant.3 (omega arith) (omega arith) new refl,
+      simp length-set c.loop-i.invariant.0,
+      all_to-next i (passes a.rates.now a.routes.now a.base) c.loop-i.invariant.1 (rw (there, new)),
+      mark_next [] c.loop-i.seen a.routes.now a.base i (λ _. 1) 1 c.loop-i.invariant.2 c.if-n-lt1.false (omega arith) new refl,
     )
 
 pub returns : goal.returns
 returns c =
-    let at = c.before in
-    let all : at.loop-i.i ≡ at.args.hops = omega arith in
-    sym (route_test _ _ _ at.args.hops ∙ (rw all at at.loop-i.invariant.2))
+    let all : c.loop-i.i ≡ c.args.hops = omega arith in
+    sym (route_test _ _ _ c.args.hops ∙ (rw all at c.loop-i.invariant.1))

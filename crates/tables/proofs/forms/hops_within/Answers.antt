@@ -1,14 +1,12 @@
 use mathlib.Core.Path.{◌≡◌, refl, sym, ◌∙◌}
 use mathlib.Core.Bool.{Bool, true, false, ◌&&◌}
 use Prim.Native.Nat.{ℕ, ◌+◌}
-use native.Mathlib.Omega.{arith}
 use native.Mathlib.Numerals.{add-one}
 use borrow.Author.Rules.{rules}
 use borrow.Author.Tests.{le-leb, lt-leb}
 use Rattle.cqf.specs.Bounded.{all_to}
-use Rattle.cqf.specs.Limits.{flow_slots}
 use Rattle.tables.proofs.forms.hops_within.Goals as goal
-use Rattle.tables.proofs.forms.hops_within.Goals.{then-most-hops, else-most-hops}
+use Rattle.tables.proofs.forms.hops_within.Goals.{then-most-count, else-most-count}
 
 and_false : (b : Bool) → b && false ≡ false
 and_false true = refl
@@ -27,21 +25,14 @@ next_true : (n : ℕ) (b : ℕ → Bool) {within : Bool} → within ≡ all_to n
 unfolding all_to
 next_true n b is e = is ∙ rw (add-one n, e) (sym (and_true (all_to n b)))
 
-pub loop-f-init : goal.loop-f-init
+pub loop-count-init : goal.loop-count-init
 unfolding all_to
-loop-f-init c = search rules
+loop-count-init c = search rules
 
-pub loop-f-preserved : goal.loop-f-preserved
-loop-f-preserved c =
-    let at = c.loop-f in (
-      omega arith,
-      elim c.if-most-hops.branch [
-        | then-most-hops w ↦ w.within-is ∙ next_false at.f _ (lt-leb _ _ w.if-most-hops.true)
-        | else-most-hops w ↦ w.within-is ∙ next_true at.f _ at.invariant.1 (le-leb _ _ w.if-most-hops.false)
-      ],
-    )
-
-pub returns : goal.returns
-returns c =
-    let all : c.loop-f.f ≡ flow_slots = omega arith in
-    rw all at c.loop-f.invariant.1
+pub loop-count-preserved : goal.loop-count-preserved
+loop-count-preserved c =
+    let at = c.loop-count in
+    elim c.if-most-count.branch [
+      | then-most-count w ↦ w.within-is ∙ next_false at.count-index _ (lt-leb _ _ w.if-most-count.true)
+      | else-most-count w ↦ w.within-is ∙ next_true at.count-index _ at.invariant (le-leb _ _ w.if-most-count.false)
+    ]

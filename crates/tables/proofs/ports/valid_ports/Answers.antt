@@ -1,4 +1,4 @@
-use mathlib.Core.Path.{◌≡◌, sym, ◌∙◌}
+use mathlib.Core.Path.{sym, ◌∙◌}
 use native.Mathlib.Omega.{arith}
 use borrow.Author.Rules.{rules}
 use Rattle.cqf.specs.Bounded.{all_to}
@@ -14,18 +14,8 @@ loop-q-init c = search rules
 pub returns-then-not-valid_port : goal.returns-then-not-valid_port
 unfolding valid_port
 returns-then-not-valid_port c =
-    let q = c.loop-q.q in
-    sym (all_to_false port_slots _ q (omega arith) (sym c.valid_port.ensures ∙ c.if-not-valid_port.true))
+    sym (all_to_false port_slots _ c.loop-q.q (omega arith) (sym c.valid_port.ensures ∙ c.if-not-valid_port.true))
 
 pub loop-q-preserved : goal.loop-q-preserved
 unfolding valid_port
-loop-q-preserved c =
-    let at = c.before.before.before.before.before.before in (
-      omega arith,
-      all_to-next at.loop-q.q _ at.loop-q.invariant.1 (sym c.valid_port.ensures ∙ c.if-not-valid_port.false),
-    )
-
-pub returns : goal.returns
-returns c =
-    let all : c.loop-q.q ≡ port_slots = omega arith in
-    sym (rw all at c.loop-q.invariant.1)
+loop-q-preserved c = all_to-next c.loop-q.q _ c.loop-q.invariant (sym c.valid_port.ensures ∙ c.if-not-valid_port.false)

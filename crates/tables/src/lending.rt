@@ -1,0 +1,74 @@
+// The tables lent column by column, and those of them that hold a plan.
+ghost use Rattle.std.specs.Prelude.{◌≡◌, true, false, MatchOption};
+ghost use Rattle.cqf.specs.Plan.{valid_plan};
+ghost use Rattle.tables.specs.Columns.{plan_by};
+ghost use Rattle.tables.specs.Lent.{plan_lent, LentOf};
+
+use crate::{Planner, columns, valid_tables};
+use numbers::clock::Clock;
+
+// The numbers and the columns of a planner, or of a caller that has them apart.
+#[derive(Clone, Copy)]
+pub struct Lent<'a> {
+    pub guard: u32,
+    pub top: u32,
+    pub clock: Clock,
+    pub rates: &'a columns::Rates,
+    pub blockings: &'a columns::Blockings,
+    pub extras: &'a columns::Extras,
+    pub periods: &'a columns::Periods,
+    pub counts: &'a columns::Counts,
+    pub lengths: &'a columns::Lengths,
+    pub jitters: &'a columns::Jitters,
+    pub hops: &'a columns::Hops,
+    pub routes: &'a columns::Routes,
+}
+
+// Tables that hold a plan which the rules accept.
+#[derive(Clone, Copy)]
+pub struct Held<'a> {
+    pub lent: Lent<'a>,
+    ghost valid: { valid_plan (plan_lent lent) ≡ true },
+}
+
+impl<'a> Lent<'a> {
+    // The same tables under another top.
+    pub fn upto(self, top: u32) -> Lent<'a>
+        ensures { result ≡ record self.entry { top = top } }
+    {
+        Lent { top, ..self }
+    }
+}
+
+impl Planner {
+    pub fn lend<'a>(&'a self) -> Lent<'a>
+        ensures { LentOf self.now result }
+    {
+        Lent {
+            guard: self.guard,
+            top: self.top,
+            clock: self.clock,
+            rates: &self.rates,
+            blockings: &self.blockings,
+            extras: &self.extras,
+            periods: &self.periods,
+            counts: &self.counts,
+            lengths: &self.lengths,
+            jitters: &self.jitters,
+            hops: &self.hops,
+            routes: &self.routes,
+        }
+    }
+}
+
+// The tables, where they hold a plan.
+pub fn hold<'a>(lent: Lent<'a>) -> Option<Held<'a>>
+    ensures { MatchOption result (valid_plan (plan_lent lent.entry) ≡ false)
+        (λ held. held.lent ≡ lent.entry) }
+{
+    if valid_tables(lent) {
+        Some(Held { lent })
+    } else {
+        None
+    }
+}
