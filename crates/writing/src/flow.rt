@@ -37,11 +37,9 @@ pub fn put_route(out: &mut [u8], route: &[u8])
     if out.len() / HOP_SIZE < hops {
         return;
     }
-    let mut i: usize = 0;
-    while i < hops {
+    for i in 0..hops {
         let at = HOP_SIZE * i;
-        put2(&mut out[at..], route[i] as u16);
-        i += 1;
+        put2(&mut out[at..], u16::from(route[i]));
     }
 }
 

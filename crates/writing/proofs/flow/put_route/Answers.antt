@@ -18,7 +18,7 @@ returns-then-out-hops c =
 
 pub loop-i-init : goal.loop-i-init
 unfolding bytes2s
-loop-i-init c = (omega arith, refl, refl)
+loop-i-init c = (refl, refl)
 
 pub loop-i-preserved : goal.loop-i-preserved
 loop-i-preserved c =
@@ -29,9 +29,9 @@ loop-i-preserved c =
     let r = a.route.now in
     let e = a.out.now in
     let is =
-    lay_next (bytes2s (take i r)) (bytes2 (get_or r i 0)) e (2 * i) (front_length r i (omega arith)) at.loop-i.invariant.2 (omega arith) written.put2.ensures
+    lay_next (bytes2s (take i r)) (bytes2 (get_or r i 0)) e (2 * i) (front_length r i (omega arith)) at.loop-i.invariant.1 (omega arith) (rw written.from.ensures at written.put2.ensures)
     ∙ ap (λ (bs : List ℕ). over bs e) (sym (route_next r i (omega arith))) in
-    (omega arith, ap length is ∙ over_length (bytes2s (take (i + 1) r)) e (omega (arith, front_length r (i + 1) (omega arith))), is)
+    (ap length is ∙ over_length (bytes2s (take (i + 1) r)) e (omega (arith, front_length r (i + 1) (omega arith))), is)
 
 pub returns : goal.returns
 returns c =
@@ -39,9 +39,6 @@ returns c =
     let a = at.args in
     let r = a.route.now in
     let all : take at.loop-i.i r ≡ r = take_all at.loop-i.i r (omega arith) in
-    at.loop-i.invariant.2
+    at.loop-i.invariant.1
     ∙ ap (λ (l : List ℕ). over (bytes2s l) a.out.now) all
     ∙ sym (laid-over (bytes2s r) a.out.now (omega (arith, ports_length r)))
-
-pub put2-requires : goal.put2-requires
-put2-requires = (λ c. tt)
