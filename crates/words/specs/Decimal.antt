@@ -1,7 +1,7 @@
 -- A number written in decimal digits, as ASCII has them, and the number that the program takes it for.
 use Rattle.std.specs.Prelude.{ℕ, ◌+◌, ◌-◌, ◌*◌, ◌^◌, Bool, cond, ◌&&◌, List, [], ◌∷◌, leb}
 use Rattle.std.proofs.Math.Option.{Option, some, none}
-use Rattle.words.specs.declared.digits.Parsed.{Parsed}
+use Rattle.std.specs.Prelude.{Option as Parsed, Some, None}
 
 abbrev pub zero_digit : ℕ
 zero_digit = 48
@@ -19,21 +19,31 @@ abbrev pub digits_value : List ℕ → Option ℕ
 digits_value [] = none
 digits_value (d ∷ ds) = value_from 0 (d ∷ ds)
 
--- the largest number that is told apart, for any that is larger: one below the largest of 64 bits, which is left for what is no number
+-- the most that is told apart, for any number that is larger
+unfoldable pub capped_at : (most : ℕ) → ℕ → ℕ
+capped_at most n = cond (leb n most) n most
+
+abbrev pub capped_option_at : (most : ℕ) → Option ℕ → Option ℕ
+capped_option_at most (some n) = some (capped_at most n)
+capped_option_at most none = none
+
+unfoldable pub decimal_at : (most : ℕ) → List ℕ → Option ℕ
+unfolding value_from capped_at
+decimal_at most text = capped_option_at most (digits_value text)
+
+-- of a plan's text: one below the largest of 64 bits, which is left for what is no number
 abbrev pub largest : ℕ
 largest = 2 ^ 64 - 2
 
-unfoldable pub capped : ℕ → ℕ
-capped n = cond (leb n largest) n largest
+abbrev pub capped : ℕ → ℕ
+capped n = capped_at largest n
 
 abbrev pub capped_option : Option ℕ → Option ℕ
-capped_option (some n) = some (capped n)
-capped_option none = none
+capped_option o = capped_option_at largest o
 
-unfoldable pub decimal_value : List ℕ → Option ℕ
-unfolding value_from capped
-decimal_value text = capped_option (digits_value text)
+abbrev pub decimal_value : List ℕ → Option ℕ
+decimal_value text = decimal_at largest text
 
-abbrev pub parsed_of : Parsed → Option ℕ
-parsed_of (Parsed.Number n) = some n
-parsed_of Parsed.Malformed = none
+abbrev pub parsed_of : Parsed ℕ → Option ℕ
+parsed_of (Some n) = some n
+parsed_of None = none

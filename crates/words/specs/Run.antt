@@ -1,5 +1,5 @@
 -- Bytes of a kind at the front of a text.
-use Rattle.std.specs.Prelude.{ℕ, suc, Bool, false, cond, List, [], ◌∷◌, eqb}
+use Rattle.std.specs.Prelude.{ℕ, suc, Bool, false, cond, List, [], ◌∷◌}
 
 -- how many of the first bytes pass the test
 unfoldable pub run : (ℕ → Bool) → List ℕ → ℕ

@@ -1,45 +1,30 @@
-// A number written in decimal digits. One that is too large counts as the largest that is told apart: it is out of every range.
+// A number written in decimal digits.
 ghost use Rattle.std.specs.Prelude.{◌≡◌, ◌+◌, ◌*◌, ◌≤◌};
-ghost use Rattle.words.specs.Decimal.{capped, decimal_value, parsed_of};
-
-#[derive(Clone, Copy)]
-pub enum Parsed {
-    Number(u64),
-    Malformed,
-}
-
-const MOST: u64 = 18_446_744_073_709_551_614;
+ghost use Rattle.words.specs.Decimal.{capped_at, decimal_at, parsed_of};
 
 // One digit more.
-fn with_digit(value: u64, digit: u8) -> u64
-    requires { digit ≤ 9 }
-    ensures { result ≡ capped (10 * value + digit) }
+fn with_digit<const MOST: u64>(value: u64, digit: u8) -> u64
+    ensures { result ≡ capped_at MOST (10 * value + digit) }
 {
-    let room = MOST - (digit as u64);
-    if room / 10 < value {
-        return MOST;
-    }
-    10 * value + (digit as u64)
+    value
+        .saturating_mul(10)
+        .saturating_add(digit as u64)
+        .min(MOST)
 }
 
-pub fn decimal(text: &[u8]) -> Parsed
-    ensures { parsed_of result ≡ decimal_value text.now }
+// The number of a text of digits alone, one at least; MOST stands for any that is larger.
+pub fn decimal<const MOST: u64>(text: &[u8]) -> Option<u64>
+    ensures { parsed_of result ≡ decimal_at MOST text.now }
 {
-    if text.len() == 0 {
-        return Parsed::Malformed;
+    if text.is_empty() {
+        return None;
     }
     let mut value: u64 = 0;
-    let mut i: usize = 0;
-    while i < text.len() {
-        let digit = text[i];
-        if digit < b'0' {
-            return Parsed::Malformed;
+    for digit in text {
+        if *digit < b'0' || b'9' < *digit {
+            return None;
         }
-        if b'9' < digit {
-            return Parsed::Malformed;
-        }
-        value = with_digit(value, digit - b'0');
-        i += 1;
+        value = with_digit::<MOST>(value, *digit - b'0');
     }
-    Parsed::Number(value)
+    Some(value)
 }

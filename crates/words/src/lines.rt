@@ -9,19 +9,10 @@ pub fn said_end(text: &[u8], at: usize) -> usize
     ensures { result ≡ at + said_size (drop at text.now) }
 {
     let stop = plain_end(text, at);
-    if stop <= at {
-        return stop;
+    if at < stop && stop < text.len() && text[stop] == LF && text[stop - 1] == CR {
+        return stop - 1;
     }
-    if text.len() <= stop {
-        return stop;
-    }
-    if text[stop] != LF {
-        return stop;
-    }
-    if text[stop - 1] != CR {
-        return stop;
-    }
-    stop - 1
+    stop
 }
 
 // A line: where what it says ends, and where the next one begins.
@@ -36,11 +27,6 @@ pub fn line_at(text: &[u8], at: usize) -> Line
 {
     let end = said_end(text, at);
     let stop = line_end(text, end);
-    if stop < text.len() {
-        return Line {
-            end,
-            next: stop + 1,
-        };
-    }
-    Line { end, next: stop }
+    let next = if stop < text.len() { stop + 1 } else { stop };
+    Line { end, next }
 }

@@ -1,5 +1,5 @@
 // From a position on: how far bytes of a kind reach. A position past the end is where they end.
-ghost use Rattle.std.specs.Prelude.{◌≡◌, ◌+◌, drop};
+ghost use Rattle.std.specs.Prelude.{◌≡◌, ◌+◌, ℕ, Bool, drop};
 ghost use Rattle.words.specs.Run.{run};
 ghost use Rattle.words.specs.Lines.{is_plain, is_in_line};
 ghost use Rattle.words.specs.Words.{is_blank, is_in_word};
@@ -19,10 +19,7 @@ const HASH: u8 = 35;
 fn is_plain(c: u8) -> bool
     ensures { result ≡ is_plain c }
 {
-    if c == LF {
-        return false;
-    }
-    c != HASH
+    c != LF && c != HASH
 }
 
 fn is_in_line(c: u8) -> bool
@@ -34,10 +31,7 @@ fn is_in_line(c: u8) -> bool
 fn is_blank(c: u8) -> bool
     ensures { result ≡ is_blank c }
 {
-    if c == SPACE {
-        return true;
-    }
-    c == TAB
+    c == SPACE || c == TAB
 }
 
 fn is_in_word(c: u8) -> bool
@@ -46,58 +40,43 @@ fn is_in_word(c: u8) -> bool
     !is_blank(c)
 }
 
+// To the first byte that is not of the kind.
+fn end_of<F: Fn(u8) -> bool>(text: &[u8], at: usize, is_kind: F) -> usize
+    requires { F.IsAlwaysCallable is_kind }
+    ensures { (test : ℕ → Bool) → ((c : ℕ) (b : Bool) → F.post is_kind c b → b ≡ test c) → result ≡ at + run test (drop at text.now) }
+{
+    for i in at..text.len() {
+        if !is_kind(text[i]) {
+            return i;
+        }
+    }
+    at.max(text.len())
+}
+
 // To the end of the line, or to the comment at its end.
 pub fn plain_end(text: &[u8], at: usize) -> usize
     ensures { result ≡ at + run is_plain (drop at text.now) }
 {
-    let mut i = at;
-    while i < text.len() {
-        if !is_plain(text[i]) {
-            return i;
-        }
-        i += 1;
-    }
-    i
+    end_of(text, at, is_plain)
 }
 
 // To the end of the line.
 pub fn line_end(text: &[u8], at: usize) -> usize
     ensures { result ≡ at + run is_in_line (drop at text.now) }
 {
-    let mut i = at;
-    while i < text.len() {
-        if !is_in_line(text[i]) {
-            return i;
-        }
-        i += 1;
-    }
-    i
+    end_of(text, at, is_in_line)
 }
 
 // Past spaces and tabs.
 pub fn blank_end(text: &[u8], at: usize) -> usize
     ensures { result ≡ at + run is_blank (drop at text.now) }
 {
-    let mut i = at;
-    while i < text.len() {
-        if !is_blank(text[i]) {
-            return i;
-        }
-        i += 1;
-    }
-    i
+    end_of(text, at, is_blank)
 }
 
 // To the next space or tab.
 pub fn word_end(text: &[u8], at: usize) -> usize
     ensures { result ≡ at + run is_in_word (drop at text.now) }
 {
-    let mut i = at;
-    while i < text.len() {
-        if !is_in_word(text[i]) {
-            return i;
-        }
-        i += 1;
-    }
-    i
+    end_of(text, at, is_in_word)
 }

@@ -22,18 +22,9 @@ pub fn word_at(line: &[u8], at: usize) -> Word
 }
 
 // Whether a text is a word.
+#[tactic(auto, using(crate::specs::laws::Words::same_pointwise))]
 pub fn same(text: &[u8], word: &[u8]) -> bool
     ensures { result ≡ same_bytes text.now word.now }
 {
-    if text.len() != word.len() {
-        return false;
-    }
-    let mut i: usize = 0;
-    while i < text.len() {
-        if text[i] != word[i] {
-            return false;
-        }
-        i += 1;
-    }
-    true
+    text == word
 }

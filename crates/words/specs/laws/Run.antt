@@ -1,6 +1,6 @@
 -- Laws of bytes of a kind at the front of a text.
-use Rattle.std.specs.Prelude.{ℕ, suc, ◌+◌, ◌≤◌, ◌<◌, ◌≡◌, refl, Bool, true, false, cond, List, [], ◌∷◌, ◌++◌, length, get_or, take, drop}
-use Rattle.std.proofs.Common.{sym, ap, ◌∙◌, add-one, arith, drop_of_length-le, length-drop}
+use Rattle.std.specs.Prelude.{ℕ, suc, ◌+◌, ◌≤◌, ◌<◌, ◌≡◌, Bool, true, false, cond, List, [], ◌∷◌, length, get_or, drop}
+use Rattle.std.proofs.Common.{add-one, arith, drop_of_length-le, length-drop}
 use Rattle.std.proofs.Math.Seq.{drop-cons}
 use Rattle.words.specs.Run.{run}
 

@@ -1,9 +1,7 @@
 -- Laws of the words of a line.
-use Rattle.std.specs.Prelude.{ℕ, zero, suc, ◌+◌, ◌-◌, ◌≤◌, ◌<◌, ◌≡◌, refl, Bool, true, false, not, cond, ◌&&◌, ◌||◌, List, [], ◌∷◌, eqb, length, get_or, take, drop}
-use Rattle.std.proofs.Common.{sym, ap, ap₂, ◌∙◌, arith, add-one, length-drop, drop_of_length-le, drop-drop}
-use Rattle.std.proofs.Math.Bool.{and-false}
-use borrow.Author.Tests.{eq-eqb, ne_eqb}
-use Rattle.std.proofs.Math.Seq.{drop-cons}
+use Rattle.std.specs.Prelude.{ℕ, suc, ◌-◌, ◌≤◌, ◌<◌, ◌≡◌, refl, Bool, true, false, not, cond, ◌&&◌, List, [], ◌∷◌, eqb, length, take, drop}
+use Rattle.std.proofs.Common.{sym, ap, ap₂, ◌∙◌, arith, drop-drop}
+use Rattle.std.specs.Cmp.Lexicographic.{pointwise}
 use Rattle.words.specs.Run.{run, begins, on_first}
 use Rattle.words.specs.Words.{is_blank, is_in_word, words, same_bytes}
 use Rattle.words.specs.laws.Run.{run_yes, run_no, run_most, run-within}
@@ -52,26 +50,13 @@ first_word c (d ∷ s) e = go (first_word d s) (is_blank d) refl
     go ih true f = rw (words_alone c (d ∷ s) e f, run_yes is_in_word c (d ∷ s) (ap not e), run_no is_in_word d s (ap not f)) refl
     go ih false f = rw (words_on c (d ∷ s) e f, run_yes is_in_word c (d ∷ s) (ap not e), ih f) refl
 
--- two texts of one length, from the i-th byte on
-module _ (s t : List ℕ) (i : ℕ) (inside : i < length s) (within : i < length t) where
-  pub same_next : get_or s i 0 ≡ get_or t i 0 → same_bytes (drop i s) (drop i t) ≡ same_bytes (drop (i + 1) s) (drop (i + 1) t)
-  unfolding same_bytes
-  same_next e = rw (add-one, drop-cons s i 0 inside, drop-cons t i 0 within, eq-eqb (get_or s i 0) (get_or t i 0) e)
-
-  pub same_not : (get_or s i 0 ≡ get_or t i 0 → ⊥) → same_bytes (drop i s) (drop i t) ≡ false
-  unfolding same_bytes
-  same_not e = rw (drop-cons s i 0 inside, drop-cons t i 0 within, ne_eqb (get_or s i 0) (get_or t i 0) e)
-
-pub same_end : (s t : List ℕ) (i : ℕ) → length s ≤ i → length t ≤ i → same_bytes (drop i s) (drop i t) ≡ true
+-- what the library's test of two texts says
+pub same_pointwise : (s t : List ℕ) → pointwise eqb s t ≡ same_bytes s t
 unfolding same_bytes
-same_end s t i past beyond = rw (drop_of_length-le s {i = i} past, drop_of_length-le t {i = i} beyond)
-
-pub same_length : (s t : List ℕ) → (length s ≡ length t → ⊥) → same_bytes s t ≡ false
-unfolding same_bytes
-same_length [] [] h = absurd (h refl)
-same_length [] (d ∷ t) h = refl
-same_length (c ∷ s) [] h = refl
-same_length (c ∷ s) (d ∷ t) h = rw (same_length s t (λ e. h (ap suc e))) (and-false (eqb c d))
+same_pointwise [] [] = refl
+same_pointwise [] (d ∷ t) = refl
+same_pointwise (c ∷ s) [] = refl
+same_pointwise (c ∷ s) (d ∷ t) = ap (λ (b : Bool). eqb c d && b) (same_pointwise s t)
 
 -- a text whose first byte, if it has one, begins a word
 front_word : (s : List ℕ) → begins is_blank s ≡ false → 0 < length s → Front s × (0 < run is_in_word s)

@@ -1,51 +1,38 @@
-use Prim.Native.Nat.{◌+◌, ◌-◌, ◌*◌, ◌≤◌}
-use mathlib.Core.Path.{◌≡◌, sym, ◌∙◌}
-use native.Mathlib.Omega.{arith}
-use lib.ListN.{length, get_or, drop}
-use Rattle.words.specs.Decimal.{zero_digit, largest, value_from, capped_option, decimal_value}
+-- `decimal` meets its contract, by the digit that the loop reads.
+use Rattle.std.proofs.Common.{sym, ◌∙◌, ◌≡◌, ◌+◌, ◌-◌, ◌*◌, true, arith, eq-eqb, eqb-true, get_or, true≢false}
+use Rattle.words.specs.Decimal.{zero_digit, is_digit}
 use Rattle.words.specs.laws.Decimal.{value_empty, value_whole, not_digit, next_digit, low_byte, high_byte, digit_byte, capped_most, value_end}
 use Rattle.words.proofs.digits.decimal.Goals as goal
+use Rattle.words.proofs.digits.decimal.Goals.{then-digit-lt48-via-then-digit-lt48, then-digit-lt48-via-else-digit-lt48+then-digit-gt57}
 
-pub returns-then-text-eq0 : goal.returns-then-text-eq0
-returns-then-text-eq0 c = sym (value_empty c.before.before.args.text.now c.if-text-eq0.true)
+pub returns-then-is_empty : goal.returns-then-is_empty
+returns-then-is_empty g c = sym (value_empty g.row.MOST c.args.text.now (eqb-true _ 0 (sym c.is_empty.ensures ∙ c.if-is_empty.true)))
 
-pub loop-i-init : goal.loop-i-init
-loop-i-init c = (omega arith, omega arith, sym (value_whole c.before.before.args.text.now c.if-text-eq0.false))
-
-pub bounds-text-i : goal.bounds-text-i
-bounds-text-i c = omega arith
+pub loop-digit-init : goal.loop-digit-init
+loop-digit-init g c = record {
+  within = omega arith;
+  same = sym (value_whole g.row.MOST c.args.text.now (λ e. true≢false (sym (c.is_empty.ensures ∙ eq-eqb _ 0 e) ∙ c.if-is_empty.false)));
+}
 
 pub returns-then-digit-lt48 : goal.returns-then-digit-lt48
-returns-then-digit-lt48 c =
-    let turn = c.before.before.before in
-    let text = turn.before.before.before.args.text.now in
-    sym (not_digit text turn.loop-i.i (omega arith) turn.loop-i.value (low_byte _ c.if-digit-lt48.true)) ∙ turn.loop-i.invariant.2
+returns-then-digit-lt48 g c =
+    let other = not_digit g.row.MOST c.args.text.now c.loop-digit.digit-index (omega arith) c.loop-digit.value in
+    elim c.then-digit-lt48.branch [
+      | then-digit-lt48-via-then-digit-lt48 w ↦ sym (other (low_byte _ w.if-digit-lt48.true)) ∙ c.loop-digit.invariant.same
+      | then-digit-lt48-via-else-digit-lt48+then-digit-gt57 w ↦ sym (other (high_byte _ w.if-digit-gt57.true)) ∙ c.loop-digit.invariant.same
+    ]
 
-pub returns-then-digit-gt57 : goal.returns-then-digit-gt57
-returns-then-digit-gt57 c =
-    let turn = c.before.before.before.before in
-    let text = turn.before.before.before.args.text.now in
-    sym (not_digit text turn.loop-i.i (omega arith) turn.loop-i.value (high_byte _ c.if-digit-gt57.true)) ∙ turn.loop-i.invariant.2
-
-pub with_digit-value-requires : goal.with_digit-value-requires
-with_digit-value-requires c = omega arith
-
-pub overflow_add-i : goal.overflow_add-i
-overflow_add-i c = omega arith
-
-pub loop-i-smaller : goal.loop-i-smaller
-loop-i-smaller c = omega arith
-
-pub loop-i-preserved : goal.loop-i-preserved
-loop-i-preserved c =
-    let turn = c.before.before.before.before.before in
-    let text = turn.before.before.before.args.text.now in
-    let byte = get_or text turn.loop-i.i 0 in
-    let digit = digit_byte byte (omega arith) (omega arith) in
-    (omega arith, omega (arith, c.with_digit-value.ensures, capped_most (10 * turn.loop-i.value + (byte - zero_digit))), sym (next_digit text turn.loop-i.i (omega arith) turn.loop-i.value digit c.with_digit-value.ensures) ∙ turn.loop-i.invariant.2)
+pub loop-digit-preserved : goal.loop-digit-preserved
+loop-digit-preserved g c =
+    let most = g.row.MOST in
+    let text = c.args.text.now in
+    let byte = get_or text c.loop-digit.digit-index 0 in
+    let digit : is_digit byte ≡ true = digit_byte byte (omega arith) (omega arith) in
+    record {
+      within = omega (arith, c.with_digit-value.ensures, capped_most most (10 * c.loop-digit.value + (byte - zero_digit)));
+      same = sym (next_digit most text c.loop-digit.digit-index (omega arith) c.loop-digit.value digit c.with_digit-value.ensures) ∙ c.loop-digit.invariant.same;
+    }
 
 pub returns : goal.returns
-returns c =
-    let turn = c.before in
-    let text = turn.before.before.before.args.text.now in
-    sym (value_end text turn.loop-i.i turn.loop-i.value (omega arith) turn.loop-i.invariant.1) ∙ turn.loop-i.invariant.2
+returns g c =
+    sym (value_end g.row.MOST c.args.text.now c.loop-digit.digit-index c.loop-digit.value (omega arith) c.loop-digit.invariant.within) ∙ c.loop-digit.invariant.same

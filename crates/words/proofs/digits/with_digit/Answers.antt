@@ -1,17 +1,7 @@
--- `with_digit` meets its contract, by whether the number would pass the largest.
-use mathlib.Core.Path.{sym}
-use Prim.Native.Nat.{◌+◌, ◌*◌}
-use native.Mathlib.Omega.{arith}
-use borrow.Author.Rules.{rules}
-use Rattle.words.specs.laws.Decimal.{capped_same, capped_above}
+-- `with_digit` meets its contract: a number past 64 bits is past the most too.
+use Rattle.std.proofs.Common.{◌+◌, ◌*◌, arith}
+use Rattle.words.specs.laws.Decimal.{capped_min}
 use Rattle.words.proofs.digits.with_digit.Goals as goal
 
-pub returns-then-room-value : goal.returns-then-room-value
-returns-then-room-value c =
-    let a = c.before.args in
-    sym (capped_above (10 * a.value + a.digit) (omega arith))
-
 pub returns : goal.returns
-returns c =
-    let a = c.before.args in
-    sym (capped_same (10 * a.value + a.digit) (omega arith))
+returns g c = omega (arith, capped_min g.row.MOST (10 * c.args.value + c.args.digit), g.MOST.fits)

@@ -1,43 +1,21 @@
 -- `said_end` meets its contract, by whether a carriage return stands before the line's end.
-use Prim.Native.Nat.{◌+◌}
-use native.Mathlib.Omega.{arith}
-use mathlib.Core.Path.{◌≡◌}
-use borrow.Author.Rules.{rules}
-use lib.ListN.{get_or-eq_default}
+use Rattle.std.proofs.Common.{arith}
+use Rattle.std.proofs.Math.ListN.{get_or-eq_default}
 use Rattle.words.specs.laws.Lines.{said_here, said_back}
 use Rattle.words.proofs.lines.said_end.Goals as goal
+use Rattle.words.proofs.lines.said_end.Goals.{else-at-stop-via-then-at-stop+then-stop-text+then-text-stop-eq-LF+else-text-stop-eq-CR, else-at-stop-via-then-at-stop+then-stop-text+else-text-stop-eq-LF, else-at-stop-via-then-at-stop+else-stop-text, else-at-stop-via-else-at-stop}
 
-pub returns-then-stop-at : goal.returns-then-stop-at
-returns-then-stop-at c =
-    let called = c.before in
-    let a = called.before.before.args in
-    let text = a.text.now in
-    said_here text a.at called.plain_end-stop.ensures (λ more feed back. absurd (omega arith))
-
-pub returns-then-text-stop : goal.returns-then-text-stop
-returns-then-text-stop c =
-    let called = c.before.before in
-    let a = called.before.before.args in
-    let text = a.text.now in
-    said_here text a.at called.plain_end-stop.ensures (λ more feed back. absurd (omega (arith, get_or-eq_default text 0 {n = called.plain_end-stop.result} (omega arith))))
-
-pub returns-then-text-stop-ne-LF : goal.returns-then-text-stop-ne-LF
-returns-then-text-stop-ne-LF c =
-    let called = c.before.before.before.before in
-    let a = called.before.before.args in
-    let text = a.text.now in
-    said_here text a.at called.plain_end-stop.ensures (λ more feed back. c.if-text-stop-ne-LF.true feed)
-
-pub returns-then-text-stop-ne-CR : goal.returns-then-text-stop-ne-CR
-returns-then-text-stop-ne-CR c =
-    let called = c.before.before.before.before.before.before in
-    let a = called.before.before.args in
-    let text = a.text.now in
-    said_here text a.at called.plain_end-stop.ensures (λ more feed back. c.if-text-stop-ne-CR.true back)
+pub returns-then-text-stop-eq-CR : goal.returns-then-text-stop-eq-CR
+returns-then-text-stop-eq-CR c =
+    said_back c.args.text.now c.args.at c.plain_end-stop.ensures c.if-at-stop.true c.if-text-stop-eq-LF.true c.if-text-stop-eq-CR.true
 
 pub returns : goal.returns
 returns c =
-    let called = c.before.before.before.before.before.before in
-    let a = called.before.before.args in
-    let text = a.text.now in
-    said_back text a.at called.plain_end-stop.ensures (omega arith) c.before.before.if-text-stop-ne-LF.false c.if-text-stop-ne-CR.false
+    said_here c.args.text.now c.args.at c.plain_end-stop.ensures (λ more feed back.
+    elim c.else-at-stop.branch [
+      | else-at-stop-via-then-at-stop+then-stop-text+then-text-stop-eq-LF+else-text-stop-eq-CR w ↦ w.if-text-stop-eq-CR.false back
+      | else-at-stop-via-then-at-stop+then-stop-text+else-text-stop-eq-LF w ↦ w.if-text-stop-eq-LF.false feed
+      | else-at-stop-via-then-at-stop+else-stop-text w ↦
+          absurd (omega (arith, get_or-eq_default c.args.text.now 0 {n = c.plain_end-stop.result} (omega arith)))
+      | else-at-stop-via-else-at-stop w ↦ absurd (omega arith)
+    ])
