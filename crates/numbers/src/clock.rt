@@ -1,5 +1,5 @@
 // How far the clocks of sources and ports differ, and the length over which frames are counted with that.
-ghost use Rattle.std.specs.Prelude.{◌≡◌, ◌*◌};
+ghost use Rattle.std.specs.Prelude.{◌≡◌, ◌*◌, ◌^◌, ◌≤◌};
 ghost use Rattle.cqf.specs.Limits.{million, drift_ok, timing_jitter_ok, sync_error_ok};
 ghost use Rattle.cqf.specs.Plan.{clock_ok};
 ghost use Rattle.cqf.specs.Ceil.{ceil_div};
@@ -46,18 +46,15 @@ fn sync_error_ok(n: u32) -> bool
 pub fn clock_ok(clock: Clock) -> bool
     ensures { result ≡ clock_ok (clock_of clock) }
 {
-    if !drift_ok(clock.drift) {
-        return false;
-    }
-    if !timing_jitter_ok(clock.timing_jitter) {
-        return false;
-    }
-    sync_error_ok(clock.sync_error)
+    drift_ok(clock.drift)
+        && timing_jitter_ok(clock.timing_jitter)
+        && sync_error_ok(clock.sync_error)
 }
 
 // What drift adds to a duration, rounded up.
 fn drifted(duration: u32, drift: u32) -> u64
-    ensures { result ≡ ceil_div (duration * drift) million }
+    ensures adds { result ≡ ceil_div (duration * drift) million }
+    ensures most { result ≤ 2 ^ 62 }
 {
     ((duration as u64) * (drift as u64) + (MILLION - 1)) / MILLION
 }
@@ -68,8 +65,5 @@ pub fn widened(clock: Clock, duration: u32) -> u64
 {
     let apart = duration as u64 + drifted(duration, clock.drift) + clock.timing_jitter as u64;
     let offset = duration as u64 + 2 * (clock.sync_error as u64);
-    if apart < offset {
-        return apart;
-    }
-    offset
+    apart.min(offset)
 }

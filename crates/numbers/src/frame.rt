@@ -17,7 +17,8 @@ pub fn blocking_bits(bytes: u16, extra: u8) -> u64
     ensures { result ≡ blocking_bits_of bytes extra }
 {
     if bytes == 0 {
-        return 0;
+        0
+    } else {
+        wire_bits(bytes, extra)
     }
-    wire_bits(bytes, extra)
 }

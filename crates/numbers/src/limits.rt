@@ -36,10 +36,7 @@ pub const OLDER_MAX_HOPS: u64 = 16;
 pub fn between(lo: u64, hi: u64, n: u64) -> bool
     ensures { result ≡ within lo hi n }
 {
-    if n < lo {
-        return false;
-    }
-    n <= hi
+    lo <= n && n <= hi
 }
 
 pub fn guard_ok(n: u32) -> bool
@@ -76,10 +73,7 @@ pub fn length_ok(n: u16) -> bool
 pub fn blocking_ok(n: u16) -> bool
     ensures { result ≡ blocking_ok n }
 {
-    if n == 0 {
-        return true;
-    }
-    length_ok(n)
+    n == 0 || length_ok(n)
 }
 
 // The bytes that a port adds to each frame.

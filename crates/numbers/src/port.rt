@@ -7,11 +7,7 @@ ghost use Rattle.cqf.specs.Port.{window_of};
 pub fn window(guard: u32, duration: u64) -> u64
     ensures { result ≡ window_of guard duration }
 {
-    let closed = 2 * (guard as u64);
-    if duration < closed {
-        return 0;
-    }
-    duration - closed
+    duration.saturating_sub(2 * (guard as u64))
 }
 
 // The number of the lowest port of a set, and how many there are.
@@ -25,7 +21,7 @@ pub fn failing_ports(set: u64) -> FailingPorts
     ensures { (result.port ≡ suc (count_trailing_zeros 64 set)) × (result.count ≡ ones set) }
 {
     FailingPorts {
-        port: u64::trailing_zeros(set) + 1,
-        count: u64::count_ones(set),
+        port: set.trailing_zeros() + 1,
+        count: set.count_ones(),
     }
 }

@@ -1,5 +1,0 @@
--- `sync_error_ok` meets its contract: its ends are those of the range.
-use Rattle.numbers.proofs.clock.sync_error_ok.Goals as goal
-
-pub returns : goal.returns
-returns c = c.between.ensures
