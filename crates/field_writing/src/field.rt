@@ -6,37 +6,42 @@ ghost use Rattle.writing.specs.Laid.{laid};
 ghost use Rattle.field_writing.specs.Answer.{write_of};
 ghost use Rattle.field_writing.specs.Writes.{WritesBytes};
 
-use crate::WriteAnswer;
+use crate::WriteRefusal;
 use plan::layout::route_start;
 use plan::read::field_at;
 use plan::route::{route_bytes, route_repeats};
 use plan::split::field_value;
 use plan::{Fault, FieldRead, Form};
+use writing::number::put_bytes;
 use writing::room::has_room;
 
 // Bytes over the buffer's first ones, or 13 where it has no room for them.
-fn put_whole(field: &[u8], buffer: &mut [u8]) -> WriteAnswer
+fn put_whole(field: &[u8], buffer: &mut [u8]) -> Result<usize, WriteRefusal>
     ensures { (write_of result ≡ written_answer field.now buffer.old)
         × (buffer.new ≡ laid field.now buffer.old) }
 {
     let needed = field.len();
     if !has_room(buffer.len(), needed) {
-        return WriteAnswer::ShortBuffer(needed);
+        return Err(WriteRefusal::ShortBuffer(needed));
     }
-    buffer[..needed].copy_from_slice(field);
-    WriteAnswer::Written(needed)
+    put_bytes(buffer, field);
+    Ok(needed)
 }
 
 // The bytes of a field of this form: tests 2 to 5 and 7, then 13.
-pub(crate) fn write_field(form: Form, field: &[u8], buffer: &mut [u8]) -> WriteAnswer
+pub(crate) fn write_field(
+    form: Form,
+    field: &[u8],
+    buffer: &mut [u8],
+) -> Result<usize, WriteRefusal>
     ensures { WritesBytes (form_of form) field.now buffer.old (write_of result) buffer.new }
 {
     match field_at(form, field, 0) {
-        FieldRead::Refused { fault, offset: _ } => WriteAnswer::Refused(fault),
+        FieldRead::Refused { fault, offset: _ } => Err(WriteRefusal::Refused(fault)),
         FieldRead::Field { field: x, next: _ } => {
             let route = route_bytes(field_value(field, 0), route_start(x));
             if route_repeats(route) {
-                return WriteAnswer::Refused(Fault::RepeatedPort);
+                return Err(WriteRefusal::Refused(Fault::RepeatedPort));
             }
             put_whole(field, buffer)
         }

@@ -1,10 +1,11 @@
 // A flow of either form with its route, a port number a byte. A route of more ports than any form has is refused without being laid.
+// Two functions, since only one takes a jitter: one of an optional jitter would let a flow of the older form have it.
 ghost use Rattle.std.specs.Prelude.{[], ◌∷◌};
 ghost use Rattle.plan.specs.Layout.{Kind};
 ghost use Rattle.field_writing.specs.Answer.{write_of};
 ghost use Rattle.field_writing.specs.Writes.{Writes};
 
-use crate::WriteAnswer;
+use crate::WriteRefusal;
 use crate::field::write_field;
 use crate::narrow::narrow;
 use plan::layout::{FLOW_SIZE, FLOW2_MAX_HOPS, FLOW2_SIZE, HEAD_SIZE, HOP_SIZE};
@@ -26,13 +27,13 @@ pub fn write_flow(
     length: u32,
     route: &[u8],
     buffer: &mut [u8],
-) -> WriteAnswer
+) -> Result<usize, WriteRefusal>
     ensures { Writes Kind.flow (number ∷ period ∷ count ∷ length ∷ []) route.now
         buffer.old (write_of result) buffer.new }
 {
     let hops = route.len();
     if MOST_HOPS < hops {
-        return WriteAnswer::Refused(Fault::WrongLength);
+        return Err(WriteRefusal::Refused(Fault::WrongLength));
     }
     let mut field = [0u8; ROUTE + HOP_SIZE * MOST_HOPS];
     put_flow(
@@ -56,13 +57,13 @@ pub fn write_flow2(
     jitter: u32,
     route: &[u8],
     buffer: &mut [u8],
-) -> WriteAnswer
+) -> Result<usize, WriteRefusal>
     ensures { Writes Kind.flow2 (number ∷ period ∷ count ∷ length ∷ jitter ∷ []) route.now
         buffer.old (write_of result) buffer.new }
 {
     let hops = route.len();
     if MOST_HOPS < hops {
-        return WriteAnswer::Refused(Fault::WrongLength);
+        return Err(WriteRefusal::Refused(Fault::WrongLength));
     }
     let mut field = [0u8; ROUTE2 + HOP_SIZE * MOST_HOPS];
     put_flow2(

@@ -14,10 +14,9 @@ pub use flow::{write_flow, write_flow2};
 pub use newer::{write_header2, write_port2};
 pub use older::{write_clocks, write_extra, write_header, write_jitter, write_port};
 
+// Why a field is not written.
 #[derive(Clone, Copy)]
-pub enum WriteAnswer {
-    // The length written.
-    Written(usize),
+pub enum WriteRefusal {
     // What the reader refuses the field for.
     Refused(Fault),
     // The length needed.

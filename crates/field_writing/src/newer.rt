@@ -4,7 +4,7 @@ ghost use Rattle.plan.specs.Layout.{Kind};
 ghost use Rattle.field_writing.specs.Answer.{write_of};
 ghost use Rattle.field_writing.specs.Writes.{Writes};
 
-use crate::WriteAnswer;
+use crate::WriteRefusal;
 use crate::field::write_field;
 use crate::narrow::narrow;
 use numbers::clock::Clock;
@@ -20,7 +20,7 @@ pub fn write_header2(
     timing_jitter: u32,
     sync_error: u32,
     buffer: &mut [u8],
-) -> WriteAnswer
+) -> Result<usize, WriteRefusal>
     ensures { Writes Kind.header2 (guard ∷ top ∷ drift ∷ timing_jitter ∷ sync_error ∷ []) []
         buffer.old (write_of result) buffer.new }
 {
@@ -41,7 +41,7 @@ pub fn write_port2(
     blocking: u32,
     extra: u32,
     buffer: &mut [u8],
-) -> WriteAnswer
+) -> Result<usize, WriteRefusal>
     ensures { Writes Kind.port2 (number ∷ rate ∷ blocking ∷ extra ∷ []) [] buffer.old (write_of result) buffer.new }
 {
     let mut field = [0u8; HEAD_SIZE + PORT2_SIZE];

@@ -1,12 +1,10 @@
 -- `put_whole` meets its contract: 13 where there is no room, else the copy.
-use Prim.Native.Nat.{ℕ}
-use mathlib.Core.Path.{◌≡◌, refl, sym, ap, ◌∙◌}
+use mathlib.Core.Path.{◌≡◌, refl, sym, ◌∙◌}
 use mathlib.Core.Bool.{true, false}
-use mathlib.Core.List.{List, ◌++◌}
-use borrow.Author.Tests.{leb-true, leb-false}
+use borrow.Author.Tests.{leb-false}
 use lib.Dec.{leb}
-use lib.ListN.{length, drop}
-use Rattle.writing.specs.laws.Laid.{laid-over, laid_short}
+use lib.ListN.{length}
+use Rattle.writing.specs.laws.Laid.{laid_short}
 use Rattle.field_writing.proofs.field.put_whole.Goals as goal
 
 pub returns-then-not-has_room : goal.returns-then-not-has_room
@@ -18,8 +16,5 @@ returns-then-not-has_room c =
 pub returns : goal.returns
 returns c =
     let a = c.args in
-    let enough : leb (length a.field.now) (length a.buffer.now) ≡ true = sym c.has_room.ensures ∙ c.if-not-has_room.false in (
-      rw enough refl,
-      ap (λ (l : List ℕ). l ++ drop (length a.field.now) a.buffer.now) c.copy_from_slice.ensures.after
-          ∙ sym (laid-over a.field.now a.buffer.now (leb-true _ _ enough)),
-    )
+    let enough : leb (length a.field.now) (length a.buffer.now) ≡ true = sym c.has_room.ensures ∙ c.if-not-has_room.false in
+    (rw enough refl, c.put_bytes.ensures)
