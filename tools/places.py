@@ -7,7 +7,7 @@
 4  equality, order, copying, conversion and printing by hand
 5  functions of three or more parameters that are the tables' columns; clauses that require a valid plan of them
 6  parameters of an array with a length beside it, parallel arrays of a function
-7  parameters that say which step to run
+7  flags and goals handed in that say which step to run
 8  proof files, their lines, and answers that only call the search
 """
 import glob
@@ -125,7 +125,7 @@ def point6():
 def point7():
     for path, text in sources():
         for name, line, parameters, _, _ in functions(text):
-            if re.search(r'\b\w+: (bool|Goal|Kind|Sought|Test|Form)\b', parameters):
+            if re.search(r'\b\w+: (bool|Goal)\b', parameters):
                 yield path, line, name
 
 
