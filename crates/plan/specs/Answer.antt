@@ -1,13 +1,13 @@
 -- Document 01's number and values for each case of the answers.
-use Rattle.std.specs.Prelude.{ℕ, [], ◌∷◌}
+use Rattle.std.specs.Prelude.{ℕ, [], ◌∷◌, Option, Some, None, Result, Ok, Err}
 use Rattle.answers.specs.Refusals.{bad_size, truncated, unknown_tag, wrong_length, out_of_range, duplicate, repeated_port, incomplete, not_in_plan, out_of_order}
 use Rattle.plan.specs.declared.Fault.{Fault}
 use Rattle.plan.specs.declared.Fault.TheVariants.{Size, Truncated, UnknownTag, WrongLength, OutOfRange, Duplicate, OutOfOrder, RepeatedPort, Incomplete, NotInPlan}
 use Rattle.plan.specs.declared.Form as declaredForm
 use Rattle.plan.specs.declared.Head.{Head}
-use Rattle.plan.specs.declared.Head.TheVariants.{Whole, Cut}
+use Rattle.plan.specs.declared.FieldAt.{FieldAt}
+use Rattle.plan.specs.declared.Refusal.{Refusal}
 use Rattle.plan.specs.declared.Field as declaredField
-use Rattle.plan.specs.declared.FieldRead as declaredRead
 use Rattle.cqf.specs.Form.{Form, older, newer}
 use Rattle.plan.specs.Layout.{Kind}
 use Rattle.plan.specs.Field.{HeadRead, head, cut, Field, FieldRead, field, refused}
@@ -28,9 +28,9 @@ abbrev pub form_of : declaredForm.Form → Form
 form_of declaredForm.Form.Older = older
 form_of declaredForm.Form.Newer = newer
 
-abbrev pub head_of : Head → HeadRead
-head_of (Whole tag size) = head tag size
-head_of Cut = cut (fault_number Truncated)
+abbrev pub head_of : Option Head → HeadRead
+head_of (Some h) = head h.tag h.size
+head_of None = cut (fault_number Truncated)
 
 -- its number: 0 where the plan holds the whole field
 abbrev pub head_number : HeadRead → ℕ
@@ -53,6 +53,6 @@ field_of (declaredField.Field.Port2 p) =
 field_of (declaredField.Field.Flow2 f) =
     record { kind = Kind.flow2; numbers = f.number ∷ f.period ∷ f.count ∷ f.length ∷ f.jitter ∷ []; hops = f.hops }
 
-abbrev pub field_read_of : declaredRead.FieldRead → FieldRead
-field_read_of (declaredRead.FieldRead.Field x next) = field (field_of x) next
-field_read_of (declaredRead.FieldRead.Refused fault offset) = refused (fault_number fault) offset
+abbrev pub field_read_of : Result FieldAt Refusal → FieldRead
+field_read_of (Ok f) = field (field_of f.field) f.next
+field_read_of (Err r) = refused (fault_number r.fault) r.offset

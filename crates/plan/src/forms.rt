@@ -11,20 +11,18 @@ use crate::layout::HEADER2_TAG;
 pub fn form_by(plan: &[u8]) -> Form
     ensures { form_of result ≡ form_by plan.now }
 {
-    if plan.len() == 0 {
+    let [first, ..] = plan else {
         return Form::Older;
+    };
+    if *first == HEADER2_TAG {
+        Form::Newer
+    } else {
+        Form::Older
     }
-    if plan[0] == HEADER2_TAG {
-        return Form::Newer;
-    }
-    Form::Older
 }
 
 pub fn form_number(form: Form) -> u32
     ensures { result ≡ form_number (form_of form) }
 {
-    match form {
-        Form::Older => 0,
-        Form::Newer => 1,
-    }
+    form as u32
 }

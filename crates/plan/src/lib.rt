@@ -11,6 +11,7 @@ pub mod number; // number.rt: numbers of several bytes, high byte first
 pub mod forms; // forms.rt: the form of a plan
 pub mod split; // split.rt: a field's head, and its value as a part of the plan
 pub mod route; // route.rt: a flow's route
+pub mod value; // value.rt: what the fields of every kind have in common: tests 4 and 5
 pub mod required; // required.rt: the header, ports and flows
 pub mod optional; // optional.rt: fields that a plan may leave out
 pub mod newer; // newer.rt: the fields of the newer form
@@ -23,32 +24,40 @@ pub use read::{field_at, read_field};
 pub use route::{repeats_port, route_bytes, route_len, route_port, route_repeats};
 pub use split::{field_value, split_head};
 
-// What a plan can be refused for: the refusals 1 to 9, and the strict reading's 12.
+// What a plan can be refused for, by its number: the refusals 1 to 9, and the strict reading's 12.
 #[derive(Clone, Copy)]
 pub enum Fault {
-    Size,
-    Truncated,
-    UnknownTag,
-    WrongLength,
-    OutOfRange,
-    Duplicate,
-    OutOfOrder,
-    RepeatedPort,
-    Incomplete,
-    NotInPlan,
+    Size = 1,
+    Truncated = 2,
+    UnknownTag = 3,
+    WrongLength = 4,
+    OutOfRange = 5,
+    Duplicate = 6,
+    RepeatedPort = 7,
+    Incomplete = 8,
+    NotInPlan = 9,
+    OutOfOrder = 12,
 }
 
-// The form of a plan (document 02: the old and the new one): the kinds of field that it may have.
+// What a plan is refused for, and where.
+#[derive(Clone, Copy)]
+pub struct Refusal {
+    pub fault: Fault,
+    pub offset: usize,
+}
+
+// The form of a plan (document 02: the old and the new one), by its number: the kinds of field that it may have.
 #[derive(Clone, Copy)]
 pub enum Form {
-    Older,
-    Newer,
+    Older = 0,
+    Newer = 1,
 }
 
+// A field's tag, and the length of its value.
 #[derive(Clone, Copy)]
-pub enum Head {
-    Whole { tag: u8, size: usize },
-    Cut,
+pub struct Head {
+    pub tag: u8,
+    pub size: usize,
 }
 
 #[derive(Clone, Copy)]
@@ -131,25 +140,15 @@ pub enum Field {
     Flow2(Flow2),
 }
 
+// A field, and the offset after it.
 #[derive(Clone, Copy)]
-pub enum FieldRead {
-    Field { field: Field, next: usize },
-    Refused { fault: Fault, offset: usize },
+pub struct FieldAt {
+    pub field: Field,
+    pub next: usize,
 }
 
 pub fn fault_number(fault: Fault) -> u8
     ensures { result ≡ fault_number fault }
 {
-    match fault {
-        Fault::Size => 1,
-        Fault::Truncated => 2,
-        Fault::UnknownTag => 3,
-        Fault::WrongLength => 4,
-        Fault::OutOfRange => 5,
-        Fault::Duplicate => 6,
-        Fault::OutOfOrder => 12,
-        Fault::RepeatedPort => 7,
-        Fault::Incomplete => 8,
-        Fault::NotInPlan => 9,
-    }
+    fault as u8
 }

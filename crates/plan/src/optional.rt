@@ -1,115 +1,115 @@
-// Fields that a plan may leave out: tests 4 and 5.
+// Fields that a plan may leave out.
 
-ghost use Rattle.std.specs.Prelude.{◌≡◌, [], ◌∷◌};
-ghost use Rattle.plan.specs.Layout.{Kind, layout};
-ghost use Rattle.plan.specs.Field.{in_ranges, value_in};
-ghost use Rattle.plan.specs.Answer.{field_read_of};
+ghost use Rattle.std.specs.Prelude.{refl};
+ghost use Rattle.plan.specs.declared.Field.{Field};
+ghost use Rattle.plan.specs.Layout.{Kind, layout, numbers_size};
 
 use crate::layout::{
     CLOCK_SIZE, DRIFT_AT, EXTRA_AT, EXTRA_PORT_AT, EXTRA_SIZE, JITTER_AT, JITTER_FLOW_AT,
     JITTER_SIZE, SYNC_ERROR_AT, TIMING_JITTER_AT,
 };
 use crate::number::{be16, be32};
-use crate::{Extra, Fault, Field, FieldRead, Jitter};
+use crate::value::Value;
+use crate::{Extra, Field, Jitter};
 use numbers::clock::{Clock, clock_ok};
 use numbers::limits::{extra_ok, flow_ok, jitter_ok, port_ok};
 
-fn extra_in_range(x: Extra) -> bool
-    ensures { result ≡ in_ranges (layout Kind.extra).numbers (x.number ∷ x.extra ∷ []) }
-{
-    if !port_ok(x.number) {
-        return false;
-    }
-    extra_ok(x.extra)
-}
+impl Value for Extra {
+    ghost kind = { Kind.extra };
 
-pub(crate) fn extra_of(value: &[u8], at: usize, next: usize) -> FieldRead
-    ensures { field_read_of result ≡ value_in Kind.extra value.now at next }
-{
-    if value.len() != EXTRA_SIZE {
-        return FieldRead::Refused {
-            fault: Fault::WrongLength,
-            offset: at,
-        };
-    }
-    let x = Extra {
-        number: be16(value, EXTRA_PORT_AT),
-        extra: be16(value, EXTRA_AT),
-    };
-    if !extra_in_range(x) {
-        return FieldRead::Refused {
-            fault: Fault::OutOfRange,
-            offset: at,
-        };
-    }
-    FieldRead::Field {
-        field: Field::Extra(x),
-        next,
-    }
-}
+    ghost as_field = { λ x. Field.Extra x };
 
-fn jitter_in_range(x: Jitter) -> bool
-    ensures { result ≡ in_ranges (layout Kind.jitter).numbers (x.number ∷ x.jitter ∷ []) }
-{
-    if !flow_ok(x.number) {
-        return false;
-    }
-    jitter_ok(x.jitter)
-}
+    ghost SIZE = { numbers_size Kind.extra };
 
-pub(crate) fn jitter_of(value: &[u8], at: usize, next: usize) -> FieldRead
-    ensures { field_read_of result ≡ value_in Kind.jitter value.now at next }
-{
-    if value.len() != JITTER_SIZE {
-        return FieldRead::Refused {
-            fault: Fault::WrongLength,
-            offset: at,
-        };
+    const SIZE: usize = EXTRA_SIZE;
+
+    ghost MOST_HOPS = { (layout Kind.extra).most_hops };
+
+    const MOST_HOPS: usize = 0;
+
+    ghost size_is = { refl };
+
+    ghost most_is = { refl };
+
+    fn read(value: &[u8], _hops: usize) -> Extra {
+        Extra {
+            number: be16(value, EXTRA_PORT_AT),
+            extra: be16(value, EXTRA_AT),
+        }
     }
-    let x = Jitter {
-        number: be16(value, JITTER_FLOW_AT),
-        jitter: be32(value, JITTER_AT),
-    };
-    if !jitter_in_range(x) {
-        return FieldRead::Refused {
-            fault: Fault::OutOfRange,
-            offset: at,
-        };
+
+    fn in_range(self) -> bool {
+        port_ok(self.number) && extra_ok(self.extra)
     }
-    FieldRead::Field {
-        field: Field::Jitter(x),
-        next,
+
+    fn field(self) -> Field {
+        Field::Extra(self)
     }
 }
 
-pub(crate) fn clock_in_range(x: Clock) -> bool
-    ensures { result ≡ in_ranges (layout Kind.clock).numbers (x.drift ∷ x.timing_jitter ∷ x.sync_error ∷ []) }
-{
-    clock_ok(x)
+impl Value for Jitter {
+    ghost kind = { Kind.jitter };
+
+    ghost as_field = { λ x. Field.Jitter x };
+
+    ghost SIZE = { numbers_size Kind.jitter };
+
+    const SIZE: usize = JITTER_SIZE;
+
+    ghost MOST_HOPS = { (layout Kind.jitter).most_hops };
+
+    const MOST_HOPS: usize = 0;
+
+    ghost size_is = { refl };
+
+    ghost most_is = { refl };
+
+    fn read(value: &[u8], _hops: usize) -> Jitter {
+        Jitter {
+            number: be16(value, JITTER_FLOW_AT),
+            jitter: be32(value, JITTER_AT),
+        }
+    }
+
+    fn in_range(self) -> bool {
+        flow_ok(self.number) && jitter_ok(self.jitter)
+    }
+
+    fn field(self) -> Field {
+        Field::Jitter(self)
+    }
 }
 
-pub(crate) fn clock_of(value: &[u8], at: usize, next: usize) -> FieldRead
-    ensures { field_read_of result ≡ value_in Kind.clock value.now at next }
-{
-    if value.len() != CLOCK_SIZE {
-        return FieldRead::Refused {
-            fault: Fault::WrongLength,
-            offset: at,
-        };
+impl Value for Clock {
+    ghost kind = { Kind.clock };
+
+    ghost as_field = { λ x. Field.Clock x };
+
+    ghost SIZE = { numbers_size Kind.clock };
+
+    const SIZE: usize = CLOCK_SIZE;
+
+    ghost MOST_HOPS = { (layout Kind.clock).most_hops };
+
+    const MOST_HOPS: usize = 0;
+
+    ghost size_is = { refl };
+
+    ghost most_is = { refl };
+
+    fn read(value: &[u8], _hops: usize) -> Clock {
+        Clock {
+            drift: be32(value, DRIFT_AT),
+            timing_jitter: be32(value, TIMING_JITTER_AT),
+            sync_error: be32(value, SYNC_ERROR_AT),
+        }
     }
-    let x = Clock {
-        drift: be32(value, DRIFT_AT),
-        timing_jitter: be32(value, TIMING_JITTER_AT),
-        sync_error: be32(value, SYNC_ERROR_AT),
-    };
-    if !clock_in_range(x) {
-        return FieldRead::Refused {
-            fault: Fault::OutOfRange,
-            offset: at,
-        };
+
+    fn in_range(self) -> bool {
+        clock_ok(self)
     }
-    FieldRead::Field {
-        field: Field::Clock(x),
-        next,
+
+    fn field(self) -> Field {
+        Field::Clock(self)
     }
 }

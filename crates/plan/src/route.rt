@@ -1,58 +1,15 @@
 // A flow's route: the bytes behind the other numbers of its field's value, two for each port.
 
-ghost use Rattle.std.specs.Prelude.{◌≡◌, cond, not, drop};
+ghost use Rattle.std.specs.Prelude.{◌≡◌, not, drop};
 ghost use Rattle.cqf.specs.Bounded.{elem, every, distinct};
 ghost use Rattle.cqf.specs.Limits.{port_ok};
-ghost use Rattle.plan.specs.Layout.{Kind};
-ghost use Rattle.plan.specs.Field.{hops_in, size_ok, route_length, route_ports, route_port, repeats};
+ghost use Rattle.plan.specs.Field.{route_length, route_ports, route_port, repeats};
 ghost use Rattle.plan.specs.Answer.{form_of};
 
 use crate::Form;
-use crate::layout::{FLOW2_MAX_HOPS, FLOW2_SIZE, HOP_SIZE, flow_start};
+use crate::layout::{HOP_SIZE, flow_start};
 use crate::number::be16;
 use numbers::limits::port_ok;
-
-// How many ports a flow field names, by the length of its value: one case for each length that it may have, and 0 for any other.
-pub(crate) fn hops_by_length(size: usize) -> u8
-    ensures { result ≡ cond (size_ok Kind.flow size) (hops_in Kind.flow size) 0 }
-{
-    match size {
-        12 => 1,
-        14 => 2,
-        16 => 3,
-        18 => 4,
-        20 => 5,
-        22 => 6,
-        24 => 7,
-        26 => 8,
-        28 => 9,
-        30 => 10,
-        32 => 11,
-        34 => 12,
-        36 => 13,
-        38 => 14,
-        40 => 15,
-        42 => 16,
-        _ => 0,
-    }
-}
-
-// The same of a flow of the newer form, by arithmetic.
-pub(crate) fn flow2_hops(size: usize) -> u8
-    ensures { result ≡ cond (size_ok Kind.flow2 size) (hops_in Kind.flow2 size) 0 }
-{
-    if size < FLOW2_SIZE + HOP_SIZE {
-        return 0;
-    }
-    if FLOW2_SIZE + HOP_SIZE * FLOW2_MAX_HOPS < size {
-        return 0;
-    }
-    let hops = (size - FLOW2_SIZE) / HOP_SIZE;
-    if FLOW2_SIZE + HOP_SIZE * hops != size {
-        return 0;
-    }
-    hops as u8
-}
 
 // The route's own bytes in a value whose other numbers end there; none where the value is too short for them.
 pub fn route_bytes(value: &[u8], start: usize) -> &[u8]
@@ -85,13 +42,10 @@ pub fn route_port(route: &[u8], i: usize) -> u16
 pub(crate) fn route_in_range(route: &[u8]) -> bool
     ensures { result ≡ every port_ok (route_ports route.now) }
 {
-    let hops = route_len(route);
-    let mut i = 0;
-    while i < hops {
+    for i in 0..route_len(route) {
         if !port_ok(route_port(route, i)) {
             return false;
         }
-        i += 1;
     }
     true
 }
@@ -100,13 +54,10 @@ pub(crate) fn route_in_range(route: &[u8]) -> bool
 fn names_from(route: &[u8], from: usize, port: u16) -> bool
     ensures { result ≡ elem port (drop from (route_ports route.now)) }
 {
-    let hops = route_len(route);
-    let mut k = from;
-    while k < hops {
+    for k in from..route_len(route) {
         if port == route_port(route, k) {
             return true;
         }
-        k += 1;
     }
     false
 }
@@ -115,14 +66,10 @@ fn names_from(route: &[u8], from: usize, port: u16) -> bool
 pub fn route_repeats(route: &[u8]) -> bool
     ensures { result ≡ not (distinct (route_ports route.now)) }
 {
-    let hops = route_len(route);
-    let mut i = 0;
-    while i < hops {
-        let port = route_port(route, i);
-        if names_from(route, i + 1, port) {
+    for i in 0..route_len(route) {
+        if names_from(route, i + 1, route_port(route, i)) {
             return true;
         }
-        i += 1;
     }
     false
 }

@@ -9,25 +9,22 @@ use crate::Head;
 use crate::layout::{HEAD_SIZE, SIZE_AT};
 use crate::number::be16;
 
-// The head of the field at this offset, or Cut where the plan does not hold the whole field.
-pub fn split_head(plan: &[u8], at: usize) -> Head
+// The head of the field at this offset, or none where the plan does not hold the whole field.
+pub fn split_head(plan: &[u8], at: usize) -> Option<Head>
     ensures { head_of result ≡ head_at plan.now at }
 {
-    if plan.len() < at {
-        return Head::Cut;
-    }
-    let left = plan.len() - at;
+    let left = plan.len().checked_sub(at)?;
     if left < HEAD_SIZE {
-        return Head::Cut;
+        return None;
     }
     let size = be16(plan, at + SIZE_AT) as usize;
     if left - HEAD_SIZE < size {
-        return Head::Cut;
+        return None;
     }
-    Head::Whole {
+    Some(Head {
         tag: plan[at],
         size,
-    }
+    })
 }
 
 // The value of the field at this offset, a part of the plan; empty where the plan does not hold the whole field.
@@ -35,11 +32,11 @@ pub fn field_value(plan: &[u8], at: usize) -> &[u8]
     ensures { result.now ≡ part_at plan.now at }
 {
     match split_head(plan, at) {
-        Head::Whole { tag: _, size } => {
+        Some(head) => {
             let start = at + HEAD_SIZE;
-            let end = start + size;
+            let end = start + head.size;
             &plan[start..end]
         }
-        Head::Cut => &plan[..0],
+        None => &plan[..0],
     }
 }

@@ -1,26 +1,12 @@
 -- Laws of the tests 2 to 5: which of the answers they lead to.
-use Rattle.std.specs.Prelude.{ℕ, ◌+◌, ◌*◌, ◌≡◌, refl, List, [], ◌∷◌, ◌++◌, Bool, true, false, ◌&&◌, eqb, length}
-use Rattle.std.proofs.Common.{sym, ◌∙◌, arith, eq-eqb, ne_eqb, eqb-true, drop_of_length-le}
+use Rattle.std.specs.Prelude.{ℕ, ◌+◌, ◌≡◌, refl, List, [], ◌∷◌, Bool, true, false, eqb, length}
+use Rattle.std.proofs.Common.{sym, ◌∙◌, arith, ne_eqb}
 use Rattle.std.proofs.Math.Path.{ap}
 use Rattle.std.proofs.Math.Option.{some, none}
-use Rattle.std.proofs.Math.Bool.{and-true, and_assoc, and-eq-true_iff}
-use mathlib.Mathlib.Data.Bool.Basic.{eq-false_of_not-eq-true}
-use Rattle.cqf.specs.Bounded.{every}
 use Rattle.plan.specs.Bytes.{head_size, tag_at, size_at, whole_at, value_at}
 use Rattle.cqf.specs.Form.{Form, older, newer}
-use Rattle.plan.specs.Layout.{Number, Kind, layout, numbers_size, hops_allowed, every_kind, kinds}
-use Rattle.plan.specs.Field.{field, refused, numbers_at, in_ranges, hops_in, route_ports, route_in, field_by, size_ok, ranges_ok, value_in, kind_by, kind_read, field_in, field_at}
-
--- numbers that follow others are in range where both are
-pub both_ranges
-    : (cs ds : List Number) (ms ns : List ℕ)
-    → length ms ≡ length cs
-    → in_ranges (cs ++ ds) (ms ++ ns) ≡ (in_ranges cs ms && in_ranges ds ns)
-both_ranges [] ds [] ns e = refl
-both_ranges [] ds (m ∷ ms) ns e = absurd (omega arith)
-both_ranges (c ∷ cs) ds [] ns e = absurd (omega arith)
-both_ranges (c ∷ cs) ds (m ∷ ms) ns e =
-    ap (λ (b : Bool). c.ok m && b) (both_ranges cs ds ms ns (omega arith)) ∙ sym (and_assoc (c.ok m) (in_ranges cs ms) (in_ranges ds ns))
+use Rattle.plan.specs.Layout.{Kind, layout, every_kind, kinds}
+use Rattle.plan.specs.Field.{field, refused, field_by, size_ok, ranges_ok, value_in, kind_by, kind_read, field_in, field_at}
 
 -- test 2
 module _ (form : Form) (s : List ℕ) (at : ℕ) where
@@ -119,38 +105,3 @@ module _ (v : List ℕ) (at next : ℕ) where
     pub value_read : size_ok k (length v) ≡ true → ranges_ok k v ≡ true → value_in k v at next ≡ field (field_by k v) next
     unfolding value_in
     value_read e f = rw (e, f)
-
-    -- of a kind without a route
-    module _ (plain : (layout k).most_hops ≡ 0) where
-      no_route : (h : ℕ) → hops_allowed (layout k).most_hops h ≡ eqb h 0
-      no_route h = ap (λ (m : ℕ). hops_allowed m h) plain
-
-      pub plain_length : (length v ≡ numbers_size k → ⊥) → value_in k v at next ≡ refused 4 at
-      plain_length other = value_length (eq-false_of_not-eq-true λ e.
-          let t = (and-eq-true_iff (hops_allowed (layout k).most_hops (hops_in k (length v))) _).0 e in
-          let none : hops_in k (length v) ≡ 0 = eqb-true (hops_in k (length v)) 0 (sym (no_route (hops_in k (length v))) ∙ t.0) in
-          let same : length v ≡ numbers_size k + 2 * hops_in k (length v) = eqb-true (length v) _ t.1 in
-          other (omega arith))
-
-      module _ (size : length v ≡ numbers_size k) where
-        hopless : hops_in k (length v) ≡ 0
-        hopless = omega arith
-
-        plain_sized : size_ok k (length v) ≡ true
-        plain_sized = rw (hopless, no_route 0) (eq-eqb (length v) _ (omega arith))
-
-        routeless : route_in k v ≡ []
-        unfolding route_in
-        routeless = ap route_ports (drop_of_length-le v {i = numbers_size k} (omega arith))
-
-        plain_ranges : ranges_ok k v ≡ in_ranges (layout k).numbers (numbers_at (layout k).numbers v 0)
-        unfolding every
-        plain_ranges = rw routeless (and-true _)
-
-        pub plain_range : in_ranges (layout k).numbers (numbers_at (layout k).numbers v 0) ≡ false → value_in k v at next ≡ refused 5 at
-        plain_range f = value_range plain_sized (plain_ranges ∙ f)
-
-        pub plain_read
-            : in_ranges (layout k).numbers (numbers_at (layout k).numbers v 0) ≡ true
-            → value_in k v at next ≡ field (record { kind = k; numbers = numbers_at (layout k).numbers v 0; hops = 0 }) next
-        plain_read f = value_read plain_sized (plain_ranges ∙ f) ∙ rw hopless

@@ -6,14 +6,14 @@ use lib.ListN.{get_or-eq_default}
 use Rattle.plan.specs.Layout.{form_by}
 use Rattle.plan.proofs.forms.form_by.Goals as goal
 
-pub returns-then-plan-eq0 : goal.returns-then-plan-eq0
+pub returns-in_default : goal.returns-in_default
 unfolding form_by
-returns-then-plan-eq0 c = sym (rw (get_or-eq_default c.args.plan.now 0 {n = 0} (omega arith)))
+returns-in_default c = sym (rw (get_or-eq_default c.args.plan.now 0 {n = 0} (omega arith)))
 
-pub returns-then-plan-eq-HEADER2_TAG : goal.returns-then-plan-eq-HEADER2_TAG
+pub returns-then-first-eq-HEADER2_TAG : goal.returns-then-first-eq-HEADER2_TAG
 unfolding form_by
-returns-then-plan-eq-HEADER2_TAG c = sym (rw (eq-eqb _ 17 c.if-plan-eq-HEADER2_TAG.true))
+returns-then-first-eq-HEADER2_TAG c = sym (rw (eq-eqb _ 17 c.if-first-eq-HEADER2_TAG.true))
 
-pub returns : goal.returns
+pub returns-else-first-eq-HEADER2_TAG : goal.returns-else-first-eq-HEADER2_TAG
 unfolding form_by
-returns c = sym (rw (ne_eqb _ 17 c.if-plan-eq-HEADER2_TAG.false))
+returns-else-first-eq-HEADER2_TAG c = sym (rw (ne_eqb _ 17 c.if-first-eq-HEADER2_TAG.false))

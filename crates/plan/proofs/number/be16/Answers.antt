@@ -1,8 +1,7 @@
--- `be16` meets its contract: the two bytes are those of `number2`.
-use native.Mathlib.Omega.{arith}
+-- `be16` meets its contract: the library's number of two bytes is this one.
 use Rattle.plan.specs.Bytes.{number2}
 use Rattle.plan.proofs.number.be16.Goals as goal
 
 pub returns : goal.returns
 unfolding number2
-returns c = omega arith
+returns c = c.from_be_bytes.ensures

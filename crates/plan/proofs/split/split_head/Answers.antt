@@ -6,8 +6,8 @@ use Rattle.plan.specs.Field.{head}
 use Rattle.plan.specs.laws.Whole.{whole, not_whole, head_whole, head_cut}
 use Rattle.plan.proofs.split.split_head.Goals as goal
 
-pub returns-then-plan-at : goal.returns-then-plan-at
-returns-then-plan-at c = sym (head_cut _ _ (not_whole _ _ (omega arith)))
+pub returns-in_err-left : goal.returns-in_err-left
+returns-in_err-left c = rw c.from_residual.ensures (sym (head_cut _ _ (not_whole _ _ (omega (arith, c.in_err-left.ensures)))))
 
 pub returns-then-left-lt-HEAD_SIZE : goal.returns-then-left-lt-HEAD_SIZE
 returns-then-left-lt-HEAD_SIZE c = sym (head_cut _ _ (not_whole _ _ (omega arith)))
