@@ -7,6 +7,7 @@ ghost use Rattle.saving.specs.Slots.{slots_of, kinds_in, kind_at};
 use plan::Form;
 use tables::{FLOWS, PORTS};
 
+// plan's `Field` has a field's numbers beside its kind; this is the kind alone.
 #[derive(Clone, Copy)]
 pub(crate) enum Kind {
     Header,
@@ -68,14 +69,8 @@ pub(crate) fn slots(kind: Kind) -> usize
     ensures { result ≡ slots_of kind }
 {
     match kind {
-        Kind::Header => 1,
-        Kind::Port => PORTS,
-        Kind::Flow => FLOWS,
-        Kind::Extra => PORTS,
-        Kind::Jitter => FLOWS,
-        Kind::Clock => 1,
-        Kind::Header2 => 1,
-        Kind::Port2 => PORTS,
-        Kind::Flow2 => FLOWS,
+        Kind::Header | Kind::Clock | Kind::Header2 => 1,
+        Kind::Port | Kind::Extra | Kind::Port2 => PORTS,
+        Kind::Flow | Kind::Jitter | Kind::Flow2 => FLOWS,
     }
 }

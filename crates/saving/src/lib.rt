@@ -11,12 +11,3 @@ mod whole; // whole.rt: all fields of a plan
 mod held; // held.rt: the plan in the tables
 
 pub use held::save_tables;
-
-#[derive(Clone, Copy)]
-pub enum SaveAnswer {
-    // The length written.
-    Written(usize),
-    NoPlan,
-    // The length needed.
-    ShortBuffer(usize),
-}

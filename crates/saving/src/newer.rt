@@ -1,64 +1,47 @@
 // The field of each kind that the newer form has for one slot, if there is one.
-ghost use Rattle.std.specs.Prelude.{◌≡◌, [], ◌≤◌, ◌<◌, get_or};
-ghost use Rattle.cqf.specs.Limits.{port_slots, flow_slots, max_hops, max_extra};
-ghost use Rattle.cqf.specs.Plan.{equal_clocks};
-ghost use Rattle.tables.specs.Columns.{columns};
+ghost use Rattle.std.specs.Prelude.{◌≡◌, ◌<◌};
+ghost use Rattle.cqf.specs.Limits.{port_slots, flow_slots};
+ghost use Rattle.tables.specs.Lent.{plan_lent};
 ghost use Rattle.writing.specs.Laid.{laid};
 ghost use Rattle.saving.specs.declared.kind.Kind.{Kind};
 ghost use Rattle.saving.specs.Slots.{slot_bytes};
 
-use crate::slot::route_end;
-use tables::{STRIDE, columns};
+use crate::slot::route;
+use tables::Held;
 use writing::flow::put_flow2;
 use writing::newer::put_port2;
 
-pub(crate) fn put_port2_slot<'a>(
-    slot: usize,
-    rates: &'a columns::Rates,
-    blockings: &'a columns::Blockings,
-    extras: &'a columns::Extras,
-    out: &mut [u8],
-)
-    requires { (slot < port_slots) × (get_or extras.now slot 0 ≤ max_extra) }
-    ensures { out.new ≡ laid (slot_bytes Kind.Port2 (columns equal_clocks rates.now blockings.now extras.now [] [] [] [] [] []) slot) out.old }
+pub(crate) fn put_port2_slot(held: Held, slot: usize, out: &mut [u8])
+    requires { slot < port_slots }
+    ensures { out.new ≡ laid (slot_bytes Kind.Port2 (plan_lent held.entry.lent) slot) out.old }
 {
-    let rate = rates[slot];
+    let lent = held.lent;
+    let rate = lent.rates[slot];
     if rate == 0 {
         return;
     }
-    let blocking = blockings[slot];
-    let extra = extras[slot] as u16;
+    let blocking = lent.blockings[slot];
+    let extra = u16::from(lent.extras[slot]);
     put_port2(out, (slot + 1) as u16, rate, blocking, extra);
 }
 
-pub(crate) fn put_flow2_slot<'a>(
-    slot: usize,
-    periods: &'a columns::Periods,
-    counts: &'a columns::Counts,
-    lengths: &'a columns::Lengths,
-    jitters: &'a columns::Jitters,
-    hops: &'a columns::Hops,
-    routes: &'a columns::Routes,
-    out: &mut [u8],
-)
-    requires { (slot < flow_slots) × (get_or hops.now slot 0 ≤ max_hops) }
-    ensures { out.new ≡ laid (slot_bytes Kind.Flow2 (columns equal_clocks [] [] [] periods.now counts.now lengths.now jitters.now hops.now routes.now) slot) out.old }
+pub(crate) fn put_flow2_slot(held: Held, slot: usize, out: &mut [u8])
+    requires { slot < flow_slots }
+    ensures { out.new ≡ laid (slot_bytes Kind.Flow2 (plan_lent held.entry.lent) slot) out.old }
 {
-    let period = periods[slot];
-    let jitter = jitters[slot];
+    let lent = held.lent;
+    let period = lent.periods[slot];
+    let jitter = lent.jitters[slot];
     if period == 0 {
         return;
     }
-    let all = &routes[..];
-    let base = slot * STRIDE;
-    let end = route_end(base, hops[slot]);
     put_flow2(
         out,
         (slot + 1) as u16,
         period,
-        counts[slot],
-        lengths[slot],
+        lent.counts[slot],
+        lent.lengths[slot],
         jitter,
-        &all[base..end],
+        route(held, slot),
     );
 }

@@ -11,7 +11,6 @@ use Rattle.plan_reading.specs.Strict.{Entry}
 use Rattle.plan_reading.specs.FieldBytes.{value_of, bytes_of, row_bytes}
 use Rattle.plan_reading.specs.Saved.{field_when, collect_fields}
 use Rattle.plan_reading.specs.laws.fields.Decoded.{ports_length}
-use Rattle.tables.specs.Columns.{columns}
 use Rattle.saving.specs.declared.kind.Kind.{Kind}
 use Rattle.saving.specs.Slots.{slots_of, field_in, has_field, fields_in, slot_bytes, most_numbers, value_size, slot_size, SlotsInRange}
 
@@ -22,7 +21,7 @@ field_length true x n is = ap length (append-nil (bytes_of x)) ∙ is
 field_length false x n is = refl
 
 -- the ports of a route are as many as the table says
-route_ports : (p : Plan) (f : ℕ) → length (route_of p f) ≡ hops_of p f
+pub route_ports : (p : Plan) (f : ℕ) → length (route_of p f) ≡ hops_of p f
 route_ports p f = sublist_length p.routes (f * route_stride) (hops_of p f)
 
 -- the field of a slot
@@ -40,20 +39,6 @@ bytes_length Kind.Flow2 p f = omega (arith, route_ports p f, ports_length (route
 
 pub slot_length : (kind : Kind) (p : Plan) (i : ℕ) → length (slot_bytes kind p i) ≡ slot_size kind p i
 slot_length kind p i = field_length (has_field kind p i) (field_in kind p i) (head_size + value_size kind p i) (bytes_length kind p i)
-
--- the columns that it goes by
-pub slot_columns
-    : (kind : Kind) (p : Plan) (i : ℕ)
-    → slot_size kind (columns p.clock p.rates [] p.extras p.periods [] [] p.jitters p.hops []) i ≡ slot_size kind p i
-slot_columns Kind.Header p i = refl
-slot_columns Kind.Port p i = refl
-slot_columns Kind.Flow p i = refl
-slot_columns Kind.Extra p i = refl
-slot_columns Kind.Jitter p i = refl
-slot_columns Kind.Clock p i = refl
-slot_columns Kind.Header2 p i = refl
-slot_columns Kind.Port2 p i = refl
-slot_columns Kind.Flow2 p i = refl
 
 -- the fields of one slot more
 pub rows_append : (xs ys : List Entry) → row_bytes (xs ++ ys) ≡ row_bytes xs ++ row_bytes ys

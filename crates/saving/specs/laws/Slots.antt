@@ -1,10 +1,9 @@
 -- Laws of the fields that are saved of a slot.
-use Rattle.std.specs.Prelude.{ℕ, zero, suc, ◌+◌, ◌-◌, ◌≤◌, ◌≡◌, refl, Bool, true, false, ltb, length, get_or, take, drop}
+use Rattle.std.specs.Prelude.{ℕ, zero, suc, ◌+◌, ◌≤◌, ◌≡◌, refl, Bool, true, false, ltb, length, get_or, take, drop}
 use Rattle.std.proofs.Common.{sym, ap, ◌∙◌, add-one, arith, lt-ltb, le-ltb, drop-cons}
 use mathlib.Core.List.{List, ◌∷◌, append-nil}
 use Rattle.cqf.specs.Bounded.{sublist}
 use Rattle.cqf.specs.Limits.{max_hops}
-use Rattle.cqf.proofs.laws.Lists.{sublist_length}
 use Rattle.plan.specs.Layout.{Kind}
 use Rattle.plan_reading.specs.Strict.{Entry}
 use Rattle.plan_reading.specs.FieldBytes.{bytes_of, row_bytes}
@@ -36,23 +35,16 @@ module _ (x : Entry) (buffer : List ℕ) where
   slot_one n some written = test_one (ltb 0 n) (lt-ltb 0 n (omega arith)) written
 
 -- the ports of a route, as the part of the table that they are
-sublist-part : (l : List ℕ) (base h : ℕ) → base + h ≤ length l → take h (drop base l) ≡ sublist l base h
+pub sublist-part : (l : List ℕ) (base h : ℕ) → base + h ≤ length l → take h (drop base l) ≡ sublist l base h
 unfolding sublist
 sublist-part l base zero fits = refl
 sublist-part l base (suc h) fits =
     ap (take (suc h)) (drop-cons l base 0 (omega arith))
     ∙ ap (λ (r : List ℕ). get_or l base 0 ∷ r) (sublist-part l (suc base) h (omega arith))
 
--- a flow over that part is the field of its slot
+-- a flow over a route that is not too long is the field of its slot
 pub flow_part
-    : (kind : Kind) (n : ℕ) (ns l : List ℕ) (base h end : ℕ)
-    → end ≡ base + h
-    → end ≤ length l
-    → h ≤ max_hops
-    → allowed_bytes kind ((n + 1) ∷ ns) (take (end - base) (drop base l)) ≡ routed_bytes kind (suc n ∷ ns) (sublist l base h)
-flow_part kind n ns l base h end is fits few =
-    let r = sublist l base h in
-    let many : end - base ≡ h = omega arith in
-    let there = ap (λ (m : ℕ). take m (drop base l)) many ∙ sublist-part l base h (omega arith) in
-    let size : length r ≡ h = sublist_length l base h in
-    rw (there, route_named kind ((n + 1) ∷ ns) r (omega arith), add-one n)
+    : (kind : Kind) (n : ℕ) (ns r : List ℕ)
+    → length r ≤ max_hops
+    → allowed_bytes kind ((n + 1) ∷ ns) r ≡ routed_bytes kind (suc n ∷ ns) r
+flow_part kind n ns r few = rw (route_named kind ((n + 1) ∷ ns) r few, add-one n)

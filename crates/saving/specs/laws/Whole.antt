@@ -1,7 +1,7 @@
 -- Laws of all fields of a plan: their bytes, and how many they are.
 use Prim.Native.Nat.{ℕ, zero, suc, ◌+◌, ◌*◌, ◌≤◌, ◌<◌}
 use Rattle.std.specs.Prelude.{◌≡◌, Bool, true, false, not, List, [], ◌∷◌, ◌++◌, ltb, length}
-use Rattle.std.proofs.Math.Path.{refl, ap₂, fun_ext}
+use Rattle.std.proofs.Math.Path.{refl, ap₂}
 use Rattle.std.proofs.Common.{sym, ap, ◌∙◌, ⊎_elim, append_assoc, add-one, arith}
 use Rattle.std.proofs.Math.ListN.{length-append}
 use Rattle.cqf.specs.Bounded.{sum_to}
@@ -15,16 +15,9 @@ use Rattle.plan_reading.specs.Part.{Part}
 use Rattle.plan_reading.specs.Strict.{Entry}
 use Rattle.plan_reading.specs.FieldBytes.{bytes_of, row_bytes}
 use Rattle.plan_reading.specs.Saved.{spell, spell_all, when, collect, header_part, port_part, port_parts, flow_part, flow_parts, extra_part, extra_parts, jitter_part, jitter_parts, clock_part, clock_parts, saved_parts, header2_field, field_when, collect_fields, newer_fields, form_bytes}
-use Rattle.tables.specs.Columns.{columns}
 use Rattle.saving.specs.declared.kind.Kind.{Kind}
 use Rattle.saving.specs.Slots.{slots_of, fields_in, kind_bytes, slot_size, kind_size, kinds_in, kind_at, kinds_bytes, saved_size, SlotsInRange}
-use Rattle.saving.specs.laws.Sizes.{most_size, slot_columns, rows_append, collect_length, sum_next, sum_front, slots_few, slot_most}
-
--- the columns that a kind's size goes by
-pub size_columns
-    : (kind : Kind) (p : Plan)
-    → kind_size kind (columns p.clock p.rates [] p.extras p.periods [] [] p.jitters p.hops []) ≡ kind_size kind p
-size_columns kind p = ap (sum_to (slots_of kind)) (fun_ext (slot_columns kind p))
+use Rattle.saving.specs.laws.Sizes.{most_size, rows_append, collect_length, sum_next, sum_front, slots_few, slot_most}
 
 -- the last kind of each form
 pub older_last : (k : ℕ) → 5 ≤ k → kind_at older k ≡ Kind.Clock
@@ -121,14 +114,9 @@ saved_kinds newer p =
 pub kinds_whole : (form : Form) (p : Plan) → length (kinds_bytes form (kinds_in form) p) ≡ length (form_bytes form p)
 kinds_whole form p = ap length (sym (saved_kinds form p))
 
--- the length needed, by the columns that it goes by
-pub size_needed
-    : (form : Form) (p : Plan)
-    → saved_size form (columns p.clock p.rates [] p.extras p.periods [] [] p.jitters p.hops []) ≡ length (form_bytes form p)
-size_needed form p =
-    ap (sum_to (kinds_in form)) (fun_ext (λ k. size_columns (kind_at form k) p))
-    ∙ sym (kinds_length form p (kinds_in form))
-    ∙ kinds_whole form p
+-- the length needed
+pub size_needed : (form : Form) (p : Plan) → saved_size form p ≡ length (form_bytes form p)
+size_needed form p = sym (kinds_length form p (kinds_in form)) ∙ kinds_whole form p
 
 -- the fields of a kind are few bytes
 pub kind_most : (kind : Kind) (p : Plan) → SlotsInRange p.extras p.hops → kind_size kind p ≤ flow_slots * most_size

@@ -6,5 +6,5 @@ use Rattle.saving.proofs.size.field_size.Goals as goal
 pub returns-then-n-eq0 : goal.returns-then-n-eq0
 returns-then-n-eq0 c = rw (le-ltb 0 c.args.n (omega arith))
 
-pub returns : goal.returns
-returns c = rw (lt-ltb 0 c.args.n (omega arith))
+pub returns-else-n-eq0 : goal.returns-else-n-eq0
+returns-else-n-eq0 c = rw (lt-ltb 0 c.args.n (omega arith))

@@ -7,10 +7,9 @@ use borrow.Rule.Slice.PartMut.{mid_len}
 use lib.ListN.{length, length-append}
 use Rattle.cqf.specs.Form.{Form}
 use Rattle.cqf.specs.Plan.{Plan}
-use Rattle.numbers.specs.Clock.{clock_of}
 use Rattle.plan.specs.Answer.{form_of}
 use Rattle.plan_reading.specs.Saved.{form_bytes}
-use Rattle.tables.specs.Columns.{plan_by}
+use Rattle.tables.specs.Lent.{plan_lent}
 use Rattle.saving.specs.declared.kind.Kind.{Kind}
 use Rattle.writing.specs.Laid.{over, Puts}
 use Rattle.saving.specs.Slots.{kind_bytes, kinds_in, kind_at, kinds_bytes}
@@ -29,52 +28,52 @@ room form p k at e now below fits there = omega (arith, there.size, kinds_room f
 
 pub loop-k-init : goal.loop-k-init
 unfolding kinds_bytes
-loop-k-init c = (omega arith, refl, record { size = refl; bytes = refl })
+loop-k-init c = (refl, record { size = refl; bytes = refl })
 
 pub slice_bounds-put_slots-count : goal.slice_bounds-put_slots-count
 slice_bounds-put_slots-count c =
     let a = c.args in
     let form = form_of a.form in
-    let p = plan_by a.guard a.top (clock_of a.clock) a.rates.now a.blockings.now a.extras.now a.periods.now a.counts.now a.lengths.now a.jitters.now a.hops.now a.routes.now in
+    let p = plan_lent a.held.lent in
     let k = c.loop-k.k in
     let e = a.out.now in
-    let below : k < kinds_in form = omega (arith, c.kinds-count.ensures) in
-    let space = room form p k c.loop-k.at e c.loop-k.out below c.requires.1 c.loop-k.invariant.2 in
-    omega (arith, space, c.loop-k.invariant.1)
+    let below : k < kinds_in form = omega (arith, c.kinds-k-end.ensures) in
+    let space = room form p k c.loop-k.at e c.loop-k.out below c.requires c.loop-k.invariant.1 in
+    omega (arith, space, c.loop-k.invariant.0)
 
 pub slice_bounds-put_slots-start : goal.slice_bounds-put_slots-start
 slice_bounds-put_slots-start c =
     let a = c.args in
     let form = form_of a.form in
-    let p = plan_by a.guard a.top (clock_of a.clock) a.rates.now a.blockings.now a.extras.now a.periods.now a.counts.now a.lengths.now a.jitters.now a.hops.now a.routes.now in
+    let p = plan_lent a.held.lent in
     let k = c.loop-k.k in
     let e = a.out.now in
-    let below : k < kinds_in form = omega (arith, c.kinds-count.ensures) in
-    let space = room form p k c.loop-k.at e c.loop-k.out below c.requires.1 c.loop-k.invariant.2 in
-    omega (arith, space, c.loop-k.invariant.1)
+    let below : k < kinds_in form = omega (arith, c.kinds-k-end.ensures) in
+    let space = room form p k c.loop-k.at e c.loop-k.out below c.requires c.loop-k.invariant.1 in
+    omega (arith, space, c.loop-k.invariant.0)
 
 pub put_slots-at-requires : goal.put_slots-at-requires
 put_slots-at-requires c =
     let a = c.args in
     let form = form_of a.form in
-    let p = plan_by a.guard a.top (clock_of a.clock) a.rates.now a.blockings.now a.extras.now a.periods.now a.counts.now a.lengths.now a.jitters.now a.hops.now a.routes.now in
+    let p = plan_lent a.held.lent in
     let k = c.loop-k.k in
     let e = a.out.now in
-    let below : k < kinds_in form = omega (arith, c.kinds-count.ensures) in
-    let space = room form p k c.loop-k.at e c.loop-k.out below c.requires.1 c.loop-k.invariant.2 in
+    let below : k < kinds_in form = omega (arith, c.kinds-k-end.ensures) in
+    let space = room form p k c.loop-k.at e c.loop-k.out below c.requires c.loop-k.invariant.1 in
     let here : kind_bytes c.kind_at.result p ≡ kind_bytes (kind_at form k) p = ap (λ (kind : Kind). kind_bytes kind p) c.kind_at.ensures in
     let out = c.loop-k.out in
-    (c.requires.0, omega (arith, space, ap length here, c.loop-k.invariant.1, mid_len c.loop-k.at (length out) out (omega arith)))
+    omega (arith, space, ap length here, c.loop-k.invariant.0, mid_len c.loop-k.at (length out) out (omega arith))
 
 pub overflow_add-at : goal.overflow_add-at
 overflow_add-at c =
     let a = c.args in
     let form = form_of a.form in
-    let p = plan_by a.guard a.top (clock_of a.clock) a.rates.now a.blockings.now a.extras.now a.periods.now a.counts.now a.lengths.now a.jitters.now a.hops.now a.routes.now in
+    let p = plan_lent a.held.lent in
     let k = c.loop-k.k in
     let e = a.out.now in
-    let below : k < kinds_in form = omega (arith, c.kinds-count.ensures) in
-    let space = room form p k c.loop-k.at e c.loop-k.out below c.requires.1 c.loop-k.invariant.2 in
+    let below : k < kinds_in form = omega (arith, c.kinds-k-end.ensures) in
+    let space = room form p k c.loop-k.at e c.loop-k.out below c.requires c.loop-k.invariant.1 in
     let here : kind_bytes c.kind_at.result p ≡ kind_bytes (kind_at form k) p = ap (λ (kind : Kind). kind_bytes kind p) c.kind_at.ensures in
     omega (arith, space, c.put_slots-at.ensures.size, ap length here)
 
@@ -82,25 +81,25 @@ pub loop-k-preserved : goal.loop-k-preserved
 loop-k-preserved c =
     let a = c.args in
     let form = form_of a.form in
-    let p = plan_by a.guard a.top (clock_of a.clock) a.rates.now a.blockings.now a.extras.now a.periods.now a.counts.now a.lengths.now a.jitters.now a.hops.now a.routes.now in
+    let p = plan_lent a.held.lent in
     let k = c.loop-k.k in
     let e = a.out.now in
-    let below : k < kinds_in form = omega (arith, c.kinds-count.ensures) in
-    let space = room form p k c.loop-k.at e c.loop-k.out below c.requires.1 c.loop-k.invariant.2 in
+    let below : k < kinds_in form = omega (arith, c.kinds-k-end.ensures) in
+    let space = room form p k c.loop-k.at e c.loop-k.out below c.requires c.loop-k.invariant.1 in
     let here : kind_bytes c.kind_at.result p ≡ kind_bytes (kind_at form k) p = ap (λ (kind : Kind). kind_bytes kind p) c.kind_at.ensures in
     let done = kinds_bytes form k p in
     let next = kind_bytes (kind_at form k) p in
     let there = rw here at c.put_slots-at.ensures in
-    let all = puts_more done next e c.loop-k.at c.put_slots-at.result c.loop-k.invariant.2 space there in
-    (omega arith, ap length all.bytes ∙ over_length (done ++ next) e (omega (arith, length-append done next, c.loop-k.invariant.2.size, space)), rw (kinds-next form p k) all)
+    let all = puts_more done next e c.loop-k.at c.put_slots-at.result c.loop-k.invariant.1 space there in
+    (ap length all.bytes ∙ over_length (done ++ next) e (omega (arith, length-append done next, c.loop-k.invariant.1.size, space)), rw (kinds-next form p k) all)
 
 pub returns : goal.returns
 returns c =
     let a = c.args in
     let form = form_of a.form in
-    let p = plan_by a.guard a.top (clock_of a.clock) a.rates.now a.blockings.now a.extras.now a.periods.now a.counts.now a.lengths.now a.jitters.now a.hops.now a.routes.now in
+    let p = plan_lent a.held.lent in
     let e = a.out.now in
-    let all : c.loop-k.k ≡ kinds_in form = omega (arith, c.kinds-count.ensures) in
-    c.loop-k.invariant.2.bytes
+    let all : c.loop-k.k ≡ kinds_in form = omega (arith, c.kinds-k-end.ensures) in
+    c.loop-k.invariant.1.bytes
     ∙ ap (λ (k : ℕ). over (kinds_bytes form k p) e) all
     ∙ ap (λ (bs : List ℕ). over bs e) (sym (saved_kinds form p))

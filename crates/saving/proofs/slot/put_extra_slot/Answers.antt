@@ -1,0 +1,28 @@
+-- `put_extra_slot` meets its contract, by whether the slot has the field.
+use mathlib.Core.Path.{ap, ◌∙◌}
+use Prim.Native.Nat.{ℕ}
+use native.Mathlib.Numerals.{add-one}
+use native.Mathlib.Omega.{arith}
+use Rattle.cqf.specs.Plan.{extra_of}
+use Rattle.plan_reading.specs.Part.{extra}
+use Rattle.writing.specs.Fields.{field_bytes}
+use Rattle.tables.specs.Lent.{plan_lent}
+use Rattle.writing.specs.Laid.{laid}
+use Rattle.saving.specs.declared.kind.Kind.{Kind}
+use Rattle.saving.specs.Slots.{field_in}
+use Rattle.saving.specs.laws.Slots.{slot_none, slot_one}
+use Rattle.saving.proofs.slot.put_extra_slot.Goals as goal
+
+pub returns-then-bytes-eq0 : goal.returns-then-bytes-eq0
+returns-then-bytes-eq0 c =
+    let a = c.args in
+    let p = plan_lent a.held.lent in
+    slot_none (field_in Kind.Extra p a.slot) a.out.now (extra_of p a.slot) (omega arith)
+
+pub returns : goal.returns
+returns c =
+    let a = c.args in
+    let p = plan_lent a.held.lent in
+    let q = a.slot in
+    slot_one (field_in Kind.Extra p q) a.out.now (extra_of p q) c.if-bytes-eq0.false
+    ((rw c.from.ensures at c.put_extra.ensures) ∙ ap (λ (n : ℕ). laid (field_bytes (extra n (extra_of p q))) a.out.now) (add-one q))
