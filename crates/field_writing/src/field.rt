@@ -11,7 +11,7 @@ use plan::layout::route_start;
 use plan::read::field_at;
 use plan::route::{route_bytes, route_repeats};
 use plan::split::field_value;
-use plan::{Fault, FieldRead, Form};
+use plan::{Fault, Form};
 use writing::number::put_bytes;
 use writing::room::has_room;
 
@@ -36,14 +36,10 @@ pub(crate) fn write_field(
 ) -> Result<usize, WriteRefusal>
     ensures { WritesBytes (form_of form) field.now buffer.old (write_of result) buffer.new }
 {
-    match field_at(form, field, 0) {
-        FieldRead::Refused { fault, offset: _ } => Err(WriteRefusal::Refused(fault)),
-        FieldRead::Field { field: x, next: _ } => {
-            let route = route_bytes(field_value(field, 0), route_start(x));
-            if route_repeats(route) {
-                return Err(WriteRefusal::Refused(Fault::RepeatedPort));
-            }
-            put_whole(field, buffer)
-        }
+    let read = field_at(form, field, 0)?;
+    let route = route_bytes(field_value(field, 0), route_start(read.field));
+    if route_repeats(route) {
+        return Err(WriteRefusal::Refused(Fault::RepeatedPort));
     }
+    put_whole(field, buffer)
 }

@@ -2,7 +2,10 @@
 // refused, and nothing is written of it.
 #![tactic(auto)]
 
-use plan::Fault;
+ghost use Rattle.std.specs.Prelude.{◌≡◌};
+ghost use Rattle.field_writing.specs.declared.WriteRefusal.TheVariants as WriteRefusal;
+
+use plan::{Fault, Refusal};
 
 mod field; // field.rt: a field's bytes, tested as they are read, into a buffer
 mod narrow; // narrow.rt: numbers that are given wider than they are written
@@ -21,4 +24,12 @@ pub enum WriteRefusal {
     Refused(Fault),
     // The length needed.
     ShortBuffer(usize),
+}
+
+impl From<Refusal> for WriteRefusal {
+    ghost from_gives = { λ r e. e ≡ WriteRefusal.Refused r.fault };
+
+    fn from(refusal: Refusal) -> WriteRefusal {
+        WriteRefusal::Refused(refusal.fault)
+    }
 }
