@@ -1,5 +1,5 @@
 -- Document 01's number and values for each case of a load's answer.
-use Rattle.std.specs.Prelude.{ℕ, ◌≡◌, List, [], ◌∷◌, Bool, true, false}
+use Rattle.std.specs.Prelude.{ℕ, ◌≡◌, List, [], ◌∷◌, Bool, true, false, Result, Ok, Err}
 use Rattle.cqf.specs.Plan.{Plan}
 use Rattle.cqf.specs.Form.{Form}
 use Rattle.plan.specs.Answer.{fault_number}
@@ -7,12 +7,13 @@ use Rattle.plan_reading.specs.Reading.{Mode, loose, strict}
 use Rattle.tables.specs.Tables.{plan_of}
 use Rattle.answers.specs.Answer.{Answer, result, refusal}
 use Rattle.loading.specs.Outcome.{Fields, form_answer, form_leaves, form_left, load_answer, load_leaves, load_form}
-use Rattle.loading.specs.declared.LoadAnswer.{LoadAnswer}
+use Rattle.plan.specs.declared.Refusal.{Refusal}
+use Rattle.loading.specs.declared.Loaded.{Loaded}
 use Rattle.loading.specs.declared.LoadOutcome.{LoadOutcome}
 
-abbrev pub load_of : LoadAnswer → Answer Fields
-load_of (LoadAnswer.Held ports flows) = result (record { ports = ports; flows = flows })
-load_of (LoadAnswer.Refused fault offset) = refusal (fault_number fault) (offset ∷ [])
+abbrev pub load_of : Result Loaded Refusal → Answer Fields
+load_of (Ok l) = result (record { ports = l.ports; flows = l.flows })
+load_of (Err r) = refusal (fault_number r.fault) (r.offset ∷ [])
 
 -- the reading that is strict or not
 abbrev pub mode_of : Bool → Mode

@@ -1,12 +1,13 @@
 -- Tables that are lent column by column, and what a load leaves in them.
-use Rattle.std.specs.Prelude.{ℕ, ◌≡◌, List}
+use Rattle.std.specs.Prelude.{ℕ, ◌≡◌, List, Result}
 use Rattle.cqf.specs.Form.{Form, held_top}
 use Rattle.cqf.specs.Plan.{Plan, no_plan}
 use Rattle.plan_reading.specs.Reading.{Mode}
 use Rattle.tables.specs.Columns.{plan_by}
 use Rattle.loading.specs.Answer.{load_of}
 use Rattle.loading.specs.Outcome.{form_answer, form_leaves, load_answer, load_leaves, load_form}
-use Rattle.loading.specs.declared.LoadAnswer.{LoadAnswer}
+use Rattle.plan.specs.declared.Refusal.{Refusal}
+use Rattle.loading.specs.declared.Loaded.{Loaded}
 
 -- what is lent: the form's number beside the tables, each number as it stands
 pub record Lent : Type 0 where
@@ -34,13 +35,13 @@ abbrev pub none_lent : Lent
 none_lent = record { form = 0; tables = no_plan }
 
 -- a load of these bytes in this reading: each number that it leaves, the plan that is then held, and its answer
-pub record LoadsLent (mode : Mode) (entry : Lent) (bytes : List ℕ) (exit : Lent) (answer : LoadAnswer) : Type 0 where
+pub record LoadsLent (mode : Mode) (entry : Lent) (bytes : List ℕ) (exit : Lent) (answer : Result Loaded Refusal) : Type 0 where
   pub leaves : exit.tables ≡ load_leaves mode entry.tables bytes
   pub formed : exit.form ≡ load_form mode entry.form bytes
   pub holds : lent_plan exit ≡ load_leaves mode (lent_plan entry) bytes
   pub answers : load_of answer ≡ load_answer mode bytes
 
 -- bytes read as a plan of this form, in this reading, into columns that held none: the plan that is then in them, and the answer
-pub record ReadsForm (form : Form) (mode : Mode) (bytes : List ℕ) (exit : Plan) (answer : LoadAnswer) : Type 0 where
+pub record ReadsForm (form : Form) (mode : Mode) (bytes : List ℕ) (exit : Plan) (answer : Result Loaded Refusal) : Type 0 where
   pub leaves : exit ≡ form_leaves form mode no_plan bytes
   pub answers : load_of answer ≡ form_answer form mode bytes

@@ -1,5 +1,5 @@
 -- The load's working values, as the definitions of the reading have them.
-use Rattle.std.specs.Prelude.{ℕ, ◌≤◌, ◌<◌, ◌≡◌, Bool, true, false, ◌||◌, List, ltb, length, get_or, take, drop}
+use Rattle.std.specs.Prelude.{ℕ, ◌≤◌, ◌<◌, ◌≡◌, Bool, true, false, ◌||◌, List, ltb, length, get_or, take, drop, Result, Ok, Err}
 use Rattle.cqf.specs.Bounded.{any_to, every}
 use Rattle.cqf.specs.Limits.{port_slots, flow_slots}
 use Rattle.cqf.specs.Plan.{Plan, port_in}
@@ -10,38 +10,38 @@ use Rattle.plan_reading.specs.Draft.{Draft}
 use Rattle.plan_reading.specs.Reading.{PlanRead, accepted, rejected, Step, stop, more, names_absent, jitter_absent, extra_absent, first_absent, closing}
 use Rattle.plan_reading.specs.Overlong.{overlong}
 use Rattle.tables.specs.Columns.{plan_by}
-use Rattle.loading.specs.declared.LoadAnswer.{LoadAnswer}
+use Rattle.tables.specs.declared.Planner.{Planner}
+use Rattle.plan.specs.declared.Refusal.{Refusal}
+use Rattle.loading.specs.declared.Loaded.{Loaded}
 use Rattle.loading.specs.declared.first.Sought.{Sought}
-use Rattle.loading.specs.declared.store.Totals.{Totals}
-use Rattle.loading.specs.declared.field.Progress.{Progress}
+use Rattle.loading.specs.declared.store.Tally.{Tally}
+use Rattle.loading.specs.declared.field.Place.{Place}
 
--- the draft in the columns so far
-abbrev pub draft_of : Totals → (rates blockings extras periods counts lengths jitters hops routes seen : List ℕ) → Draft
-draft_of t rates blockings extras periods counts lengths jitters hops routes seen =
-    record {
-      tables = plan_by t.guard t.top (clock_of t.clock) rates blockings extras periods counts lengths jitters hops routes;
-      seen = seen;
-      ports = t.ports;
-      flows = t.flows;
-    }
+-- the plan in these tables, whatever form they are said to have
+abbrev pub tables_of : Planner → Plan
+tables_of t =
+    plan_by t.guard t.top (clock_of t.clock) t.rates t.blockings t.extras t.periods t.counts t.lengths t.jitters t.hops t.routes
+
+-- the draft in the tables so far
+abbrev pub draft_of : Planner → Tally → Draft
+draft_of t y = record { tables = tables_of t; seen = y.seen; ports = y.ports; flows = y.flows }
 
 -- one field read
-abbrev pub progress_of : Progress → (rates blockings extras periods counts lengths jitters hops routes seen : List ℕ) → Step
-progress_of (Progress.More next key totals) rates blockings extras periods counts lengths jitters hops routes seen =
-    more next key (draft_of totals rates blockings extras periods counts lengths jitters hops routes seen)
-progress_of (Progress.Stop fault offset) rates blockings extras periods counts lengths jitters hops routes seen = stop (fault_number fault) offset
+abbrev pub progress_of : Result Place Refusal → Planner → Tally → Step
+progress_of (Ok p) t y = more p.at p.last (draft_of t y)
+progress_of (Err r) t y = stop (fault_number r.fault) r.offset
 
--- what is sought in a field, in a plan with these rates and periods
-abbrev pub sought_in : Sought → (rates periods : List ℕ) → List ℕ → ℕ → Bool
-sought_in Sought.AbsentPort rates periods = names_absent rates
-sought_in Sought.AbsentJitterFlow rates periods = jitter_absent periods
-sought_in Sought.AbsentExtraPort rates periods = extra_absent rates
-sought_in Sought.LongRoute rates periods = overlong
+-- what is sought in a field
+abbrev pub sought_in : Sought → List ℕ → ℕ → Bool
+sought_in (Sought.AbsentPort rates) = names_absent rates.now
+sought_in (Sought.AbsentJitterFlow periods) = jitter_absent periods.now
+sought_in (Sought.AbsentExtraPort rates) = extra_absent rates.now
+sought_in Sought.LongRoute = overlong
 
 -- a whole plan read into these tables
-abbrev pub answer_of : Plan → LoadAnswer → PlanRead
-answer_of p (LoadAnswer.Held ports flows) = accepted p ports flows
-answer_of p (LoadAnswer.Refused fault offset) = rejected (fault_number fault) offset
+abbrev pub answer_of : Plan → Result Loaded Refusal → PlanRead
+answer_of p (Ok l) = accepted p l.ports l.flows
+answer_of p (Err r) = rejected (fault_number r.fault) r.offset
 
 -- what is above 0 in the one is above 0 in the other
 abbrev pub Covers : (l m : List ℕ) → Type 0
@@ -63,9 +63,9 @@ pub record Marks (before after bytes : List ℕ) (at : ℕ) : Type 0 where
   pub routed : names_absent after bytes at ≡ false
   pub only : (m : List ℕ) → AtMost before m → names_absent m bytes at ≡ false → AtMost after m
 
-abbrev pub Names : Progress → (before after bytes : List ℕ) (at : ℕ) → Type 0
-Names (Progress.More next key totals) before after s at = Marks before after s at
-Names (Progress.Stop fault offset) before after s at = Unit {0}
+abbrev pub Names : Result Place Refusal → (before after bytes : List ℕ) (at : ℕ) → Type 0
+Names (Ok p) before after s at = Marks before after s at
+Names (Err r) before after s at = Unit {0}
 
 -- the marks of these many keys from this one on
 abbrev pub marks_of : List ℕ → (key keys : ℕ) → List ℕ
@@ -82,11 +82,7 @@ any_absent named seen =
     || (lacking (marks_of seen extra_keys port_slots) (marks_of seen port_keys port_slots)
     || lacking (marks_of seen jitter_keys flow_slots) (marks_of seen flow_keys flow_slots))
 
--- the answer of the tests 8 and 9, for any tables with these rates and periods, where test 9 finds a field exactly if something is absent
-abbrev pub ClosesWith : (bytes named rates periods seen : List ℕ) (ports flows : ℕ) → LoadAnswer → Type 0
-ClosesWith bytes named rates periods seen ports flows answer =
-    (p : Plan)
-    → p.rates ≡ rates
-    → p.periods ≡ periods
-    → any_absent named seen ≡ ltb (first_absent rates periods bytes) (length bytes)
-    → answer_of p answer ≡ closing bytes (record { tables = p; seen = seen; ports = ports; flows = flows })
+-- the answer of the tests 8 and 9, where test 9 finds a field exactly if something is absent
+abbrev pub ClosesWith : (bytes : List ℕ) → Planner → Tally → Result Loaded Refusal → Type 0
+ClosesWith bytes t y answer =
+    any_absent y.named y.seen ≡ ltb (first_absent t.rates t.periods bytes) (length bytes) → answer_of (tables_of t) answer ≡ closing bytes (draft_of t y)

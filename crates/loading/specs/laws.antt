@@ -1,5 +1,6 @@
 -- Laws of the load.
 pub mod Copy
+pub mod Empty
 pub mod Load
 pub mod Lent
 pub mod Twice

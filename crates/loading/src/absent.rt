@@ -12,12 +12,10 @@ fn any_lacking(marks: &[u8], others: &[u8]) -> bool
     ensures { result ≡ lacking marks.now others.now }
 {
     let mut found = false;
-    let mut i = 0;
-    while i < marks.len() {
+    for i in 0..marks.len() {
         if others[i] < marks[i] {
             found = true;
         }
-        i += 1;
     }
     found
 }
@@ -28,14 +26,8 @@ pub(crate) fn any_absent(named: &[u8; PORTS], seen: &[u8; KEYS]) -> bool
 {
     let marks = &seen[..];
     let ports = &marks[PORT_KEYS..FLOW_KEYS];
-    if any_lacking(&named[..], ports) {
-        return true;
-    }
-    if any_lacking(&marks[EXTRA_KEYS..JITTER_KEYS], ports) {
-        return true;
-    }
-    any_lacking(
-        &marks[JITTER_KEYS..CLOCK_KEY],
-        &marks[FLOW_KEYS..EXTRA_KEYS],
-    )
+    let flows = &marks[FLOW_KEYS..EXTRA_KEYS];
+    any_lacking(&named[..], ports)
+        || any_lacking(&marks[EXTRA_KEYS..JITTER_KEYS], ports)
+        || any_lacking(&marks[JITTER_KEYS..CLOCK_KEY], flows)
 }

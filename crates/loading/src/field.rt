@@ -9,23 +9,16 @@ ghost use Rattle.loading.specs.Answer.{mode_of};
 ghost use Rattle.loading.specs.Loading.{draft_of, progress_of, Names};
 
 use crate::repeat::{field_route, mark_named};
-use crate::store::{KEYS, Totals, key_of, store_field};
+use crate::store::{Tally, key_of, store_field};
 use plan::read::field_at;
-use plan::{Fault, Field, FieldRead, Form};
-use tables::{PORTS, columns};
+use plan::{Fault, Field, FieldAt, Form, Refusal};
+use tables::Planner;
 
-// Whether the reading goes on after a field.
+// Where the reading has come to: the offset of the next field, and the key of the field in front of it.
 #[derive(Clone, Copy)]
-pub(crate) enum Progress {
-    More {
-        next: usize,
-        key: usize,
-        totals: Totals,
-    },
-    Stop {
-        fault: Fault,
-        offset: usize,
-    },
+pub(crate) struct Place {
+    pub at: usize,
+    pub last: usize,
 }
 
 // Whether a plan of this form is read strictly: one of the newer form always is.
@@ -42,112 +35,71 @@ pub(crate) fn strict_in(form: Form, strict: bool) -> bool
 fn is_late(strict: bool, field: Field, last: usize) -> bool
     ensures { result ≡ late (mode_of strict) last (field_of field) }
 {
-    if !strict {
-        return false;
-    }
-    key_of(field) < last
+    strict && key_of(field) < last
 }
 
-// A field that passed the tests 2 to 5: the tests 6, 12 and 7, and the field stored, in a plan of this form. last is the key of the field in front of it;
-// named has a mark for each port that a route names.
+// A field that passed the tests 2 to 5: the tests 6, 12 and 7, and the field stored, in a plan of this form.
 fn take_field(
     form: Form,
     strict: bool,
     plan: &[u8],
-    at: usize,
-    last: usize,
-    x: Field,
-    next: usize,
-    totals: Totals,
-    rates: &mut columns::Rates,
-    blockings: &mut columns::Blockings,
-    extras: &mut columns::Extras,
-    periods: &mut columns::Periods,
-    counts: &mut columns::Counts,
-    lengths: &mut columns::Lengths,
-    jitters: &mut columns::Jitters,
-    hops: &mut columns::Hops,
-    routes: &mut columns::Routes,
-    seen: &mut [u8; KEYS],
-    named: &mut [u8; PORTS],
-) -> Progress
-    requires { (totals.ports ≤ max_bytes)
-        × (totals.flows ≤ max_bytes)
-        × (length named.old ≡ port_slots)
-        × (field_at (form_of form) plan.now at ≡ field (field_of x) next) }
-    ensures steps { progress_of result rates.new blockings.new extras.new periods.new
-        counts.new lengths.new jitters.new hops.new routes.new
-        seen.new ≡ step_at (form_of form) (mode_of strict) plan.now at last
-        (draft_of totals rates.old blockings.old extras.old periods.old
-        counts.old lengths.old jitters.old hops.old
-        routes.old seen.old) }
-    ensures names { Names result named.old named.new plan.now at }
+    place: Place,
+    found: FieldAt,
+    tables: &mut Planner,
+    tally: &mut Tally,
+) -> Result<Place, Refusal>
+    requires ports { tally.old.ports ≤ max_bytes }
+    requires flows { tally.old.flows ≤ max_bytes }
+    requires named { length tally.old.named ≡ port_slots }
+    requires found { field_at (form_of form) plan.now place.at ≡ field (field_of found.field) found.next }
+    ensures steps { progress_of result tables.new tally.new
+        ≡ step_at (form_of form) (mode_of strict) plan.now place.at place.last (draft_of tables.old tally.old) }
+    ensures names { Names result tally.old.named tally.new.named plan.now place.at }
 {
+    let x = found.field;
     let key = key_of(x);
-    if 0 < seen[key] {
-        return Progress::Stop {
+    if 0 < tally.seen[key] {
+        return Err(Refusal {
             fault: Fault::Duplicate,
-            offset: at,
-        };
+            offset: place.at,
+        });
     }
-    if is_late(strict, x, last) {
-        return Progress::Stop {
+    if is_late(strict, x, place.last) {
+        return Err(Refusal {
             fault: Fault::OutOfOrder,
-            offset: at,
-        };
+            offset: place.at,
+        });
     }
-    let route = field_route(plan, at, x, next);
-    if mark_named(route, named) {
-        return Progress::Stop {
+    let route = field_route(plan, place.at, found);
+    if mark_named(route, &mut tally.named) {
+        return Err(Refusal {
             fault: Fault::RepeatedPort,
-            offset: at,
-        };
+            offset: place.at,
+        });
     }
-    let sums = store_field(
-        x, route, totals, rates, blockings, extras, periods, counts, lengths, jitters, hops,
-        routes, seen,
-    );
-    Progress::More {
-        next,
-        key,
-        totals: sums,
-    }
+    store_field(x, route, tables, tally);
+    Ok(Place {
+        at: found.next,
+        last: key,
+    })
 }
 
-// The field at this offset of a plan of this form.
+// The field at this place of a plan of this form, and the place after it.
 pub(crate) fn step(
     form: Form,
     strict: bool,
     plan: &[u8],
-    at: usize,
-    last: usize,
-    totals: Totals,
-    rates: &mut columns::Rates,
-    blockings: &mut columns::Blockings,
-    extras: &mut columns::Extras,
-    periods: &mut columns::Periods,
-    counts: &mut columns::Counts,
-    lengths: &mut columns::Lengths,
-    jitters: &mut columns::Jitters,
-    hops: &mut columns::Hops,
-    routes: &mut columns::Routes,
-    seen: &mut [u8; KEYS],
-    named: &mut [u8; PORTS],
-) -> Progress
-    requires { (totals.ports ≤ max_bytes) × (totals.flows ≤ max_bytes) × (length named.old ≡ port_slots) }
-    ensures steps { progress_of result rates.new blockings.new extras.new periods.new
-        counts.new lengths.new jitters.new hops.new routes.new
-        seen.new ≡ step_at (form_of form) (mode_of strict) plan.now at last
-        (draft_of totals rates.old blockings.old extras.old periods.old
-        counts.old lengths.old jitters.old hops.old
-        routes.old seen.old) }
-    ensures names { Names result named.old named.new plan.now at }
+    place: Place,
+    tables: &mut Planner,
+    tally: &mut Tally,
+) -> Result<Place, Refusal>
+    requires ports { tally.old.ports ≤ max_bytes }
+    requires flows { tally.old.flows ≤ max_bytes }
+    requires named { length tally.old.named ≡ port_slots }
+    ensures steps { progress_of result tables.new tally.new
+        ≡ step_at (form_of form) (mode_of strict) plan.now place.at place.last (draft_of tables.old tally.old) }
+    ensures names { Names result tally.old.named tally.new.named plan.now place.at }
 {
-    match field_at(form, plan, at) {
-        FieldRead::Field { field, next } => take_field(
-            form, strict, plan, at, last, field, next, totals, rates, blockings, extras, periods,
-            counts, lengths, jitters, hops, routes, seen, named,
-        ),
-        FieldRead::Refused { fault, offset } => Progress::Stop { fault, offset },
-    }
+    let found = field_at(form, plan, place.at)?;
+    take_field(form, strict, plan, place, found, tables, tally)
 }

@@ -1,14 +1,14 @@
-// The load into lent columns: the plan is read into fresh ones, which are stored once, where it is accepted; a refused load stores nothing.
+// The load into lent columns: the plan is read into fresh tables, which are stored once, where it is accepted; a refused load stores nothing.
 
 ghost use Rattle.loading.specs.Answer.{mode_of};
 ghost use Rattle.loading.specs.Lent.{lent, LoadsLent};
 
-use crate::LoadAnswer;
-use crate::reading::read_columns;
-use plan::{form_by, form_number};
-use tables::{FLOWS, PORTS, STRIDE, columns};
+use crate::Loaded;
+use crate::reading::read_tables;
+use plan::{Refusal, form_by, form_number};
+use tables::{columns, empty};
 
-// A load in either reading, by the form that the bytes tell.
+// A load in either reading, by the form that the bytes tell. The C interface lends each number and column at a pointer of its own.
 pub fn load_columns(
     strict: bool,
     form: &mut u32,
@@ -27,7 +27,7 @@ pub fn load_columns(
     hops: &mut columns::Hops,
     routes: &mut columns::Routes,
     plan: &[u8],
-) -> LoadAnswer
+) -> Result<Loaded, Refusal>
     ensures { LoadsLent (mode_of strict)
         (lent form.old guard.old top.old drift.old
         timing_jitter.old sync_error.old rates.old blockings.old
@@ -41,55 +41,22 @@ pub fn load_columns(
         result }
 {
     let told = form_by(plan);
-    let mut fresh_rates = [0u32; PORTS];
-    let mut fresh_blockings = [0u16; PORTS];
-    let mut fresh_extras = [0u8; PORTS];
-    let mut fresh_periods = [0u32; FLOWS];
-    let mut fresh_counts = [0u16; FLOWS];
-    let mut fresh_lengths = [0u16; FLOWS];
-    let mut fresh_jitters = [0u32; FLOWS];
-    let mut fresh_hops = [0u8; FLOWS];
-    let mut fresh_routes = [0u8; FLOWS * STRIDE];
-    let read = read_columns(
-        told,
-        strict,
-        plan,
-        &mut fresh_rates,
-        &mut fresh_blockings,
-        &mut fresh_extras,
-        &mut fresh_periods,
-        &mut fresh_counts,
-        &mut fresh_lengths,
-        &mut fresh_jitters,
-        &mut fresh_hops,
-        &mut fresh_routes,
-    );
-    let answer = read.answer;
-    let totals = read.totals;
-    let clock = totals.clock;
-    let number = form_number(told);
-    match answer {
-        LoadAnswer::Held { ports: _, flows: _ } => {
-            *form = number;
-            *guard = totals.guard;
-            *top = totals.top;
-            *drift = clock.drift;
-            *timing_jitter = clock.timing_jitter;
-            *sync_error = clock.sync_error;
-            *rates = fresh_rates;
-            *blockings = fresh_blockings;
-            *extras = fresh_extras;
-            *periods = fresh_periods;
-            *counts = fresh_counts;
-            *lengths = fresh_lengths;
-            *jitters = fresh_jitters;
-            *hops = fresh_hops;
-            *routes = fresh_routes;
-            answer
-        }
-        LoadAnswer::Refused {
-            fault: _,
-            offset: _,
-        } => answer,
-    }
+    let mut fresh = empty();
+    let loaded = read_tables(told, strict, plan, &mut fresh)?;
+    *form = form_number(told);
+    *guard = fresh.guard;
+    *top = fresh.top;
+    *drift = fresh.clock.drift;
+    *timing_jitter = fresh.clock.timing_jitter;
+    *sync_error = fresh.clock.sync_error;
+    *rates = fresh.rates;
+    *blockings = fresh.blockings;
+    *extras = fresh.extras;
+    *periods = fresh.periods;
+    *counts = fresh.counts;
+    *lengths = fresh.lengths;
+    *jitters = fresh.jitters;
+    *hops = fresh.hops;
+    *routes = fresh.routes;
+    Ok(loaded)
 }

@@ -1,154 +1,78 @@
-// A whole plan read into fresh columns: test 1; fields from the front, each tested for 2 to 7, strictly
+// A whole plan read into fresh tables: test 1; fields from the front, each tested for 2 to 7, strictly
 // with 12 between 6 and 7; then 8, then 9.
 
 ghost use Rattle.std.specs.Prelude.{◌≡◌};
 ghost use Rattle.cqf.specs.Bounded.{within};
-ghost use Rattle.cqf.specs.Plan.{equal_clocks, no_plan};
-ghost use Rattle.numbers.specs.Clock.{clock_of};
+ghost use Rattle.cqf.specs.Plan.{no_plan};
 ghost use Rattle.plan.specs.Answer.{form_of};
 ghost use Rattle.plan_reading.specs.Reading.{max_bytes, read_form};
-ghost use Rattle.tables.specs.Columns.{plan_by};
 ghost use Rattle.loading.specs.Answer.{mode_of};
-ghost use Rattle.loading.specs.Loading.{answer_of, ClosesWith};
+ghost use Rattle.loading.specs.Loading.{tables_of, answer_of, ClosesWith};
 
 use crate::absent::any_absent;
-use crate::field::{Progress, step, strict_in};
+use crate::field::{Place, step, strict_in};
 use crate::first::first_absent;
-use crate::store::{HEADER_KEY, KEYS, Totals};
-use crate::{LoadAnswer, MAX_BYTES};
-use numbers::clock::Clock;
-use plan::{Fault, Form};
-use tables::{PORTS, columns};
-
-// What was read of a plan beside its columns: the header's and the clock's numbers, and what the rules answer.
-#[derive(Clone, Copy)]
-pub(crate) struct ColumnsRead {
-    pub totals: Totals,
-    pub answer: LoadAnswer,
-}
+use crate::store::{HEADER_KEY, KEYS, Tally};
+use crate::{Loaded, MAX_BYTES};
+use plan::{Fault, Form, Refusal};
+use tables::{PORTS, Planner};
 
 // All fields are read: the tests 8 and 9. The fields are looked at again only where something is absent that one of them names.
-fn close<'a>(
-    plan: &[u8],
-    ports: u16,
-    flows: u16,
-    named: &[u8; PORTS],
-    rates: &'a columns::Rates,
-    periods: &'a columns::Periods,
-    seen: &[u8; KEYS],
-) -> LoadAnswer
-    ensures { ClosesWith plan.now named.now rates.now periods.now seen.now ports flows result }
+fn close(plan: &[u8], tables: &Planner, tally: &Tally) -> Result<Loaded, Refusal>
+    ensures { ClosesWith plan.now tables.now tally.now result }
 {
-    if seen[HEADER_KEY] == 0 {
-        return LoadAnswer::Refused {
+    if tally.seen[HEADER_KEY] == 0 || tally.flows == 0 {
+        return Err(Refusal {
             fault: Fault::Incomplete,
             offset: plan.len(),
-        };
+        });
     }
-    if flows == 0 {
-        return LoadAnswer::Refused {
-            fault: Fault::Incomplete,
-            offset: plan.len(),
-        };
-    }
-    if any_absent(named, seen) {
-        return LoadAnswer::Refused {
+    if any_absent(&tally.named, &tally.seen) {
+        return Err(Refusal {
             fault: Fault::NotInPlan,
-            offset: first_absent(plan, rates, periods),
-        };
+            offset: first_absent(plan, &tables.rates, &tables.periods),
+        });
     }
-    LoadAnswer::Held { ports, flows }
+    Ok(Loaded {
+        ports: tally.ports,
+        flows: tally.flows,
+    })
 }
 
 // Test 1.
 fn size_ok(size: usize) -> bool
     ensures { result ≡ within 1 max_bytes size }
 {
-    if size < 1 {
-        return false;
-    }
-    size <= MAX_BYTES
+    1 <= size && size <= MAX_BYTES
 }
 
-// The bytes read as a plan of this form, in either reading, into columns that are all 0: what the rules answer, and beside it the numbers
-// that are in no column. The columns then hold the plan where it is accepted, and what was read of it where not.
-pub(crate) fn read_columns(
+// The bytes read as a plan of this form, in either reading, into tables that are all 0: what the rules answer. The tables then hold the
+// plan where it is accepted, and what was read of it where not.
+pub(crate) fn read_tables(
     form: Form,
     strict: bool,
     plan: &[u8],
-    rates: &mut columns::Rates,
-    blockings: &mut columns::Blockings,
-    extras: &mut columns::Extras,
-    periods: &mut columns::Periods,
-    counts: &mut columns::Counts,
-    lengths: &mut columns::Lengths,
-    jitters: &mut columns::Jitters,
-    hops: &mut columns::Hops,
-    routes: &mut columns::Routes,
-) -> ColumnsRead
-    requires { plan_by 0 0 equal_clocks rates.old blockings.old extras.old periods.old counts.old lengths.old
-        jitters.old hops.old routes.old ≡ no_plan }
-    ensures { answer_of
-        (plan_by result.totals.guard result.totals.top (clock_of result.totals.clock) rates.new blockings.new
-        extras.new periods.new counts.new lengths.new jitters.new
-        hops.new routes.new)
-        result.answer ≡ read_form (form_of form) (mode_of strict) plan.now }
+    tables: &mut Planner,
+) -> Result<Loaded, Refusal>
+    requires { tables_of tables.old ≡ no_plan }
+    ensures { answer_of (tables_of tables.new) result ≡ read_form (form_of form) (mode_of strict) plan.now }
 {
-    let mut totals = Totals {
-        guard: 0,
-        top: 0,
-        clock: Clock {
-            drift: 0,
-            timing_jitter: 0,
-            sync_error: 0,
-        },
-        ports: 0,
-        flows: 0,
-    };
     if !size_ok(plan.len()) {
-        return ColumnsRead {
-            totals,
-            answer: LoadAnswer::Refused {
-                fault: Fault::Size,
-                offset: 0,
-            },
-        };
+        return Err(Refusal {
+            fault: Fault::Size,
+            offset: 0,
+        });
     }
     let strictly = strict_in(form, strict);
-    let mut seen = [0u8; KEYS];
-    let mut named = [0u8; PORTS];
-    let mut last = 0;
-    let mut at = 0;
-    while at < plan.len() {
-        match step(
-            form, strictly, plan, at, last, totals, rates, blockings, extras, periods, counts,
-            lengths, jitters, hops, routes, &mut seen, &mut named,
-        ) {
-            Progress::More {
-                next,
-                key,
-                totals: sums,
-            } => {
-                totals = sums;
-                last = key;
-                at = next;
-            }
-            Progress::Stop { fault, offset } => {
-                return ColumnsRead {
-                    totals,
-                    answer: LoadAnswer::Refused { fault, offset },
-                };
-            }
-        }
+    let mut tally = Tally {
+        ports: 0,
+        flows: 0,
+        seen: [0; KEYS],
+        named: [0; PORTS],
+    };
+    let mut place = Place { at: 0, last: 0 };
+    while place.at < plan.len() {
+        place = step(form, strictly, plan, place, tables, &mut tally)?;
     }
-    let answer = close(
-        plan,
-        totals.ports,
-        totals.flows,
-        &named,
-        rates,
-        periods,
-        &seen,
-    );
-    ColumnsRead { totals, answer }
+    close(plan, tables, &tally)
 }

@@ -10,17 +10,18 @@ ghost use Rattle.plan.specs.Answer.{field_of};
 ghost use Rattle.plan_reading.specs.Reading.{route_at};
 ghost use Rattle.loading.specs.Loading.{Covers, MarksOnly};
 
-use plan::Field;
+use plan::FieldAt;
 use plan::layout::{HEAD_SIZE, HOP_SIZE, route_start};
 use plan::route::route_len;
 use tables::PORTS;
 
 // The bytes of the route of the field that was read at this offset: those behind its other numbers, none where it has no route.
-pub(crate) fn field_route(plan: &[u8], at: usize, x: Field, next: usize) -> &[u8]
-    requires { (form : Form) × (field_at form plan.now at ≡ field (field_of x) next) }
-    ensures { route_ports result.now ≡ route_at (field_of x).kind plan.now at }
+pub(crate) fn field_route(plan: &[u8], at: usize, found: FieldAt) -> &[u8]
+    requires { (form : Form) × (field_at form plan.now at ≡ field (field_of found.field) found.next) }
+    ensures { route_ports result.now ≡ route_at (field_of found.field).kind plan.now at }
 {
-    let start = at + HEAD_SIZE + route_start(x);
+    let start = at + HEAD_SIZE + route_start(found.field);
+    let next = found.next;
     &plan[start..next]
 }
 
@@ -41,17 +42,14 @@ pub(crate) fn mark_named(route: &[u8], named: &mut [u8; PORTS]) -> bool
         × (result ≡ false → every (port_in named.new) (route_ports route.now) ≡ true)
         × MarksOnly named.old named.new (route_ports route.now) }
 {
-    let hops = route_len(route);
     let mut seen = [0u8; PORTS];
-    let mut i = 0;
-    while i < hops {
+    for i in 0..route_len(route) {
         let slot = (low_byte(route, i) - 1) as usize;
         if seen[slot] != 0 {
             return true;
         }
         seen[slot] = 1;
         named[slot] = 1;
-        i += 1;
     }
     false
 }

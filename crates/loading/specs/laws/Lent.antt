@@ -1,5 +1,5 @@
 -- Laws of a load into lent columns, by what its bytes are read as.
-use Rattle.std.specs.Prelude.{ℕ, ◌≡◌, true, List, [], ◌∷◌}
+use Rattle.std.specs.Prelude.{ℕ, ◌≡◌, true, List, [], ◌∷◌, Result}
 use Rattle.std.proofs.Math.Path.{sym, ap}
 use Rattle.std.proofs.Common.{◌∙◌}
 use Rattle.answers.specs.Answer.{result, refusal}
@@ -10,7 +10,8 @@ use Rattle.plan_reading.specs.Reading.{PlanRead, accepted, rejected, Mode, read_
 use Rattle.loading.specs.Outcome.{reading_answer, reading_leaves, reading_form, form_answer, form_leaves, load_answer, load_leaves, load_form}
 use Rattle.loading.specs.Answer.{load_of}
 use Rattle.loading.specs.Lent.{Lent, lent_plan, LoadsLent, ReadsForm}
-use Rattle.loading.specs.declared.LoadAnswer.{LoadAnswer}
+use Rattle.plan.specs.declared.Refusal.{Refusal}
+use Rattle.loading.specs.declared.Loaded.{Loaded}
 
 -- the reading by the form that the bytes tell
 told_read : (form : Form) (mode : Mode) (s : List ℕ) {r : PlanRead} → form ≡ form_by s → read_form form mode s ≡ r → read_as_of mode s ≡ r
@@ -21,7 +22,7 @@ told_read form mode s told e = ap (λ (f : Form). read_form f mode s) (sym told)
 pub fits_lent : (l : Lent) → form_fits l.form l.tables.hops ≡ true → lent_plan l ≡ l.tables
 fits_lent l fits = rw fits
 
-module _ (form : Form) (mode : Mode) (s : List ℕ) (told : form ≡ form_by s) {answer : LoadAnswer} where
+module _ (form : Form) (mode : Mode) (s : List ℕ) (told : form ≡ form_by s) {answer : Result Loaded Refusal} where
   -- a refusal leaves every number as it came
   pub refused_lent
       : (entry : Lent) (n o : ℕ)
@@ -57,7 +58,7 @@ module _ (form : Form) (mode : Mode) (s : List ℕ) (told : form ≡ form_by s) 
       }
 
 -- bytes read as a plan of one form
-module _ (form : Form) (mode : Mode) (s : List ℕ) {exit : Plan} {answer : LoadAnswer} where
+module _ (form : Form) (mode : Mode) (s : List ℕ) {exit : Plan} {answer : Result Loaded Refusal} where
   pub refused_form
       : (n o : ℕ)
       → read_form form mode s ≡ rejected n o

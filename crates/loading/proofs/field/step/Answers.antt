@@ -1,20 +1,13 @@
 -- `step` meets its contract.
 use mathlib.Core.Path.{sym}
 use Rattle.plan_reading.specs.laws.reading.Steps.{step_refused}
+use Rattle.std.proofs.lemmas.Result.{err_from_is_err_and}
 use Rattle.loading.specs.Answer.{mode_of}
 use Rattle.loading.specs.Loading.{draft_of}
 use Rattle.loading.proofs.field.step.Goals as goal
 
-pub take_field-requires : goal.take_field-requires
-take_field-requires c = (c.requires.0, c.requires.1, c.requires.2, sym c.in-Field.ensures)
-
-pub returns-in-Refused : goal.returns-in-Refused
-returns-in-Refused c =
+pub returns-in_err-found-clause-steps : goal.returns-in_err-found-clause-steps
+returns-in_err-found-clause-steps c =
+    let p = err_from_is_err_and c.from_residual.result c.from_residual.ensures.1 in
     let a = c.args in
-    let held =
-    draft_of a.totals a.rates.now a.blockings.now a.extras.now a.periods.now a.counts.now a.lengths.now a.jitters.now a.hops.now
-    a.routes.now a.seen.now in
-    record {
-      steps = sym (step_refused _ (mode_of a.strict) _ _ _ held _ _ (sym c.in-Refused.ensures));
-      names = tt;
-    }
+    rw (p.1, p.2) (sym (step_refused _ (mode_of a.strict) _ _ _ (draft_of a.tables.now a.tally.now) _ _ (sym c.in_err-found.ensures)))

@@ -14,87 +14,69 @@ use Rattle.loading.specs.laws.Marked.{routed, names_there}
 use Rattle.loading.specs.Loading.{draft_of}
 use Rattle.loading.proofs.field.take_field.Goals as goal
 
-pub bounds-seen-key : goal.bounds-seen-key
-bounds-seen-key c = omega (arith, c.key_of-key.ensures, key_below (field_of c.args.x) (found-numbers _ _ _ _ _ c.requires.3))
+pub bounds-tally-key : goal.bounds-tally-key
+bounds-tally-key c = omega (arith, c.key_of-key.ensures, key_below (field_of c.args.found.field) (found-numbers _ _ _ _ _ c.requires.found))
 
-pub returns-then-seen-key-gt0 : goal.returns-then-seen-key-gt0
-returns-then-seen-key-gt0 c =
+pub returns-then-tally-key-gt0-clause-steps : goal.returns-then-tally-key-gt0-clause-steps
+returns-then-tally-key-gt0-clause-steps c =
     let a = c.args in
-    let held =
-    draft_of a.totals a.rates.now a.blockings.now a.extras.now a.periods.now a.counts.now a.lengths.now a.jitters.now a.hops.now
-    a.routes.now a.seen.now in
-    record {
-      steps =
-          sym (step_taken _ (mode_of a.strict) _ _ _ held (field_of a.x) a.next c.requires.3
-          (rw (← c.key_of-key.ensures) (lt-ltb _ _ c.if-seen-key-gt0.true)));
-      names = tt;
-    }
+    sym (step_taken _ (mode_of a.strict) _ _ _ (draft_of a.tables.now a.tally.now) (field_of a.found.field) a.found.next c.requires.found
+    (rw (← c.key_of-key.ensures) (lt-ltb _ _ c.if-tally-key-gt0.true)))
 
-pub returns-then-is_late : goal.returns-then-is_late
-returns-then-is_late c =
+pub returns-then-is_late-clause-steps : goal.returns-then-is_late-clause-steps
+returns-then-is_late-clause-steps c =
     let a = c.args in
-    let held =
-    draft_of a.totals a.rates.now a.blockings.now a.extras.now a.periods.now a.counts.now a.lengths.now a.jitters.now a.hops.now
-    a.routes.now a.seen.now in
-    record {
-      steps =
-          sym (step_late _ (mode_of a.strict) _ _ _ held (field_of a.x) a.next c.requires.3
-          (rw (← c.key_of-key.ensures) (le-ltb _ _ c.if-seen-key-gt0.false))
-          (sym c.is_late.ensures ∙ c.if-is_late.true));
-      names = tt;
-    }
+    sym (step_late _ (mode_of a.strict) _ _ _ (draft_of a.tables.now a.tally.now) (field_of a.found.field) a.found.next c.requires.found
+    (rw (← c.key_of-key.ensures) (le-ltb _ _ c.if-tally-key-gt0.false))
+    (sym c.is_late.ensures ∙ c.if-is_late.true))
 
 pub field_route-route-requires : goal.field_route-route-requires
-field_route-route-requires c = (_, c.requires.3)
+field_route-route-requires c = (_, c.requires.found)
 
 pub mark_named-requires : goal.mark_named-requires
-mark_named-requires c = (rw c.field_route-route.ensures (found_route _ _ _ _ _ c.requires.3).ports, c.requires.2)
+mark_named-requires c = (rw c.field_route-route.ensures (found_route _ _ _ _ _ c.requires.found).ports, c.requires.named)
 
-pub returns-then-mark_named : goal.returns-then-mark_named
-returns-then-mark_named c =
+pub returns-then-mark_named-clause-steps : goal.returns-then-mark_named-clause-steps
+returns-then-mark_named-clause-steps c =
     let a = c.args in
-    let held =
-    draft_of a.totals a.rates.now a.blockings.now a.extras.now a.periods.now a.counts.now a.lengths.now a.jitters.now a.hops.now
-    a.routes.now a.seen.now in
-    let repeats : c.mark_named.result ≡ field_repeats (route_at (field_of a.x).kind a.plan.now a.at) =
+    let repeats : c.mark_named.result ≡ field_repeats (route_at (field_of a.found.field).kind a.plan.now a.place.at) =
     c.mark_named.ensures.0 ∙ rw c.field_route-route.ensures in
-    record {
-      steps =
-          sym (step_repeats _ (mode_of a.strict) _ _ _ held (field_of a.x) a.next c.requires.3
-          (rw (← c.key_of-key.ensures) (le-ltb _ _ c.if-seen-key-gt0.false))
-          (sym c.is_late.ensures ∙ c.if-is_late.false)
-          (sym repeats ∙ c.if-mark_named.true));
-      names = tt;
-    }
+    sym (step_repeats _ (mode_of a.strict) _ _ _ (draft_of a.tables.now a.tally.now) (field_of a.found.field) a.found.next c.requires.found
+    (rw (← c.key_of-key.ensures) (le-ltb _ _ c.if-tally-key-gt0.false))
+    (sym c.is_late.ensures ∙ c.if-is_late.false)
+    (sym repeats ∙ c.if-mark_named.true))
 
-pub store_field-sums-requires : goal.store_field-sums-requires
-store_field-sums-requires c =
-    let n = found-numbers _ _ _ _ _ c.requires.3 in
-    (c.requires.0, c.requires.1, record { kind = refl; ranges = n.ranges; hops = n.hops }, rw c.field_route-route.ensures (found_route _ _ _ _ _ c.requires.3))
+pub store_field-requires : goal.store_field-requires
+store_field-requires c =
+    let n = found-numbers _ _ _ _ _ c.requires.found in
+    record {
+      ports = c.requires.ports;
+      flows = c.requires.flows;
+      numbers = record { kind = refl; ranges = n.ranges; hops = n.hops };
+      route = rw c.field_route-route.ensures (found_route _ _ _ _ _ c.requires.found);
+    }
 
 pub returns : goal.returns
 returns c =
     let a = c.args in
     let s = a.plan.now in
-    let held =
-    draft_of a.totals a.rates.now a.blockings.now a.extras.now a.periods.now a.counts.now a.lengths.now a.jitters.now a.hops.now
-    a.routes.now a.seen.now in
+    let at = a.place.at in
+    let x = field_of a.found.field in
+    let held = draft_of a.tables.now a.tally.now in
     let read = c.field_route-route.ensures in
-    let repeats : c.mark_named.result ≡ field_repeats (route_at (field_of a.x).kind s a.at) = c.mark_named.ensures.0 ∙ rw read in
+    let repeats : c.mark_named.result ≡ field_repeats (route_at x.kind s at) = c.mark_named.ensures.0 ∙ rw read in
     record {
       steps =
-          rw (c.store_field-sums.ensures, read)
-          (ap (λ (key : ℕ). more a.next key (added held (field_of a.x) (route_at (field_of a.x).kind s a.at))) c.key_of-key.ensures
-          ∙ sym (step_Added _ (mode_of a.strict) _ _ _ held (field_of a.x) a.next c.requires.3
-          (rw (← c.key_of-key.ensures) (le-ltb _ _ c.if-seen-key-gt0.false))
+          rw (c.store_field.ensures.draft, read)
+          (ap (λ (key : ℕ). more a.found.next key (added held x (route_at x.kind s at))) c.key_of-key.ensures
+          ∙ sym (step_Added _ (mode_of a.strict) _ _ _ held x a.found.next c.requires.found
+          (rw (← c.key_of-key.ensures) (le-ltb _ _ c.if-tally-key-gt0.false))
           (sym c.is_late.ensures ∙ c.if-is_late.false)
           (sym repeats ∙ c.if-mark_named.false)));
-      names = record {
+      names = rw c.store_field.ensures.named (record {
         sized = c.mark_named.ensures.1;
         keeps = c.mark_named.ensures.2;
-        routed = routed _ s a.at _ (field_of a.x) a.next c.requires.3 (rw read at (c.mark_named.ensures.3 c.if-mark_named.false));
-        only = λ m before named.
-            c.mark_named.ensures.4 m before
-            (rw read (names_there m s a.at _ (field_of a.x) a.next c.requires.3 named));
-      };
+        routed = routed _ s at _ x a.found.next c.requires.found (rw read at (c.mark_named.ensures.3 c.if-mark_named.false));
+        only = λ m before named. c.mark_named.ensures.4 m before (rw read (names_there m s at _ x a.found.next c.requires.found named));
+      });
     }

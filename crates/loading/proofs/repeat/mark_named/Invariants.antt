@@ -2,7 +2,6 @@
 use mathlib.Core.Path.{◌≡◌}
 use mathlib.Core.Bool.{true}
 use mathlib.Core.List.{[]}
-use Prim.Native.Nat.{◌-◌, ◌≤◌}
 use lib.ListN.{length}
 use Rattle.cqf.specs.Bounded.{all_to, every, sublist}
 use Rattle.cqf.specs.Limits.{port_slots}
@@ -15,14 +14,10 @@ use Rattle.loading.proofs.repeat.mark_named.Given as goal
 
 abbrev pub invariant-loop-i : goal.invariant-loop-i
 invariant-loop-i l =
-    (l.i ≤ l.hops)
-    × (length l.seen ≡ port_slots)
+    (length l.seen ≡ port_slots)
     × (all_to l.i (passes (route_ports l.route)) ≡ true)
     × Marked [] l.seen (sublist (route_ports l.route) 0 l.i) (λ _. 1)
     × (length l.named ≡ port_slots)
     × Covers l.initial.named l.named
     × (every (port_in l.named) (sublist (route_ports l.route) 0 l.i) ≡ true)
     × MarksOnly l.initial.named l.named (route_ports l.route)
-
-abbrev pub decreases-loop-i : goal.decreases-loop-i
-decreases-loop-i l = l.hops - l.i

@@ -7,8 +7,8 @@ use Rattle.loading.proofs.slots.store_extra.Goals as goal
 pub overflow_sub-slot : goal.overflow_sub-slot
 overflow_sub-slot c = within_low 1 port_slots _ c.requires.number
 
-pub overflow_cast-extras : goal.overflow_cast-extras
-overflow_cast-extras c = omega (arith, within_high 0 max_extra c.args.x.extra c.requires.bytes)
+pub overflow_cast-tables : goal.overflow_cast-tables
+overflow_cast-tables c = omega (arith, within_high 0 max_extra c.args.x.extra c.requires.bytes)
 
-pub bounds-extras-slot : goal.bounds-extras-slot
-bounds-extras-slot c = slot_below port_slots _ c.requires.number
+pub bounds-tables-slot : goal.bounds-tables-slot
+bounds-tables-slot c = slot_below port_slots _ c.requires.number

@@ -6,8 +6,8 @@ use Rattle.loading.proofs.slots.store_port.Goals as goal
 pub overflow_sub-slot : goal.overflow_sub-slot
 overflow_sub-slot c = within_low 1 port_slots _ c.requires.number
 
-pub bounds-rates-slot : goal.bounds-rates-slot
-bounds-rates-slot c = slot_below port_slots _ c.requires.number
+pub bounds-tables-slot : goal.bounds-tables-slot
+bounds-tables-slot c = slot_below port_slots _ c.requires.number
 
-pub bounds-blockings-slot : goal.bounds-blockings-slot
-bounds-blockings-slot c = slot_below port_slots _ c.requires.number
+pub bounds-tables-slot-2 : goal.bounds-tables-slot-2
+bounds-tables-slot-2 c = slot_below port_slots _ c.requires.number

@@ -1,4 +1,4 @@
--- `read_columns` meets its contract: test 1, then the fields. The invariant: the reading from this offset on gives what the reading from the start gives.
+-- `read_tables` meets its contract: test 1, then the fields. The invariant: the reading from this offset on gives what the reading from the start gives.
 use Prim.Native.Nat.{ℕ, ◌-◌, ◌≤◌}
 use mathlib.Core.Path.{◌≡◌}
 use mathlib.Core.List.{List}
@@ -13,7 +13,7 @@ use Rattle.loading.specs.Answer.{mode_of}
 use Rattle.loading.specs.Loading.{draft_of}
 use Rattle.loading.specs.laws.Filled.{Filled}
 use Rattle.loading.specs.laws.Behind.{Behind}
-use Rattle.loading.proofs.reading.read_columns.Given as goal
+use Rattle.loading.proofs.reading.read_tables.Given as goal
 
 -- the fields before this offset are read, into this draft, and the ports that their routes name are marked
 pub record Reached (form : Form) (mode : Mode) (s : List ℕ) (d : Draft) (named : List ℕ) (at last : ℕ) : Type 0 where
@@ -26,11 +26,9 @@ pub record Reached (form : Form) (mode : Mode) (s : List ℕ) (d : Draft) (named
   pub sized : length named ≡ port_slots
   pub behind : Behind s named d at
 
-abbrev pub invariant-loop-at : goal.invariant-loop-at
-invariant-loop-at l =
-    Reached (form_of l.form) (mode_of l.strictly) l.plan
-    (draft_of l.totals l.rates l.blockings l.extras l.periods l.counts l.lengths l.jitters l.hops l.routes l.seen)
-    l.named l.at l.last
+abbrev pub invariant-loop-place : goal.invariant-loop-place
+invariant-loop-place l =
+    Reached (form_of l.form) (mode_of l.strictly) l.plan (draft_of l.tables l.tally) l.tally.named l.place.at l.place.last
 
-abbrev pub decreases-loop-at : goal.decreases-loop-at
-decreases-loop-at l = length l.plan - l.at
+abbrev pub decreases-loop-place : goal.decreases-loop-place
+decreases-loop-place l = length l.plan - l.place.at

@@ -18,12 +18,13 @@ use Rattle.plan_reading.specs.Sized.{Sized}
 use Rattle.plan_reading.specs.laws.stores.Tables.{sized_none}
 use Rattle.plan_reading.specs.laws.stores.Columns.{rate_column, period_column}
 use Rattle.plan_reading.specs.laws.reading.Onward.{Onward, onward, read_end, read_stop, read_more}
+use Rattle.std.proofs.lemmas.Result.{err_from_is_err_and}
 use Rattle.loading.specs.Answer.{mode_of}
 use Rattle.loading.specs.Loading.{draft_of, Marks}
 use Rattle.loading.specs.laws.Filled.{Filled-none, Filled-next}
 use Rattle.loading.specs.laws.Behind.{flagged_next, behind-none, behind-next, behind_end}
-use Rattle.loading.proofs.reading.read_columns.Invariants.{Reached}
-use Rattle.loading.proofs.reading.read_columns.Goals as goal
+use Rattle.loading.proofs.reading.read_tables.Invariants.{Reached}
+use Rattle.loading.proofs.reading.read_tables.Goals as goal
 
 -- the reading of the plan is the reading from here on
 rest_read
@@ -67,9 +68,9 @@ returns-then-not-size_ok c =
     let a = c.args in
     sym (form_unsized (form_of a.form) (mode_of a.strict) a.plan.now (sym c.size_ok.ensures ∙ c.if-not-size_ok.true))
 
-pub loop-at-init : goal.loop-at-init
+pub loop-place-init : goal.loop-place-init
 unfolding blank
-loop-at-init c =
+loop-place-init c =
     let a = c.args in
     record {
       inside = omega arith;
@@ -88,33 +89,33 @@ loop-at-init c =
 
 pub step-requires : goal.step-requires
 step-requires c =
-    let i = c.loop-at.invariant in
+    let i = c.loop-place.invariant in
     let most = within_high 1 max_bytes (length c.args.plan.now) (sym c.size_ok.ensures ∙ c.if-not-size_ok.false) in
-    (omega (arith, i.inside, i.ports, most), omega (arith, i.inside, i.flows, most), i.sized)
+    record { ports = omega (arith, i.inside, i.ports, most); flows = omega (arith, i.inside, i.flows, most); named = i.sized }
 
-pub loop-at-smaller : goal.loop-at-smaller
-loop-at-smaller c =
-    let on = onward _ _ _ _ _ _ _ _ _ (sym c.in-More.ensures.steps) in
+pub loop-place-smaller : goal.loop-place-smaller
+loop-place-smaller c =
+    let on = onward _ _ _ _ _ _ _ _ _ (sym c.in_ok-place.ensures.steps) in
     omega (arith, on.forward, on.inside)
 
-pub loop-at-preserved : goal.loop-at-preserved
-loop-at-preserved c =
-    reached_next _ _ _ _ _ _ _ _ _ _ _ c.loop-at-test.true (sym c.in-More.ensures.steps) c.in-More.ensures.names c.loop-at.invariant
+pub loop-place-preserved : goal.loop-place-preserved
+loop-place-preserved c =
+    reached_next _ _ _ _ _ _ _ _ _ _ _ c.loop-place-test.true (sym c.in_ok-place.ensures.steps) c.in_ok-place.ensures.names c.loop-place.invariant
 
-pub returns-in-Stop : goal.returns-in-Stop
-returns-in-Stop c =
-    sym
-    (rest_read _ _ _ _ _ _ _ _ (sym c.size_ok.ensures ∙ c.if-not-size_ok.false) c.strict_in-strictly.ensures c.loop-at.invariant
-    ∙ read_stop _ _ _ _ _ _ c.loop-at-test.true _ _ (sym c.in-Stop.ensures.steps))
+pub returns-in_err-place : goal.returns-in_err-place
+returns-in_err-place c =
+    let p = err_from_is_err_and c.from_residual.result c.from_residual.ensures.1 in
+    rw (p.1, p.2)
+    (sym
+    (rest_read _ _ _ _ _ _ _ _ (sym c.size_ok.ensures ∙ c.if-not-size_ok.false) c.strict_in-strictly.ensures c.loop-place.invariant
+    ∙ read_stop _ _ _ _ _ _ c.loop-place-test.true _ _ (sym c.in_err-place.ensures.steps)))
 
 pub returns : goal.returns
 returns c =
-    let i = c.loop-at.invariant in
-    let a = c.args in
-    let l = c.loop-at in
-    let held =
-    draft_of l.totals l.rates l.blockings l.extras l.periods l.counts l.lengths l.jitters l.hops l.routes l.seen in
+    let i = c.loop-place.invariant in
+    let l = c.loop-place in
+    let held = draft_of l.tables l.tally in
     sym
     (rest_read _ _ _ _ _ _ _ _ (sym c.size_ok.ensures ∙ c.if-not-size_ok.false) c.strict_in-strictly.ensures i
-    ∙ read_end _ _ _ _ l.last held _ c.loop-at-test.false
-    ∙ sym (c.close-answer.ensures held.tables refl refl (behind_end a.plan.now l.named held l.at c.loop-at-test.false i.filled i.behind)))
+    ∙ read_end _ _ _ _ l.place.last held _ c.loop-place-test.false
+    ∙ sym (c.close.ensures (behind_end c.args.plan.now l.tally.named held l.place.at c.loop-place-test.false i.filled i.behind)))
