@@ -1,21 +1,21 @@
 -- `upgrade` meets its contract, by what the reading answers.
-use mathlib.Core.Path.{sym, ap, ◌∙◌}
+use mathlib.Core.Path.{refl}
+use Rattle.std.proofs.lemmas.Result.{err_from_is_err_and}
 use Rattle.cqf.specs.Form.{older}
-use Rattle.cqf.specs.Plan.{no_plan}
 use Rattle.plan_reading.specs.Reading.{loose}
-use Rattle.loading.specs.Answer.{load_of}
-use Rattle.converting.specs.laws.Convert.{read_held, read_refused, upgrade_written, upgrade_refused}
+use Rattle.converting.specs.laws.Convert.{read_refused, upgrade_written, upgrade_refused}
+use Rattle.converting.specs.laws.Lent.{read_lent}
 use Rattle.converting.proofs.convert.upgrade.Goals as goal
 
+pub returns-in_err-read_form_tables : goal.returns-in_err-read_form_tables
+returns-in_err-read_form_tables c =
+    let p = err_from_is_err_and c.from_residual.result c.from_residual.ensures.1 in
+    rw (p.1, p.2) (upgrade_refused c.args.plan.now c.args.buffer.now _ _ (read_refused older loose c.args.plan.now _ _ c.in_err-read_form_tables.ensures.answers))
+
 pub write_plan-requires : goal.write_plan-requires
-write_plan-requires c =
-    (read_held older loose no_plan c.args.plan.now _ _ (sym (ap load_of c.in-Held.is) ∙ c.read_form_columns-read.ensures.answers) c.read_form_columns-read.ensures.leaves).valid
+write_plan-requires c = (read_lent older loose c.args.plan.now _ _ c.lend.ensures refl c.in_ok-read_form_tables.ensures).valid
 
-pub returns-in-Held : goal.returns-in-Held
-returns-in-Held c =
-    upgrade_written c.args.plan.now c.args.buffer.now _
-    (read_held older loose no_plan c.args.plan.now _ _ (sym (ap load_of c.in-Held.is) ∙ c.read_form_columns-read.ensures.answers) c.read_form_columns-read.ensures.leaves) c.write_plan.ensures
-
-pub returns-in-Refused : goal.returns-in-Refused
-returns-in-Refused c =
-    upgrade_refused c.args.plan.now c.args.buffer.now _ _ (read_refused older loose c.args.plan.now _ _ (sym (ap load_of c.in-Refused.is) ∙ c.read_form_columns-read.ensures.answers))
+pub returns : goal.returns
+returns c =
+    upgrade_written c.args.plan.now c.args.buffer.now _ (read_lent older loose c.args.plan.now _ _ c.lend.ensures refl c.in_ok-read_form_tables.ensures)
+    c.write_plan.ensures

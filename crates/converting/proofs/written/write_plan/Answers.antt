@@ -3,11 +3,13 @@ use Rattle.plan.specs.Answer.{form_of}
 use Rattle.converting.specs.laws.Convert.{saved_converts, never_none}
 use Rattle.converting.proofs.written.write_plan.Goals as goal
 
-pub returns-in-Written : goal.returns-in-Written
-returns-in-Written c = saved_converts (form_of c.args.form) _ c.args.buffer.now c.requires c.in-Written.ensures
+pub unreachable-requires : goal.unreachable-requires
+unreachable-requires c =
+    never_none (form_of c.args.form) _ c.args.buffer.now c.requires (rw c.in-Err-NoPlan.field-0-is at c.in-Err-NoPlan.ensures.0)
 
-pub returns-in-ShortBuffer : goal.returns-in-ShortBuffer
-returns-in-ShortBuffer c = saved_converts (form_of c.args.form) _ c.args.buffer.now c.requires c.in-ShortBuffer.ensures
+pub returns-in-Ok : goal.returns-in-Ok
+returns-in-Ok c = saved_converts (form_of c.args.form) _ c.args.buffer.now c.requires c.in-Ok.ensures
 
-pub returns-in-NoPlan : goal.returns-in-NoPlan
-returns-in-NoPlan c = absurd (never_none (form_of c.args.form) _ c.args.buffer.now c.requires c.in-NoPlan.ensures.0)
+pub returns-in-Err-ShortBuffer : goal.returns-in-Err-ShortBuffer
+returns-in-Err-ShortBuffer c =
+    saved_converts (form_of c.args.form) _ c.args.buffer.now c.requires (rw c.in-Err-ShortBuffer.field-0-is at c.in-Err-ShortBuffer.ensures)
