@@ -1,8 +1,9 @@
 -- The working values of the reading of a text, as its definition has them.
-use Rattle.std.specs.Prelude.{ℕ, ◌≤◌, ◌<◌, ◌≡◌, true, false, List, length, get_or, take}
+use Rattle.std.specs.Prelude.{Option, Some, None, is_some, Result, Ok, Err, Bool, ℕ, ◌≤◌, ◌<◌, ◌≡◌, true, List, length, get_or}
 use Rattle.cqf.specs.Bounded.{distinct}
 use Rattle.cqf.specs.Limits.{flow_slots, max_hops, port_ok, flow_ok}
-use Rattle.cqf.specs.Plan.{Plan, equal_clocks}
+use Rattle.cqf.specs.Form.{form_number}
+use Rattle.cqf.specs.Plan.{Plan, Clock, equal_clocks}
 use Rattle.numbers.specs.Clock.{clock_of}
 use Rattle.tables.specs.Columns.{plan_by}
 use Rattle.plan_text.specs.Line.{form_by}
@@ -10,56 +11,47 @@ use Rattle.plan_text.specs.Reading.{numbers_by, Fits}
 use Rattle.plan_text.specs.Text.{Absent, Reading, reads, rejected, closing, Draft, Step, stop, more, added, step_at}
 use Rattle.plan_text.specs.declared.grammar.Kind.{Kind}
 use Rattle.plan_text.specs.declared.absent.Absent as absent
-use Rattle.plan_text.specs.declared.draft.Heading.{Heading}
-use Rattle.plan_text.specs.declared.text.TextAnswer.{TextAnswer}
-use Rattle.plan_text.specs.declared.draft.Progress.{Progress}
+use Rattle.plan_text.specs.declared.draft.Draft as draft
+use Rattle.plan_text.specs.declared.refusal.LineRefusal.{LineRefusal}
+use Rattle.plan_text.specs.declared.refusal.TextRefusal.{TextRefusal}
+use Rattle.plan_text.specs.declared.text.TextPlan.{TextPlan}
+use Rattle.numbers.specs.declared.clock.Clock as clock
+use Rattle.tables.specs.declared.Planner.{Planner}
 
--- the draft in the columns so far
-abbrev pub draft_of : Heading → (rates blockings extras periods counts lengths jitters hops routes lines : List ℕ) → Draft
-draft_of h rates blockings extras periods counts lengths jitters hops routes lines =
+-- what a text says once, or what stands for it before
+abbrev pub said : Option ℕ → ℕ
+said (Some n) = n
+said None = 0
+
+abbrev pub clock_said : Option clock.Clock → Clock
+clock_said (Some k) = clock_of k
+clock_said None = equal_clocks
+
+-- the draft that the code has
+abbrev pub draft_of : draft.Draft → Draft
+draft_of d =
     record {
-      newer = h.newer;
-      begun = h.begun;
-      guarded = h.guarded;
-      topped = h.topped;
-      clocked = h.clocked;
-      flowing = h.flowing;
-      tables = plan_by h.guard h.top (clock_of h.clock) rates blockings extras periods counts lengths jitters hops routes;
-      lines = lines;
+      newer = d.newer;
+      begun = d.begun;
+      guarded = is_some d.guard;
+      topped = is_some d.top;
+      clocked = is_some d.clock;
+      flowing = d.flowing;
+      tables =
+          plan_by (said d.guard) (said d.top) (clock_said d.clock) d.tables.rates d.tables.blockings d.tables.extras d.tables.periods d.tables.counts d.tables.lengths
+          d.tables.jitters d.tables.hops d.tables.routes;
+      lines = d.lines;
     }
-
--- the draft of these tables where no line has been read
-abbrev pub unread : Plan → (lines : List ℕ) → Draft
-unread p lines =
-    record {
-      newer = false;
-      begun = false;
-      guarded = false;
-      topped = false;
-      clocked = false;
-      flowing = false;
-      tables = p;
-      lines = lines;
-    }
-
-abbrev pub BeginsAs : Heading → Type 0
-BeginsAs h =
-    (rates blockings extras periods counts lengths jitters hops routes lines : List ℕ)
-    → draft_of h rates blockings extras periods counts lengths jitters hops routes lines
-    ≡ unread (plan_by 0 0 equal_clocks rates blockings extras periods counts lengths jitters hops routes) lines
 
 -- one line read
-abbrev pub progress_of : Progress → (rates blockings extras periods counts lengths jitters hops routes lines : List ℕ) → Step
-progress_of (Progress.More h) rates blockings extras periods counts lengths jitters hops routes lines =
-    more (draft_of h rates blockings extras periods counts lengths jitters hops routes lines)
-progress_of (Progress.Stop fault item value) rates blockings extras periods counts lengths jitters hops routes lines = stop fault item value
+abbrev pub progress_of : Result (Unit {0}) LineRefusal → Draft → Step
+progress_of (Ok u) d = more d
+progress_of (Err r) d = stop r.fault r.item r.value
 
 -- numbers and a route in arrays, of a line that passed its tests
-pub record Passed (h : Heading) (kind : Kind) (numbers route : List ℕ) (hops : ℕ) : Type 0 where
+pub record Passed (newer : Bool) (kind : Kind) (numbers route : List ℕ) : Type 0 where
   pub room : max_hops ≤ length numbers
-  pub space : max_hops ≤ length route
-  pub few : hops ≤ max_hops
-  pub fits : Fits (form_by h.newer) kind (numbers_by kind numbers) (take hops route)
+  pub fits : Fits (form_by newer) kind (numbers_by kind numbers) route
 
 -- the number of a port or a flow is one
 pub record AgainAsked (kind : Kind) (numbers : List ℕ) : Type 0 where
@@ -77,22 +69,31 @@ pub record StepsAs (number : ℕ) (d : Draft) (line : List ℕ) (s : Step) : Typ
   pub steps : s ≡ step_at number d line
   pub keeps : (e : Draft) → s ≡ more e → Goes number d e
 
--- the flow that the code found
-abbrev pub absent_of : absent.Absent → Absent
-absent_of a = record { line = a.line; named = a.named }
+-- the flow that the code found, and a port of its route
+abbrev pub absent_of : Option absent.Absent → Absent
+absent_of (Some a) = record { line = a.line; named = a.named }
+absent_of None = record { line = 0; named = 0 }
+
+abbrev pub named_of : Option ℕ → ℕ
+named_of (Some n) = n
+named_of None = 0
 
 -- no route is longer than its places
 abbrev pub HopsWithin : List ℕ → Type 0
 HopsWithin hops = (f : ℕ) → f < flow_slots → get_or hops f 0 ≤ max_hops
 
 -- a whole text read, into these tables
-abbrev pub reading_of : TextAnswer → Plan → Reading
-reading_of (TextAnswer.Plan newer) p = reads (form_by newer) p
-reading_of (TextAnswer.Refused line fault item value) p = rejected line fault item value
+abbrev pub reading_of : Result TextPlan TextRefusal → Plan → Reading
+reading_of (Ok t) p = reads (form_by t.newer) p
+reading_of (Err r) p = rejected r.line r.fault r.item r.value
 
--- the end of the reading, for any draft that agrees with what is asked
-abbrev pub ClosesAs : Heading → (number : ℕ) (rates hops routes lines : List ℕ) → TextAnswer → Type 0
-ClosesAs h number rates hops routes lines answer =
-    (blockings extras periods counts lengths jitters : List ℕ)
-    → reading_of answer (draft_of h rates blockings extras periods counts lengths jitters hops routes lines).tables
-    ≡ closing (draft_of h rates blockings extras periods counts lengths jitters hops routes lines) number
+-- the end of the reading
+abbrev pub ClosesAs : Draft → (number : ℕ) → Result TextPlan TextRefusal → Type 0
+ClosesAs d number answer = reading_of answer d.tables ≡ closing d number
+
+-- the planner with the tables of a draft, in this form
+pub record HoldsDraft (newer : Bool) (d : draft.Draft) (s : Planner) : Type 0 where
+  pub form : s.form ≡ form_number (form_by newer)
+  pub tables
+      : plan_by s.guard s.top (clock_of s.clock) s.rates s.blockings s.extras s.periods s.counts s.lengths s.jitters s.hops s.routes
+      ≡ (draft_of d).tables

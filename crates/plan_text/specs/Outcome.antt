@@ -1,19 +1,20 @@
 -- What the reading of a text answers, and what it leaves in a planner: the plan and its form, or nothing where the text is refused.
-use Rattle.std.specs.Prelude.{ℕ, ◌≡◌, Bool, true, false, List}
+use Rattle.std.specs.Prelude.{Result, Ok, Err, ℕ, ◌≡◌, Bool, true, false, List}
 use Rattle.cqf.specs.Form.{Form, older, newer, form_number}
 use Rattle.cqf.specs.Plan.{Plan, no_plan}
 use Rattle.tables.specs.Tables.{plan_of}
 use Rattle.plan_text.specs.Text.{Reading, reads, rejected, read_text}
-use Rattle.plan_text.specs.declared.text.TextAnswer.{TextAnswer}
+use Rattle.plan_text.specs.declared.refusal.TextRefusal.{TextRefusal}
+use Rattle.plan_text.specs.declared.text.TextPlan.{TextPlan}
 use Rattle.plan_text.specs.declared.held.TextOutcome.{TextOutcome}
 
 abbrev pub is_newer : Form → Bool
 is_newer older = false
 is_newer newer = true
 
-abbrev pub text_answer : Reading → TextAnswer
-text_answer (reads form p) = TextAnswer.Plan (is_newer form)
-text_answer (rejected line fault item value) = TextAnswer.Refused line fault item value
+abbrev pub text_answer : Reading → Result TextPlan TextRefusal
+text_answer (reads form p) = Ok (record { newer = is_newer form })
+text_answer (rejected line fault item value) = Err (record { line = line; fault = fault; item = item; value = value })
 
 abbrev pub text_leaves : Reading → Plan
 text_leaves (reads form p) = p

@@ -1,36 +1,41 @@
 -- What the code's reading of a line tells of the line's words.
-use Rattle.std.specs.Prelude.{ℕ, ◌≤◌, ◌≡◌, Bool, true, false, cond, ◌&&◌, List, ◌∷◌, map, eqb, leb, length, take, drop}
+use Rattle.std.specs.Prelude.{Option as Maybe, Some, None, Result, Ok, Err, ℕ, ◌≤◌, ◌<◌, ◌≡◌, Bool, true, false, cond, ◌&&◌, List, ◌∷◌, map, eqb, leb, length, take, drop}
 use Rattle.std.proofs.Math.Option.{Option, some, none}
 use Rattle.cqf.specs.Form.{Form, most_hops_in}
 use Rattle.cqf.specs.Limits.{max_hops}
 use Rattle.words.specs.Words.{words}
 use Rattle.words.specs.Decimal.{decimal_value}
 use Rattle.plan_text.specs.Kinds.{items, is_routed}
-use Rattle.plan_text.specs.Line.{Word, Line, nothing, says, refused, no_number, coded, is_number, number_in, rest, given, Matched, wrong, matched, with, match, any_none, first_failing, range_test, port_test, ranges_in, numbers_in}
+use Rattle.plan_text.specs.Line.{Word, Line, nothing, says, refused, no_number, coded, number_in, rest, given, Matched, wrong, matched, with, match, any_none, first_failing, range_test, port_test, ranges_in, numbers_in}
 use Rattle.plan_text.specs.declared.grammar.Item.{Item}
 use Rattle.plan_text.specs.declared.grammar.Kind.{Kind}
-use Rattle.plan_text.specs.declared.line.Matching.{Matching}
-use Rattle.plan_text.specs.declared.tests.Test.{Test}
-use Rattle.plan_text.specs.declared.says.LineRead.{LineRead}
+use Rattle.plan_text.specs.declared.line.Number.{Number}
+use Rattle.plan_text.specs.declared.refusal.LineRefusal.{LineRefusal}
+use Rattle.plan_text.specs.declared.says.Says.{Says}
 
 -- a number as the code has it
 abbrev pub decoded : ℕ → Option ℕ
 decoded n = cond (eqb n no_number) none (some n)
 
 -- the first of these words as a number, and those behind it
-pub record NumberAt (ws : List Word) (value : ℕ) (behind : List Word) : Type 0 where
-  pub number : decoded value ≡ number_in ws
-  pub left : behind ≡ rest ws
+pub record NumberAt (line : List ℕ) (ws : List Word) (n : Number) : Type 0 where
+  pub within : n.next ≤ length line
+  pub number : decoded n.value ≡ number_in ws
+  pub left : words (drop n.next line) ≡ rest ws
 
 -- the same of a number that its word stands before, where it does
-pub record ItemAt (x : Item) (ws : List Word) (found : Bool) (value : ℕ) (behind : List Word) : Type 0 where
-  pub there : found ≡ true → (vs : List Word) × (given x ws ≡ some vs) × NumberAt vs value behind
-  pub missing : found ≡ false → given x ws ≡ none
+abbrev pub ItemAt : Item → (line : List ℕ) (ws : List Word) → Maybe Number → Type 0
+ItemAt x line ws (Some n) = (vs : List Word) × (given x ws ≡ some vs) × NumberAt line vs n
+ItemAt x line ws None = given x ws ≡ none
 
 -- the same of a number that may be left out
-pub record ItemRead (x : Item) (ws : List Word) (found : Bool) (value : ℕ) (behind : List Word) : Type 0 where
-  pub there : found ≡ true → (xs : List Item) → match (x ∷ xs) ws ≡ with (decoded value) (match xs behind)
-  pub missing : found ≡ false → (xs : List Item) → match (x ∷ xs) ws ≡ wrong x
+pub record Read (x : Item) (line : List ℕ) (ws : List Word) (n : Number) : Type 0 where
+  pub within : n.next ≤ length line
+  pub reads : (xs : List Item) → match (x ∷ xs) ws ≡ with (decoded n.value) (match xs (words (drop n.next line)))
+
+abbrev pub ItemRead : Item → (line : List ℕ) (ws : List Word) → Maybe Number → Type 0
+ItemRead x line ws (Some n) = Read x line ws n
+ItemRead x line ws None = (xs : List Item) → match (x ∷ xs) ws ≡ wrong x
 
 -- the most numbers of a line
 abbrev pub most_numbers : ℕ
@@ -44,27 +49,24 @@ pub record Behind (kind : Kind) (line : List ℕ) (m : Matched) (numbers : List 
   pub within : next ≤ length line
   pub reads : m ≡ matched (map decoded (numbers_by kind numbers)) (words (drop next line))
 
-abbrev pub MatchesAs : Kind → (line : List ℕ) → Matched → (numbers : List ℕ) → Matching → Type 0
-MatchesAs kind line m numbers (Matching.Wrong x) = m ≡ wrong x
-MatchesAs kind line m numbers (Matching.Behind next) = Behind kind line m numbers next
+abbrev pub MatchesAs : Kind → (line : List ℕ) → Matched → (numbers : List ℕ) → Result ℕ Item → Type 0
+MatchesAs kind line m numbers (Err x) = m ≡ wrong x
+MatchesAs kind line m numbers (Ok next) = Behind kind line m numbers next
 
--- the words of a route's ports: how many they are, whether one of them is no number, and the first as numbers in an array
-pub record PortsAs (ws : List Word) (route : List ℕ) (count : ℕ) (bad : Bool) : Type 0 where
+-- the words of a route's ports: how many they are, unless one of them is no number; the first as numbers in an array
+pub record Stored (ws : List Word) (route : List ℕ) (count : ℕ) : Type 0 where
   pub many : count ≡ length ws
-  pub lacks : bad ≡ any_none (map decimal_value ws)
+  pub all : any_none (map decimal_value ws) ≡ false
   pub stored : count ≤ max_hops → take count route ≡ map coded (map decimal_value ws)
 
--- what a number is tested for
-abbrev pub test_by : Test → ℕ → ℕ → Bool
-test_by Test.Number i n = is_number (decoded n)
-test_by (Test.Range kind) i n = range_test kind i n
-test_by Test.Port i n = port_test i n
+abbrev pub PortsAs : (ws : List Word) (route : List ℕ) → Maybe ℕ → Type 0
+PortsAs ws route (Some count) = Stored ws route count
+PortsAs ws route None = any_none (map decimal_value ws) ≡ true
 
--- what a line says, with its numbers and its route in arrays
-abbrev pub line_read_of : LineRead → (numbers route : List ℕ) → Line
-line_read_of LineRead.Nothing numbers route = nothing
-line_read_of (LineRead.Says kind hops) numbers route = says kind (numbers_by kind numbers) (take hops route)
-line_read_of (LineRead.Refused fault item value) numbers route = refused fault item value
+-- the first number that fails a test
+abbrev pub FailsAs : (ℕ → ℕ → Bool) → List ℕ → Maybe ℕ → Type 0
+FailsAs test list (Some i) = (i < length list) × (first_failing test list ≡ i)
+FailsAs test list None = first_failing test list ≡ length list
 
 -- a line that says something has all its numbers, in range, and a route of as many ports as it may have, in range
 pub record Fits (form : Form) (kind : Kind) (ns r : List ℕ) : Type 0 where
@@ -74,29 +76,37 @@ pub record Fits (form : Form) (kind : Kind) (ns r : List ℕ) : Type 0 where
   pub ports : length r ≤ first_failing port_test r
   pub some : (is_routed kind && leb (length r) 0) ≡ false
 
-abbrev pub FitsAs : Form → LineRead → (numbers route : List ℕ) → Type 0
-FitsAs form LineRead.Nothing numbers route = Unit {0}
-FitsAs form (LineRead.Says kind hops) numbers route = (hops ≤ max_hops) × Fits form kind (numbers_by kind numbers) (take hops route)
-FitsAs form (LineRead.Refused fault item value) numbers route = Unit {0}
+-- a line as it is read: what it says, with its numbers and its route in arrays, and that this fits; or why it is refused
+pub record SaysAs (form : Form) (line : Line) (numbers route : List ℕ) (s : Says) : Type 0 where
+  pub says : says s.kind (numbers_by s.kind numbers) (take s.hops route) ≡ line
+  pub few : s.hops ≤ max_hops
+  pub fits : Fits form s.kind (numbers_by s.kind numbers) (take s.hops route)
 
--- a line as it is read: what it says, and that this fits
-pub record LineReads (form : Form) (line : Line) (numbers route : List ℕ) (r : LineRead) : Type 0 where
-  pub says : line_read_of r numbers route ≡ line
-  pub fits : FitsAs form r numbers route
+abbrev pub KindReads : Form → Line → (numbers route : List ℕ) → Result Says LineRefusal → Type 0
+KindReads form line numbers route (Ok s) = SaysAs form line numbers route s
+KindReads form line numbers route (Err r) = refused r.fault r.item r.value ≡ line
+
+abbrev pub LineReads : Form → Line → (numbers route : List ℕ) → Result (Maybe Says) LineRefusal → Type 0
+LineReads form line numbers route (Ok None) = nothing ≡ line
+LineReads form line numbers route (Ok (Some s)) = SaysAs form line numbers route s
+LineReads form line numbers route (Err r) = refused r.fault r.item r.value ≡ line
 
 -- the tests of numbers in arrays, for any route of so many ports whose first numbers are there
-abbrev pub RangesAs : Form → Kind → (numbers route : List ℕ) (hops : ℕ) → LineRead → Type 0
+abbrev pub RangesAs : Form → Kind → (numbers route : List ℕ) (hops : ℕ) → Result Says LineRefusal → Type 0
 RangesAs form kind numbers route hops out =
     (r : List ℕ)
     → length r ≡ hops
     → (hops ≤ max_hops → take hops route ≡ r)
     → (is_routed kind && leb (length r) 0) ≡ false
-    → LineReads form (ranges_in form kind (numbers_by kind numbers) r) numbers route out
+    → KindReads form (ranges_in form kind (numbers_by kind numbers) r) numbers route out
 
-abbrev pub NumbersAs : Form → Kind → (numbers route : List ℕ) (hops : ℕ) (bad : Bool) → LineRead → Type 0
-NumbersAs form kind numbers route hops bad out =
+-- the words of a route as they were read
+abbrev pub Told : (route : List ℕ) → Maybe ℕ → List (Option ℕ) → Type 0
+Told route (Some hops) ps = (length ps ≡ hops) × (any_none ps ≡ false) × (hops ≤ max_hops → take hops route ≡ map coded ps)
+Told route None ps = any_none ps ≡ true
+
+abbrev pub NumbersAs : Form → Kind → (numbers route : List ℕ) (ports : Maybe ℕ) → Result Says LineRefusal → Type 0
+NumbersAs form kind numbers route ports out =
     (ps : List (Option ℕ))
-    → length ps ≡ hops
-    → bad ≡ any_none ps
-    → (hops ≤ max_hops → take hops route ≡ map coded ps)
-    → LineReads form (numbers_in form kind (map decoded (numbers_by kind numbers)) ps) numbers route out
+    → Told route ports ps
+    → KindReads form (numbers_in form kind (map decoded (numbers_by kind numbers)) ps) numbers route out

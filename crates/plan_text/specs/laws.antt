@@ -9,7 +9,6 @@ pub mod Words
 pub mod Ranges
 pub mod Copy
 pub mod Fits
-pub mod Added
 pub mod Taken
 pub mod Steps
 pub mod Absent

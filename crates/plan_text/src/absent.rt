@@ -1,16 +1,16 @@
 // The flow in the lowest line that names a port which is not in the plan.
-ghost use Rattle.std.specs.Prelude.{◌+◌, ◌*◌, ◌≤◌, ◌<◌, ◌≡◌};
+ghost use Rattle.std.specs.Prelude.{◌+◌, ◌*◌, ◌≤◌, ◌≡◌, IfSome};
 ghost use Rattle.cqf.specs.Bounded.{sublist};
 ghost use Rattle.cqf.specs.Limits.{flow_slots, route_stride};
 ghost use Rattle.cqf.specs.Plan.{port_in};
 ghost use Rattle.plan_text.specs.Text.{missing, lower, absent_to};
-ghost use Rattle.plan_text.specs.Drafting.{absent_of, HopsWithin};
+ghost use Rattle.plan_text.specs.Drafting.{absent_of, named_of, HopsWithin};
 
-use crate::draft::Lines;
+use crate::draft::{Draft, Lines};
 use numbers::limits::port_ok;
-use tables::{FLOWS, STRIDE, columns};
+use tables::{FLOWS, Planner, STRIDE, columns};
 
-// Its line, and the port; the port is 0 where there is no such flow.
+// Its line, and the port.
 #[derive(Clone, Copy)]
 pub(crate) struct Absent {
     pub line: u32,
@@ -20,66 +20,48 @@ pub(crate) struct Absent {
 fn has_port(rates: &columns::Rates, number: u8) -> bool
     ensures { result ≡ port_in rates.now number }
 {
-    if !port_ok(number as u16) {
-        return false;
-    }
-    let slot = (number - 1) as usize;
-    0 < rates[slot]
+    port_ok(number as u16) && 0 < rates[(number - 1) as usize]
 }
 
-// The first port of a route that is not in the plan; 0 where all are.
-fn absent_port<'a>(
-    rates: &'a columns::Rates,
-    routes: &'a columns::Routes,
-    base: usize,
-    hops: usize,
-) -> u8
+// The first port of a route that is not in the plan. A place that holds no port has 0.
+fn absent_port(tables: &Planner, base: usize, hops: usize) -> Option<u8>
     requires { base + hops ≤ flow_slots * route_stride }
-    ensures { result ≡ missing rates.now (sublist routes.now base hops) }
+    ensures named { named_of result ≡ missing tables.now.rates (sublist tables.now.routes base hops) }
+    ensures some { IfSome result (λ n. 1 ≤ n) }
 {
-    let mut i: usize = 0;
-    while i < hops {
-        let n = routes[base + i];
-        if !has_port(rates, n) {
-            return n;
+    for i in 0..hops {
+        let port = tables.routes[base + i];
+        if !has_port(&tables.rates, port) {
+            return if port == 0 { None } else { Some(port) };
         }
-        i += 1;
     }
-    0
+    None
 }
 
 // The lower of two.
-fn lower_of(found: Absent, line: u32, named: u8) -> Absent
-    ensures { absent_of result ≡ lower (absent_of found) line named }
+fn lower_of(found: Option<Absent>, line: u32, named: u8) -> Absent
+    requires named { 1 ≤ named }
+    requires found { IfSome found (λ a. 1 ≤ a.named) }
+    ensures lower { absent_of (Some result) ≡ lower (absent_of found) line named }
+    ensures named { 1 ≤ result.named }
 {
-    if named == 0 {
-        return found;
+    match found {
+        Some(absent) if absent.line <= line => absent,
+        _ => Absent { line, named },
     }
-    if found.named == 0 {
-        return Absent { line, named };
-    }
-    if line < found.line {
-        return Absent { line, named };
-    }
-    found
 }
 
-pub(crate) fn first_absent<'a>(
-    rates: &'a columns::Rates,
-    hops: &'a columns::Hops,
-    routes: &'a columns::Routes,
-    lines: &'a Lines,
-) -> Absent
-    requires { HopsWithin hops.now }
-    ensures { absent_of result ≡ absent_to flow_slots rates.now hops.now routes.now lines.now }
+pub(crate) fn first_absent(draft: &Draft) -> Option<Absent>
+    requires { HopsWithin draft.now.tables.hops }
+    ensures named { IfSome result (λ a. 1 ≤ a.named) }
+    ensures same { absent_of result ≡ absent_to flow_slots draft.now.tables.rates draft.now.tables.hops draft.now.tables.routes draft.now.lines }
 {
-    let mut found = Absent { line: 0, named: 0 };
-    let mut f: usize = 0;
-    while f < FLOWS {
-        let count = hops[f] as usize;
-        let named = absent_port(rates, routes, f * STRIDE, count);
-        found = lower_of(found, lines[f], named);
-        f += 1;
+    let mut found = None;
+    for f in 0..FLOWS {
+        let hops = draft.tables.hops[f] as usize;
+        if let Some(named) = absent_port(&draft.tables, f * STRIDE, hops) {
+            found = Some(lower_of(found, draft.lines[f], named));
+        }
     }
     found
 }

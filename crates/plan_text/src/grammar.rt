@@ -1,13 +1,13 @@
 // The words of lines: the kinds of lines, their numbers, and why a text is refused.
-ghost use Rattle.std.specs.Prelude.{◌≡◌, []};
+ghost use Rattle.std.specs.Prelude.{◌≡◌};
 ghost use Rattle.words.specs.Words.{same_bytes};
 ghost use Rattle.plan_text.specs.Grammar.{word_of, is_own, absent_of};
-ghost use Rattle.plan_text.specs.Line.{coded};
+ghost use Rattle.words.specs.Decimal.{parsed_of};
 
 use words::word::same;
 
 // A line by its first word.
-#[derive(Clone, Copy)]
+#[derive(Clone, Copy, Debug, PartialEq, Eq)]
 pub enum Kind {
     Guard,
     Top,
@@ -19,7 +19,7 @@ pub enum Kind {
 }
 
 // A number of a line; of a route its ports and how many they are; the first word of a line; what stands past its end.
-#[derive(Clone, Copy)]
+#[derive(Clone, Copy, Debug, PartialEq, Eq)]
 pub enum Item {
     Guard,
     Top,
@@ -44,7 +44,7 @@ pub enum Item {
 
 // Why a text is refused: a word, a number or a range that is wrong, a thing said again, a port twice in a route; guard band, top or flow missing; a port that
 // is not in the plan; too many bytes.
-#[derive(Clone, Copy)]
+#[derive(Clone, Copy, Debug, PartialEq, Eq)]
 pub enum Fault {
     Word,
     Number,
@@ -56,93 +56,54 @@ pub enum Fault {
     Size,
 }
 
-// What stands for a number where there is none.
+// What stands for a word that is no number, in the array of a line's numbers.
+// An Option in each place is no plainer: once the numbers have passed their tests, each use would unwrap it.
 pub const NO_NUMBER: u64 = 18_446_744_073_709_551_615;
 
 // Whether a number stands behind the first word of its line.
 pub fn is_own(item: Item) -> bool
     ensures { result ≡ is_own item }
 {
-    match item {
-        Item::Guard => true,
-        Item::Top => true,
-        Item::Port => true,
-        Item::Rate => false,
-        Item::Blocker => false,
-        Item::Extra => false,
-        Item::Flow => true,
-        Item::Period => false,
-        Item::Count => false,
-        Item::Length => false,
-        Item::Jitter => false,
-        Item::Drift => false,
-        Item::Timing => false,
-        Item::Sync => false,
-        Item::Format => true,
-        Item::Route => false,
-        Item::Hops => false,
-        Item::First => false,
-        Item::End => false,
-    }
+    matches!(
+        item,
+        Item::Guard | Item::Top | Item::Port | Item::Flow | Item::Format
+    )
 }
 
-// Whether a word has no bytes.
-fn is_nothing(word: &[u8]) -> bool
-    ensures { result ≡ same_bytes word.now [] }
+// The word before a number.
+fn word_of(item: Item) -> &'static [u8]
+    ensures { result.now ≡ word_of item }
 {
-    same(word, b"")
+    match item {
+        Item::Rate => b"rate",
+        Item::Blocker => b"blocker",
+        Item::Extra => b"extra",
+        Item::Period => b"period",
+        Item::Count => b"count",
+        Item::Length => b"length",
+        Item::Jitter => b"jitter",
+        Item::Drift => b"drift",
+        Item::Timing => b"timing",
+        Item::Sync => b"sync",
+        Item::Route => b"route",
+        _ => b"",
+    }
 }
 
 // Whether this is the word before a number.
 pub fn is_word_of(item: Item, word: &[u8]) -> bool
     ensures { result ≡ same_bytes word.now (word_of item) }
 {
-    match item {
-        Item::Guard => is_nothing(word),
-        Item::Top => is_nothing(word),
-        Item::Port => is_nothing(word),
-        Item::Rate => same(word, b"rate"),
-        Item::Blocker => same(word, b"blocker"),
-        Item::Extra => same(word, b"extra"),
-        Item::Flow => is_nothing(word),
-        Item::Period => same(word, b"period"),
-        Item::Count => same(word, b"count"),
-        Item::Length => same(word, b"length"),
-        Item::Jitter => same(word, b"jitter"),
-        Item::Drift => same(word, b"drift"),
-        Item::Timing => same(word, b"timing"),
-        Item::Sync => same(word, b"sync"),
-        Item::Format => is_nothing(word),
-        Item::Route => same(word, b"route"),
-        Item::Hops => is_nothing(word),
-        Item::First => is_nothing(word),
-        Item::End => is_nothing(word),
-    }
+    same(word, word_of(item))
 }
 
-// What a number is where it is left out.
-pub fn absent_of(item: Item) -> u64
-    ensures { result ≡ coded (absent_of item) }
+// What a number is where it is left out, if it may be.
+pub fn absent_of(item: Item) -> Option<u64>
+    ensures { parsed_of result ≡ absent_of item }
 {
     match item {
-        Item::Guard => NO_NUMBER,
-        Item::Top => NO_NUMBER,
-        Item::Port => NO_NUMBER,
-        Item::Rate => NO_NUMBER,
-        Item::Blocker => 0,
-        Item::Extra => 0,
-        Item::Flow => NO_NUMBER,
-        Item::Period => NO_NUMBER,
-        Item::Count => 1,
-        Item::Length => NO_NUMBER,
-        Item::Jitter => 0,
-        Item::Drift => NO_NUMBER,
-        Item::Timing => NO_NUMBER,
-        Item::Sync => NO_NUMBER,
-        Item::Format => NO_NUMBER,
-        Item::Route => NO_NUMBER,
-        Item::Hops => NO_NUMBER,
-        Item::First => NO_NUMBER,
-        Item::End => NO_NUMBER,
+        Item::Blocker | Item::Extra | Item::Jitter => Some(0),
+        Item::Count => Some(1),
+        _ => None,
     }
 }

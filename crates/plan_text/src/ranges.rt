@@ -1,5 +1,5 @@
 // The range of each number.
-ghost use Rattle.std.specs.Prelude.{◌≡◌, ◌&&◌, eqb};
+ghost use Rattle.std.specs.Prelude.{◌≡◌};
 ghost use Rattle.plan_text.specs.Grammar.{range_of, low_of, high_of, zero_too};
 
 use crate::grammar::Item;
@@ -62,43 +62,11 @@ pub fn high_of(item: Item) -> u64
 fn zero_too(item: Item) -> bool
     ensures { result ≡ zero_too item }
 {
-    match item {
-        Item::Guard => false,
-        Item::Top => false,
-        Item::Port => false,
-        Item::Rate => false,
-        Item::Blocker => true,
-        Item::Extra => false,
-        Item::Flow => false,
-        Item::Period => false,
-        Item::Count => false,
-        Item::Length => false,
-        Item::Jitter => false,
-        Item::Drift => false,
-        Item::Timing => false,
-        Item::Sync => false,
-        Item::Format => false,
-        Item::Route => false,
-        Item::Hops => false,
-        Item::First => false,
-        Item::End => false,
-    }
-}
-
-fn zero_ok(item: Item, n: u64) -> bool
-    ensures { result ≡ (zero_too item && eqb n 0) }
-{
-    if n != 0 {
-        return false;
-    }
-    zero_too(item)
+    matches!(item, Item::Blocker)
 }
 
 pub fn in_range(item: Item, n: u64) -> bool
     ensures { result ≡ range_of item n }
 {
-    if zero_ok(item, n) {
-        return true;
-    }
-    between(low_of(item), high_of(item), n)
+    n == 0 && zero_too(item) || between(low_of(item), high_of(item), n)
 }

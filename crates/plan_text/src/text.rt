@@ -1,74 +1,41 @@
 // The end of a text: what is missing, then ports that are not in the plan.
-ghost use Rattle.plan_text.specs.Drafting.{HopsWithin, ClosesAs};
+ghost use Rattle.plan_text.specs.Drafting.{draft_of, HopsWithin, ClosesAs};
 
 use crate::absent::first_absent;
-use crate::draft::{Heading, Lines};
+use crate::draft::Draft;
 use crate::grammar::{Fault, Item};
-use tables::columns;
+use crate::refusal::{TextRefusal, at_line, refused};
 
 // A text has at most so many bytes.
 pub const MAX_TEXT: usize = 65_536;
 
-// A plan, of the newer form or not; or the line at which the text is refused, why, and what is named with it.
-#[derive(Clone, Copy)]
-pub enum TextAnswer {
-    Plan {
-        newer: bool,
-    },
-    Refused {
-        line: u32,
-        fault: Fault,
-        item: Item,
-        value: u64,
-    },
+// A text that says a plan: whether it asks for the newer form.
+#[derive(Clone, Copy, Debug, PartialEq, Eq)]
+pub struct TextPlan {
+    pub newer: bool,
 }
 
 // All lines are read; the line after the last has this number.
-pub(crate) fn close<'a>(
-    heading: Heading,
-    number: u32,
-    rates: &'a columns::Rates,
-    hops: &'a columns::Hops,
-    routes: &'a columns::Routes,
-    lines: &'a Lines,
-) -> TextAnswer
-    requires { HopsWithin hops.now }
-    ensures { ClosesAs heading number rates.now hops.now routes.now lines.now result }
+pub(crate) fn close(draft: &Draft, number: u32) -> Result<TextPlan, TextRefusal>
+    requires { HopsWithin draft.now.tables.hops }
+    ensures { ClosesAs (draft_of draft.now) number result }
 {
-    if !heading.guarded {
-        return TextAnswer::Refused {
-            line: number,
-            fault: Fault::Incomplete,
-            item: Item::Guard,
-            value: 0,
-        };
+    if draft.guard.is_none() {
+        return Err(at_line(number, refused(Fault::Incomplete, Item::Guard)));
     }
-    if !heading.topped {
-        return TextAnswer::Refused {
-            line: number,
-            fault: Fault::Incomplete,
-            item: Item::Top,
-            value: 0,
-        };
+    if draft.top.is_none() {
+        return Err(at_line(number, refused(Fault::Incomplete, Item::Top)));
     }
-    if !heading.flowing {
-        return TextAnswer::Refused {
-            line: number,
-            fault: Fault::Incomplete,
-            item: Item::Flow,
-            value: 0,
-        };
+    if !draft.flowing {
+        return Err(at_line(number, refused(Fault::Incomplete, Item::Flow)));
     }
-    let absent = first_absent(rates, hops, routes, lines);
-    if absent.named != 0 {
-        return TextAnswer::Refused {
+    if let Some(absent) = first_absent(draft) {
+        return Err(TextRefusal {
             line: absent.line,
             fault: Fault::Absent,
             item: Item::Route,
             value: absent.named as u64,
-        };
+        });
     }
-    TextAnswer::Plan {
-        newer: heading.newer,
-    }
+    Ok(TextPlan { newer: draft.newer })
 }

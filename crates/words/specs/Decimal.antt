@@ -41,7 +41,8 @@ capped n = capped_at largest n
 abbrev pub capped_option : Option ℕ → Option ℕ
 capped_option o = capped_option_at largest o
 
-abbrev pub decimal_value : List ℕ → Option ℕ
+unfoldable pub decimal_value : List ℕ → Option ℕ
+unfolding decimal_at
 decimal_value text = decimal_at largest text
 
 abbrev pub parsed_of : Parsed ℕ → Option ℕ

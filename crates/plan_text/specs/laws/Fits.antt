@@ -1,7 +1,9 @@
 -- Laws of a line that passed its tests: its numbers are in range.
-use Rattle.std.specs.Prelude.{ℕ, ◌+◌, ◌≤◌, ◌<◌, ◌≡◌, true, false, not, ◌&&◌, ◌||◌, List, ◌∷◌, eqb, length, get_or, drop}
-use Rattle.std.proofs.Common.{sym, subst, ◌∙◌, arith, add-one, le-leb, leb-false, drop_of_length-le, get_or-take, drop-cons}
+use Rattle.std.specs.Prelude.{ℕ, ◌+◌, ◌≤◌, ◌<◌, ◌≡◌, true, not, ◌&&◌, ◌||◌, List, [], ◌∷◌, refl, eqb, length, get_or, drop}
+use Rattle.std.proofs.Common.{sym, ap₂, subst, ◌∙◌, arith, add-one, eq-eqb, ne_eqb, le-leb, leb-false, drop_of_length-le, get_or-take, drop-cons}
 use Rattle.std.proofs.Math.Path.{ap}
+use Rattle.std.proofs.Math.Decide.{ℕ_discrete}
+use Rattle.std.specs.List.{list_any}
 use Rattle.cqf.specs.Bounded.{elem, distinct}
 use Rattle.cqf.specs.Form.{Form}
 use Rattle.cqf.specs.Limits.{max_hops, guard_ok, top_ok}
@@ -60,19 +62,20 @@ module _ (l : List ℕ) (i : ℕ) (inside : i < length l) where
   front : drop i l ≡ get_or l i 0 ∷ drop (i + 1) l
   front = drop-cons l i 0 inside ∙ ap (λ (k : ℕ). get_or l i 0 ∷ drop k l) (sym (add-one i))
 
-  pub elem_next : (n : ℕ) → elem n (drop i l) ≡ eqb n (get_or l i 0) || elem n (drop (i + 1) l)
-  unfolding elem
-  elem_next n = ap (elem n) front
-
   pub distinct-next : distinct (drop i l) ≡ not (elem (get_or l i 0) (drop (i + 1) l)) && distinct (drop (i + 1) l)
   unfolding distinct
   distinct-next = ap distinct front
 
-module _ (l : List ℕ) (i : ℕ) (past : length l ≤ i) where
-  pub elem_past : (n : ℕ) → elem n (drop i l) ≡ false
-  unfolding elem
-  elem_past n = ap (elem n) (drop_of_length-le l {i = i} past)
+pub distinct-past : (l : List ℕ) (i : ℕ) → length l ≤ i → distinct (drop i l) ≡ true
+unfolding distinct
+distinct-past l i past = ap distinct (drop_of_length-le l {i = i} past)
 
-  pub distinct-past : distinct (drop i l) ≡ true
-  unfolding distinct
-  distinct-past = ap distinct (drop_of_length-le l {i = i} past)
+-- what the library's search tells
+pub elem_any : (n : ℕ) (l : List ℕ) → list_any (λ m. eqb m n) l ≡ elem n l
+unfolding elem
+elem_any n [] = refl
+elem_any n (m ∷ l) = ap₂ ◌||◌ (turned (ℕ_discrete m n)) (elem_any n l)
+  where
+    turned : Dec (m ≡ n) → eqb m n ≡ eqb n m
+    turned (yes e) = eq-eqb m n e ∙ sym (eq-eqb n m (sym e))
+    turned (no e) = ne_eqb m n e ∙ sym (ne_eqb n m (λ f. e (sym f)))

@@ -1,20 +1,20 @@
 -- Laws of the reading of one number of a line.
-use Rattle.std.specs.Prelude.{ℕ, ◌-◌, ◌≤◌, ◌<◌, ◌≡◌, refl, Bool, true, false, cond, List, [], ◌∷◌, eqb, length, take, drop}
-use Rattle.std.proofs.Common.{sym, ap, ap₂, ◌∙◌, true≢false, arith, ne_eqb, eqb-true, length-take}
-use Rattle.std.proofs.lemmas.Bool.{false≢true}
+use Rattle.std.specs.Prelude.{Some, None, ℕ, ◌-◌, ◌≤◌, ◌<◌, ◌≡◌, refl, Bool, true, false, cond, List, [], ◌∷◌, eqb, length, take, drop}
+use Rattle.std.proofs.Common.{sym, ap, ap₂, subst, ◌∙◌, arith, ne_eqb, eqb-true, length-take}
 use Rattle.std.proofs.Math.Option.{Option, some, none}
 use Rattle.std.proofs.Math.Decide.{dec_lt}
 use Rattle.words.specs.Words.{words}
-use Rattle.words.specs.Decimal.{digits_value, capped, capped_option, decimal_value}
+use Rattle.words.specs.Decimal.{largest, digits_value, capped, capped_option, decimal_value}
 use Rattle.words.specs.Sizes.{WordAt}
-use Rattle.words.specs.laws.Words.{word_there, word_missing, none-behind}
-use Rattle.words.specs.laws.Decimal.{value_empty, capped_most}
+use Rattle.words.specs.laws.Words.{word_there, word_missing, word_within, none-behind}
+use Rattle.words.specs.laws.Decimal.{capped_most, value_empty, value-same}
 use Rattle.words.specs.Words.{same_bytes}
 use Rattle.plan_text.specs.Line.{Word, coded, no_number, number_in, rest, given, wrong, with, match}
 use Rattle.plan_text.specs.Grammar.{is_own, word_of, absent_of}
 use Rattle.plan_text.specs.Kinds.{items}
 use Rattle.plan_text.specs.declared.grammar.Item.{Item}
 use Rattle.plan_text.specs.declared.grammar.Kind.{Kind}
+use Rattle.plan_text.specs.declared.line.Number.{Number}
 use Rattle.plan_text.specs.Reading.{decoded, NumberAt, ItemAt, ItemRead, most_numbers}
 
 -- a number as the code has it is the number: what is read from a word is never as large as what stands for none
@@ -36,30 +36,34 @@ unfolding decimal_value
 decoded_value w = go (digits_value w)
   where
     go : (o : Option ℕ) → decoded (coded (capped_option o)) ≡ capped_option o
-    go (some n) = decoded_some (capped n) (λ e. omega (arith, capped_most n))
+    go (some n) = decoded_some (capped n) (λ e. omega (arith, capped_most largest n))
     go none = decoded-none
 
--- no word, and a word with those behind it
-number_none : {ws vs : List Word} {value : ℕ} → ws ≡ [] → vs ≡ [] → value ≡ coded none → NumberAt ws value vs
-number_none {ws} {vs} {value} e f g = rw (e, f) (record { number = ap decoded g ∙ decoded-none; left = refl })
-
-number_some : {ws vs : List Word} {w : Word} {value : ℕ} → ws ≡ w ∷ vs → value ≡ coded (decimal_value w) → NumberAt ws value vs
-number_some {ws} {vs} {w} {value} e g = rw e (record { number = ap decoded g ∙ decoded_value w; left = refl })
-
--- the word that was found at a position, as a number
+-- the word that was found at a position, as a number: it may be empty, at the end of the line
 pub number_there
     : (line : List ℕ) (at : ℕ) {start end value : ℕ}
+    → at ≤ length line
     → WordAt line at start end
     → value ≡ coded (decimal_value (take (end - start) (drop start line)))
-    → NumberAt (words (drop at line)) value (words (drop end line))
-number_there line at {start} {end} {value} w e = go (dec_lt start end)
+    → NumberAt line (words (drop at line)) (record { value = value; next = end })
+number_there line at {start} {end} {value} inside w e = go (dec_lt start end)
   where
-    go : Dec (start < end) → NumberAt (words (drop at line)) value (words (drop end line))
-    go (yes more) = number_some (word_there line at w more) e
+    word : Word
+    word = take (end - start) (drop start line)
+
+    go : Dec (start < end) → NumberAt line (words (drop at line)) (record { value = value; next = end })
+    go (yes more) =
+        rw (word_there line at w more)
+        (record { within = word_within line at w inside; number = ap decoded e ∙ decoded_value word; left = refl })
     go (no none-there) =
         let none' : end ≤ start = omega arith in
-        let empty : length (take (end - start) (drop start line)) ≡ 0 = simp length-take (omega arith) in
-        number_none (word_missing line at w none') (none-behind line at w none') (e ∙ ap coded (value_empty (take (end - start) (drop start line)) empty))
+        let empty : length word ≡ 0 = simp length-take (omega arith) in
+        rw (word_missing line at w none')
+        (record {
+          within = word_within line at w inside;
+          number = ap decoded (e ∙ ap coded (sym (value-same word) ∙ value_empty largest word empty)) ∙ decoded-none;
+          left = none-behind line at w none';
+        })
 
 -- whether the word before a number stands at a position
 module _ (x : Item) (ws : List Word) where
@@ -75,50 +79,44 @@ module _ (x : Item) (ws : List Word) where
   given_other : {w : Word} {vs : List Word} → is_own x ≡ false → ws ≡ w ∷ vs → same_bytes w (word_of x) ≡ false → given x ws ≡ none
   given_other {w} {vs} e f s = rw (e, f) (rw s)
 
-  pub item_own : {value : ℕ} {behind : List Word} → is_own x ≡ true → NumberAt ws value behind → ItemAt x ws true value behind
-  item_own e n = record { there = λ f. (ws, given-own e, n); missing = λ f. absurd (true≢false f) }
+  module _ (line : List ℕ) where
+    pub item_own : {n : Number} → is_own x ≡ true → NumberAt line ws n → ItemAt x line ws (Some n)
+    item_own e n = (ws, given-own e, n)
 
-  pub item_none : {value : ℕ} {behind : List Word} → is_own x ≡ false → ws ≡ [] → ItemAt x ws false value behind
-  item_none e f = record { there = λ g. absurd (false≢true g); missing = λ g. given-none e f }
+    pub item_none : is_own x ≡ false → ws ≡ [] → ItemAt x line ws None
+    item_none e f = given-none e f
 
-  pub item_word
-      : {w : Word} {vs : List Word} {value : ℕ} {behind : List Word}
-      → is_own x ≡ false
-      → ws ≡ w ∷ vs
-      → same_bytes w (word_of x) ≡ true
-      → NumberAt vs value behind
-      → ItemAt x ws true value behind
-  item_word {vs = vs} e f s n = record { there = λ g. (vs, given_word e f s, n); missing = λ g. absurd (true≢false g) }
+    pub item_word : {w : Word} {vs : List Word} {n : Number} → is_own x ≡ false → ws ≡ w ∷ vs → same_bytes w (word_of x) ≡ true → NumberAt line vs n → ItemAt x line ws (Some n)
+    item_word {vs = vs} e f s n = (vs, given_word e f s, n)
 
-  pub item_other
-      : {w : Word} {vs : List Word} {value : ℕ} {behind : List Word}
-      → is_own x ≡ false
-      → ws ≡ w ∷ vs
-      → same_bytes w (word_of x) ≡ false
-      → ItemAt x ws false value behind
-  item_other e f s = record { there = λ g. absurd (false≢true g); missing = λ g. given_other e f s }
+    pub item_other : {w : Word} {vs : List Word} → is_own x ≡ false → ws ≡ w ∷ vs → same_bytes w (word_of x) ≡ false → ItemAt x line ws None
+    item_other e f s = given_other e f s
 
--- no number that is left out is as large as what stands for none
-absent_none : (x : Item) → coded (absent_of x) ≡ no_number → absent_of x ≡ none
-absent_none Item.Guard e = refl
-absent_none Item.Top e = refl
-absent_none Item.Port e = refl
-absent_none Item.Rate e = refl
-absent_none Item.Blocker e = absurd (omega arith)
-absent_none Item.Extra e = absurd (omega arith)
-absent_none Item.Flow e = refl
-absent_none Item.Period e = refl
-absent_none Item.Count e = absurd (omega arith)
-absent_none Item.Length e = refl
-absent_none Item.Jitter e = absurd (omega arith)
-absent_none Item.Drift e = refl
-absent_none Item.Timing e = refl
-absent_none Item.Sync e = refl
-absent_none Item.Format e = refl
-absent_none Item.Route e = refl
-absent_none Item.Hops e = refl
-absent_none Item.First e = refl
-absent_none Item.End e = refl
+-- a number that is left out is 0 or 1
+abbrev Small : Option ℕ → Type 0
+Small (some n) = n ≤ 1
+Small none = Unit {0}
+
+absent_small : (x : Item) → Small (absent_of x)
+absent_small Item.Guard = tt
+absent_small Item.Top = tt
+absent_small Item.Port = tt
+absent_small Item.Rate = tt
+absent_small Item.Blocker = omega arith
+absent_small Item.Extra = omega arith
+absent_small Item.Flow = tt
+absent_small Item.Period = tt
+absent_small Item.Count = omega arith
+absent_small Item.Length = tt
+absent_small Item.Jitter = omega arith
+absent_small Item.Drift = tt
+absent_small Item.Timing = tt
+absent_small Item.Sync = tt
+absent_small Item.Format = tt
+absent_small Item.Route = tt
+absent_small Item.Hops = tt
+absent_small Item.First = tt
+absent_small Item.End = tt
 
 -- one number more
 module _ (x : Item) (ws : List Word) (xs : List Item) where
@@ -134,37 +132,27 @@ module _ (x : Item) (ws : List Word) (xs : List Item) where
   unfolding match
   match_wrong e f = rw (e, f)
 
-module _ (x : Item) (ws : List Word) {found : Bool} {value : ℕ} {behind : List Word} where
-  pub read_there : found ≡ true → ItemAt x ws found value behind → ItemRead x ws found value behind
-  read_there is at =
-      let (vs, e, n) = at.there is in
+module _ (x : Item) (line : List ℕ) (ws : List Word) where
+  pub read_there : {n : Number} → ItemAt x line ws (Some n) → ItemRead x line ws (Some n)
+  read_there at =
+      let (vs, e, n) = at in
       record {
-        there =
-            λ f xs.
-            match-given x ws xs vs e ∙ ap₂ (λ (o : Option ℕ) (l : List Word). with o (match xs l)) (sym n.number) (sym n.left);
-        missing = λ f. absurd (true≢false (sym is ∙ f));
+        within = n.within;
+        reads = λ xs. match-given x ws xs vs e ∙ ap₂ (λ (o : Option ℕ) (l : List Word). with o (match xs l)) (sym n.number) (sym n.left);
       }
 
-  pub read_absent : found ≡ false → ItemAt x ws found value behind → {v : ℕ} → v ≡ coded (absent_of x) → (v ≡ no_number → ⊥) → ItemRead x ws true v ws
-  read_absent is at {v} e more =
-      let given' : absent_of x ≡ some v = absent_some (absent_of x) e in
-      record {
-        there =
-            λ f xs.
-            match_absent x ws xs v (at.missing is) given' ∙ ap (λ (o : Option ℕ). with o (match xs ws)) (sym (decoded_some v more));
-        missing = λ f. absurd (true≢false f);
-      }
-    where
-      absent_some : (o : Option ℕ) → v ≡ coded o → o ≡ some v
-      absent_some (some n) f = ap some (sym f)
-      absent_some none f = absurd (more f)
+  pub read_wrong : ItemAt x line ws None → absent_of x ≡ none → ItemRead x line ws None
+  read_wrong at e xs = match_wrong x ws xs at e
 
-  pub read_wrong : found ≡ false → ItemAt x ws found value behind → {v : ℕ} {b : List Word} → coded (absent_of x) ≡ no_number → ItemRead x ws false v b
-  read_wrong is at e =
-      record {
-        there = λ f. absurd (false≢true f);
-        missing = λ f xs. match_wrong x ws xs (at.missing is) (absent_none x e);
-      }
+pub read_absent : (x : Item) (line : List ℕ) (at : ℕ) {v : ℕ} → at ≤ length line → ItemAt x line (words (drop at line)) None → absent_of x ≡ some v → ItemRead x line (words (drop at line)) (Some (record { value = v; next = at }))
+read_absent x line at {v} inside left e =
+    let small : v ≤ 1 = subst Small e (absent_small x) in
+    record {
+      within = inside;
+      reads =
+          λ xs.
+          match_absent x (words (drop at line)) xs v left e ∙ ap (λ (o : Option ℕ). with o (match xs (words (drop at line)))) (sym (decoded_some v (λ f. omega arith)));
+    }
 
 -- no line has more numbers
 pub items_most : (k : Kind) → length (items k) ≤ most_numbers

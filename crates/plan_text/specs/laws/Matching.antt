@@ -1,5 +1,5 @@
 -- Laws of the numbers of a line, read from the front.
-use Rattle.std.specs.Prelude.{ℕ, ◌+◌, ◌≤◌, ◌<◌, ◌≡◌, refl, Bool, true, false, length, get_or, take, set}
+use Rattle.std.specs.Prelude.{Some, None, ℕ, ◌+◌, ◌≤◌, ◌<◌, ◌≡◌, refl, length, get_or, take, set}
 use Rattle.std.proofs.Common.{sym, ap₂, ◌∙◌, add-one, drop-cons, take-suc-set}
 use Rattle.std.proofs.Math.Path.{ap}
 use mathlib.Core.List.{List, [], ◌∷◌, ◌++◌, map, map-append, append_assoc, append-nil}
@@ -7,11 +7,12 @@ use Rattle.std.proofs.Math.Option.{Option}
 use Rattle.std.proofs.Math.ListN.{drop}
 use Rattle.std.proofs.Math.Seq.{drop-length}
 use Rattle.words.specs.Words.{words}
-use Rattle.plan_text.specs.Line.{Word, Matched, wrong, matched, with, match}
+use Rattle.plan_text.specs.Line.{Matched, wrong, matched, with, match}
 use Rattle.plan_text.specs.Kinds.{items}
 use Rattle.plan_text.specs.Reading.{decoded, ItemRead, Behind}
 use Rattle.plan_text.specs.declared.grammar.Item.{Item}
 use Rattle.plan_text.specs.declared.grammar.Kind.{Kind}
+use Rattle.plan_text.specs.declared.line.Number.{Number}
 
 -- numbers in front of what is matched behind them
 abbrev pub after : List (Option ℕ) → Matched → Matched
@@ -43,16 +44,11 @@ module _ (kind : Kind) (line : List ℕ) (at : ℕ) where
     front : i < length (items kind) → drop i (items kind) ≡ x ∷ drop (i + 1) (items kind)
     front inside = drop-cons (items kind) i Item.End inside ∙ ap₂ ◌∷◌ (sym here) (ap (λ (n : ℕ). drop n (items kind)) (sym (add-one i)))
 
-    pub so_far_wrong
-        : i < length (items kind)
-        → {found : Bool} {value : ℕ} {behind : List Word}
-        → ItemRead x (words (drop next line)) found value behind
-        → found ≡ false
-        → whole ≡ wrong x
-    so_far_wrong inside r f =
+    pub so_far_wrong : i < length (items kind) → ItemRead x line (words (drop next line)) None → whole ≡ wrong x
+    so_far_wrong inside r =
         sf.reads
         ∙ ap (λ (l : List Item). after (map decoded (take i numbers)) (match l (words (drop next line)))) (front inside)
-        ∙ ap (after (map decoded (take i numbers))) (r.missing f (drop (i + 1) (items kind)))
+        ∙ ap (after (map decoded (take i numbers))) (r (drop (i + 1) (items kind)))
 
     -- one number more is stored
     one_more : (value : ℕ) → i < length numbers → map decoded (take i numbers) ++ (decoded value ∷ []) ≡ map decoded (take (i + 1) (set numbers i value))
@@ -61,22 +57,20 @@ module _ (kind : Kind) (line : List ℕ) (at : ℕ) where
         ∙ ap (map decoded) (sym (ap (λ (k : ℕ). take k (set numbers i value)) (add-one i) ∙ take-suc-set numbers i value room))
 
     pub so_far_more
-        : i < length (items kind)
+        : {n : Number}
+        → i < length (items kind)
         → i < length numbers
-        → {found : Bool} {value end : ℕ}
-        → ItemRead x (words (drop next line)) found value (words (drop end line))
-        → end ≤ length line
-        → found ≡ true
-        → SoFar kind line whole (set numbers i value) end (i + 1)
-    so_far_more inside room {found} {value} {end} r w f =
+        → ItemRead x line (words (drop next line)) (Some n)
+        → SoFar kind line whole (set numbers i n.value) n.next (i + 1)
+    so_far_more {n} inside room r =
         record {
-          within = w;
+          within = r.within;
           reads =
               sf.reads
               ∙ ap (λ (l : List Item). after (map decoded (take i numbers)) (match l (words (drop next line)))) (front inside)
-              ∙ ap (after (map decoded (take i numbers))) (r.there f (drop (i + 1) (items kind)))
-              ∙ after-with (map decoded (take i numbers)) (decoded value) (match (drop (i + 1) (items kind)) (words (drop end line)))
-              ∙ ap (λ (l : List (Option ℕ)). after l (match (drop (i + 1) (items kind)) (words (drop end line)))) (one_more value room);
+              ∙ ap (after (map decoded (take i numbers))) (r.reads (drop (i + 1) (items kind)))
+              ∙ after-with (map decoded (take i numbers)) (decoded n.value) (match (drop (i + 1) (items kind)) (words (drop n.next line)))
+              ∙ ap (λ (l : List (Option ℕ)). after l (match (drop (i + 1) (items kind)) (words (drop n.next line)))) (one_more n.value room);
         }
 
   pub so_far_all : (numbers : List ℕ) (next i : ℕ) → i ≡ length (items kind) → SoFar kind line whole numbers next i → Behind kind line whole numbers next

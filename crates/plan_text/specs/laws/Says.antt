@@ -6,22 +6,17 @@ use Rattle.std.proofs.lemmas.List.{length-map}
 use Rattle.cqf.specs.Form.{Form, older, newer, most_hops_in}
 use Rattle.cqf.specs.Limits.{max_hops}
 use Rattle.plan_text.specs.Kinds.{items, is_routed}
-use Rattle.plan_text.specs.Line.{Line, says, refused, coded, is_number, first_failing, item_at, number_test, range_test, port_test, lacks_ports, ranges_in, numbers_in}
-use Rattle.plan_text.specs.Reading.{decoded, numbers_by, LineReads}
+use Rattle.plan_text.specs.Line.{says, refused, coded, is_number, first_failing, item_at, number_test, range_test, port_test, lacks_ports, ranges_in, numbers_in}
+use Rattle.plan_text.specs.Reading.{decoded, numbers_by, SaysAs}
 use Rattle.plan_text.specs.laws.Line.{items_most, coded-decoded}
 use Rattle.plan_text.specs.laws.Failing.{failing_map}
 use Rattle.plan_text.specs.declared.grammar.Item.{Item}
 use Rattle.plan_text.specs.declared.grammar.Kind.{Kind}
 use Rattle.plan_text.specs.declared.grammar.Fault.{Fault}
-use Rattle.plan_text.specs.declared.says.LineRead.{LineRead}
 
 pub most_hops : (form : Form) → most_hops_in form ≤ max_hops
 most_hops older = omega arith
 most_hops newer = omega arith
-
--- a line that is refused
-pub refuses : (form : Form) (line : Line) (numbers route : List ℕ) (f : Fault) (x : Item) (v : ℕ) → line ≡ refused f x v → LineReads form line numbers route (LineRead.Refused f x v)
-refuses form line numbers route f x v e = record { says = sym e; fits = tt }
 
 -- the numbers of a line
 module _ (kind : Kind) (numbers : List ℕ) (room : max_hops ≤ length numbers) where
@@ -74,22 +69,21 @@ module _ (kind : Kind) (numbers : List ℕ) (room : max_hops ≤ length numbers)
         pub all_in
             : (is_routed kind && leb (length r) 0) ≡ false
             → hops ≤ port
-            → LineReads form (ranges_in form kind (numbers_by kind numbers) r) numbers route (LineRead.Says kind hops)
+            → SaysAs form (ranges_in form kind (numbers_by kind numbers) r) numbers route (record { kind = kind; hops = hops })
         all_in routed most =
             let fine : ltb (first_failing port_test r) (length r) ≡ false = le-ltb (first_failing port_test r) (length r) (omega (arith, here, many)) in
             record {
               says = ap (says kind (numbers_by kind numbers)) ports ∙ sym (rw (passes, within, fine) refl);
-              fits = (
-                omega (arith, most_hops form),
-                rw ports
-                    (record {
-                      all = numbers_size;
-                      ranges = omega (arith, is, numbers_size);
-                      hops = omega (arith, many);
-                      ports = omega (arith, here, many);
-                      some = routed;
-                    }),
-              );
+              few = omega (arith, most_hops form);
+              fits =
+                  rw ports
+                  (record {
+                    all = numbers_size;
+                    ranges = omega (arith, is, numbers_size);
+                    hops = omega (arith, many);
+                    ports = omega (arith, here, many);
+                    some = routed;
+                  });
             }
 
   -- the second test

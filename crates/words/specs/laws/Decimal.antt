@@ -6,7 +6,7 @@ use Rattle.std.proofs.Math.Bool.{and-false}
 use mathlib.Core.List.{List, [], ◌∷◌}
 use Rattle.std.proofs.Math.Option.{some, none}
 use Rattle.std.proofs.lemmas.Bool.{lt-leb}
-use Rattle.words.specs.Decimal.{zero_digit, is_digit, value_from, capped_at, capped_option_at, decimal_at}
+use Rattle.words.specs.Decimal.{zero_digit, is_digit, value_from, largest, capped_at, capped_option_at, decimal_at, decimal_value}
 
 module _ (most : ℕ) where
   pub capped_same : (n : ℕ) → n ≤ most → capped_at most n ≡ n
@@ -110,3 +110,8 @@ high_byte d more = rw (lt-leb d (zero_digit + 9) more) (and-false (leb zero_digi
 
 pub digit_byte : (d : ℕ) → zero_digit ≤ d → d ≤ zero_digit + 9 → is_digit d ≡ true
 digit_byte d low high = rw (le-leb zero_digit d low, le-leb d (zero_digit + 9) high)
+
+-- the number of a word of a plan's text
+pub value-same : (text : List ℕ) → decimal_at largest text ≡ decimal_value text
+unfolding decimal_value
+value-same text = refl

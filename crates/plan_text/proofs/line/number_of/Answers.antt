@@ -1,12 +1,14 @@
 -- `number_of` meets its contract.
-use borrow.Author.Rules.{rules}
+use Rattle.std.proofs.Common.{◌≡◌, ℕ, ap, refl, ◌∙◌, Some, None}
+use Rattle.std.specs.Prelude.{Option, unwrap_or}
+use Rattle.words.specs.Decimal.{parsed_of}
+use Rattle.words.specs.laws.Decimal.{value-same}
+use Rattle.plan_text.specs.Line.{coded, no_number}
 use Rattle.plan_text.proofs.line.number_of.Goals as goal
 
-pub decimal-requires : goal.decimal-requires
-decimal-requires c = search rules
+or_none : (o : Option ℕ) → unwrap_or o no_number ≡ coded (parsed_of o)
+or_none (Some n) = refl
+or_none None = refl
 
-pub enum_known-n : goal.enum_known-n
-enum_known-n c = search rules
-
-pub enum_told-1 : goal.enum_told-1
-enum_told-1 c = search rules
+pub returns : goal.returns
+returns c = c.unwrap_or.ensures ∙ or_none c.decimal.result ∙ ap coded (c.decimal.ensures ∙ value-same c.args.word.now)

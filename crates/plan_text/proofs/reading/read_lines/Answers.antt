@@ -1,22 +1,15 @@
 -- `read_lines` meets its contract.
-use Rattle.std.proofs.Common.{arith, replicate, refl}
-use mathlib.Core.Path.{sym, ap, subst, ◌∙◌}
-use Rattle.cqf.specs.Limits.{flow_slots}
-use Rattle.cqf.specs.Plan.{Plan}
-use Rattle.plan_text.specs.Text.{Draft, blank}
-use Rattle.plan_text.specs.Drafting.{draft_of, unread}
+use Rattle.std.proofs.Common.{arith, refl, sym, subst, ◌∙◌}
+use Rattle.plan_text.specs.Text.{Draft}
+use Rattle.plan_text.specs.Drafting.{draft_of}
 use Rattle.plan_text.specs.laws.TextLines.{Reached, reached_first, line_inside, line_onward, reached_more, reached_stop, read_end, text_long, text_short}
 use Rattle.plan_text.proofs.reading.read_lines.Goals as goal
 
 pub returns-then-text-gt-MAX_TEXT : goal.returns-then-text-gt-MAX_TEXT
-returns-then-text-gt-MAX_TEXT c = sym (text_long c.args.text.now c.if-text-gt-MAX_TEXT.true)
+returns-then-text-gt-MAX_TEXT c = rw (c.at_line.ensures, c.refused.ensures) (sym (text_long c.args.text.now c.if-text-gt-MAX_TEXT.true))
 
 pub loop-at-init : goal.loop-at-init
-unfolding blank
-loop-at-init c =
-    let a = c.args in
-    let begun = c.blank-heading.ensures a.rates.now a.blockings.now a.extras.now a.periods.now a.counts.now a.lengths.now a.jitters.now a.hops.now a.routes.now (replicate flow_slots 0) in
-    subst (λ (d : Draft). Reached a.text.now d 1 0) (sym (begun ∙ ap (λ (p : Plan). unread p (replicate flow_slots 0)) c.requires)) (reached_first a.text.now)
+loop-at-init c = subst (λ (d : Draft). Reached c.args.text.now d 1 0) (sym c.requires) (reached_first c.args.text.now)
 
 pub slice_bounds-line_step-start : goal.slice_bounds-line_step-start
 slice_bounds-line_step-start c =
@@ -39,23 +32,22 @@ loop-at-smaller c =
 pub loop-at-preserved : goal.loop-at-preserved
 loop-at-preserved c =
     let l = c.loop-at in
-    reached_more c.args.text.now (draft_of l.heading l.rates l.blockings l.extras l.periods l.counts l.lengths l.jitters l.hops l.routes l.lines) l.number l.at l.invariant c.loop-at-test.true
-    c.line_at-line.ensures c.in-More.ensures refl
+    reached_more c.args.text.now (draft_of l.draft) l.number l.at l.invariant c.loop-at-test.true c.line_at-line.ensures c.in_default.ensures refl
 
-pub returns-in-Stop : goal.returns-in-Stop
-returns-in-Stop c =
+pub returns-in-Err : goal.returns-in-Err
+returns-in-Err c =
     let l = c.loop-at in
-    sym (text_short c.args.text.now c.if-text-gt-MAX_TEXT.false
-    ∙ reached_stop c.args.text.now (draft_of l.heading l.rates l.blockings l.extras l.periods l.counts l.lengths l.jitters l.hops l.routes l.lines) l.number l.at l.invariant c.loop-at-test.true
-    c.line_at-line.ensures c.in-Stop.ensures refl)
+    rw c.at_line-in-Err.ensures
+    (sym (text_short c.args.text.now c.if-text-gt-MAX_TEXT.false
+    ∙ reached_stop c.args.text.now (draft_of l.draft) l.number l.at l.invariant c.loop-at-test.true c.line_at-line.ensures c.in-Err.ensures refl))
 
-pub close-answer-requires : goal.close-answer-requires
-close-answer-requires c = λ f less. c.loop-at.invariant.hops f less
+pub close-requires : goal.close-requires
+close-requires c = λ f less. c.loop-at.invariant.hops f less
 
 pub returns : goal.returns
 returns c =
     let l = c.loop-at in
     sym (text_short c.args.text.now c.if-text-gt-MAX_TEXT.false
     ∙ l.invariant.rest
-    ∙ read_end (draft_of l.heading l.rates l.blockings l.extras l.periods l.counts l.lengths l.jitters l.hops l.routes l.lines) l.number c.args.text.now l.at c.loop-at-test.false
-    ∙ sym (c.close-answer.ensures l.blockings l.extras l.periods l.counts l.lengths l.jitters))
+    ∙ read_end (draft_of l.draft) l.number c.args.text.now l.at c.loop-at-test.false
+    ∙ sym c.close.ensures)

@@ -5,8 +5,7 @@ use Rattle.plan_text.specs.laws.TextLines.{Reached}
 use Rattle.plan_text.proofs.reading.read_lines.Given as goal
 
 abbrev pub invariant-loop-at : goal.invariant-loop-at
-invariant-loop-at l =
-    Reached l.text (draft_of l.heading l.rates l.blockings l.extras l.periods l.counts l.lengths l.jitters l.hops l.routes l.lines) l.number l.at
+invariant-loop-at l = Reached l.text (draft_of l.draft) l.number l.at
 
 abbrev pub decreases-loop-at : goal.decreases-loop-at
 decreases-loop-at l = length l.text - l.at
