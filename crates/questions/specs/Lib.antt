@@ -9,7 +9,6 @@ pub mod Search
 pub mod FlowSet
 pub mod PortSearch
 pub mod Lean
-pub mod Iterate
 pub mod Run
 pub mod Spans
 pub mod SpanList

@@ -1,6 +1,6 @@
 -- What the question for the nearest durations answers, for any held plan and any duration. Tables that are not valid count as no
 -- plan held (refusal 20).
-use Rattle.std.specs.Prelude.{ℕ, zero, suc, Bool, true, false, cond, [], ◌∷◌}
+use Rattle.std.specs.Prelude.{Option as Neighbour, Some, None, Result, Ok, Err, ℕ, zero, suc, Bool, true, false, cond, [], ◌∷◌}
 use Rattle.std.proofs.Math.Option.{Option, none, some}
 use Rattle.cqf.specs.Bounded.{within}
 use Rattle.cqf.specs.Plan.{Plan, valid_plan}
@@ -9,8 +9,8 @@ use Rattle.cqf.specs.Need.{least_from}
 use Rattle.answers.specs.Answer.{Answer, result, refusal}
 use Rattle.answers.specs.Refusals.{bad_duration, no_plan_held}
 use Rattle.questions.specs.Outcome.{asked}
-use Rattle.questions.specs.declared.nearest.Neighbour.{Neighbour}
-use Rattle.questions.specs.declared.nearest.NearestAnswer.{NearestAnswer}
+use Rattle.questions.specs.declared.nearest.Nearest.{Nearest as Neighbours}
+use Rattle.questions.specs.declared.nearest.NearestRefusal.{NearestRefusal}
 
 -- the largest number from 1 to n that passes the test, or 0 where none does
 unfoldable pub largest_up_to : (ℕ → Bool) → ℕ → ℕ
@@ -41,11 +41,11 @@ unfolding valid_plan nearest
 nearest_answer p T = asked p T (result (nearest p T))
 
 -- the number and values for each case of the code's answer
-abbrev pub neighbour_of : Neighbour → Option ℕ
-neighbour_of (Neighbour.Duration t) = some t
-neighbour_of Neighbour.Nothing = none
+abbrev pub neighbour_of : Neighbour ℕ → Option ℕ
+neighbour_of (Some t) = some t
+neighbour_of None = none
 
-abbrev pub nearest_of : NearestAnswer → Answer Nearest
-nearest_of (NearestAnswer.Nearest below above) = result (record { below = neighbour_of below; above = neighbour_of above })
-nearest_of NearestAnswer.NoPlan = refusal no_plan_held (0 ∷ [])
-nearest_of NearestAnswer.BadDuration = refusal bad_duration (0 ∷ [])
+abbrev pub nearest_of : Result Neighbours NearestRefusal → Answer Nearest
+nearest_of (Ok n) = result (record { below = neighbour_of n.below; above = neighbour_of n.above })
+nearest_of (Err NearestRefusal.NoPlan) = refusal no_plan_held (0 ∷ [])
+nearest_of (Err NearestRefusal.BadDuration) = refusal bad_duration (0 ∷ [])

@@ -4,7 +4,6 @@ use Rattle.cqf.specs.Plan.{Plan, valid_plan}
 use Rattle.span_lists.specs.Span.{Span, spans}
 use Rattle.questions.specs.Spans.{record_of, no_span_of, next_span}
 use Rattle.questions.specs.declared.one_span.SpanRecord.{SpanRecord}
-use Rattle.questions.specs.declared.span_list.SpanCount.{SpanCount}
 
 -- the span after one, of the code's records
 abbrev pub after : Plan → SpanRecord → SpanRecord
@@ -20,13 +19,3 @@ unfoldable pub filled : Plan → List SpanRecord → ℕ → List SpanRecord
 unfolding nth
 filled p l zero = l
 filled p l (suc i) = set (filled p l i) i (nth p (suc i))
-
--- what a list of this size is given: the records of all spans, or none
-abbrev pub listed_in : Plan → (size : ℕ) → ℕ
-listed_in p size = cond (valid_plan p && leb (length (spans p)) size) (length (spans p)) 0
-
--- what is counted before a record is written
-pub record Counted (p : Plan) (size : ℕ) (c : SpanCount) : Type 0 where
-  pub held : c.held ≡ valid_plan p
-  pub count : valid_plan p ≡ true → c.count ≡ length (spans p)
-  pub listed : c.listed ≡ listed_in p size

@@ -9,7 +9,6 @@ pub mod Walk
 pub mod LeanSearch
 pub mod Leanly
 pub mod Fails
-pub mod Topped
 pub mod Signed
 pub mod Answers
 pub mod PortNeed

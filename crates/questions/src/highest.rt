@@ -1,37 +1,32 @@
 // The highest-numbered port that some flow crosses.
-ghost use Rattle.std.specs.Prelude.{◌≡◌, ℕ, ◌-◌, ◌≤◌, ◌<◌, get_or};
-ghost use Rattle.cqf.specs.Limits.{port_slots, flow_slots, max_hops};
+ghost use Rattle.std.specs.Prelude.{◌≡◌, ◌-◌, ◌<◌};
+ghost use Rattle.cqf.specs.Limits.{port_slots};
 ghost use Rattle.cqf.specs.Condition.{crossed};
 ghost use Rattle.cqf.specs.PortSteps.{highest_crossed};
-ghost use Rattle.questions.specs.PortSearch.{routes_only};
+ghost use Rattle.tables.specs.Lent.{plan_lent};
 
 use super::port_demand::route_holds;
-use tables::{FLOWS, PORTS, STRIDE, columns};
+use tables::{FLOWS, Held, PORTS};
 
 // Whether some flow crosses the port in slot q.
-fn is_crossed<'a>(hops: &'a columns::Hops, routes: &'a columns::Routes, q: usize) -> bool
-    requires { (q < port_slots) × ((f : ℕ) → f < flow_slots → get_or hops.now f 0 ≤ max_hops) }
-    ensures { result ≡ crossed (routes_only hops.now routes.now) q }
+fn is_crossed(held: Held, q: usize) -> bool
+    requires { q < port_slots }
+    ensures { result ≡ crossed (plan_lent held.entry.lent) q }
 {
-    let mut f: usize = 0;
-    while f < FLOWS {
-        if route_holds(routes, f * STRIDE, hops[f] as usize, q) {
+    for f in 0..FLOWS {
+        if route_holds(held, f, q) {
             return true;
         }
-        f += 1;
     }
     false
 }
 
 // Its slot, 0 where there is none.
-pub(crate) fn highest_slot<'a>(hops: &'a columns::Hops, routes: &'a columns::Routes) -> usize
-    requires { (f : ℕ) → f < flow_slots → get_or hops.now f 0 ≤ max_hops }
-    ensures { result ≡ highest_crossed (routes_only hops.now routes.now) - 1 }
+pub(crate) fn highest_slot(held: Held) -> usize
+    ensures { result ≡ highest_crossed (plan_lent held.entry.lent) - 1 }
 {
-    let mut q: usize = PORTS;
-    while 0 < q {
-        q -= 1;
-        if is_crossed(hops, routes, q) {
+    for q in (0..PORTS).rev() {
+        if is_crossed(held, q) {
             return q;
         }
     }

@@ -1,114 +1,89 @@
-// The fixed-point iteration as a question: so many steps from a start.
-ghost use Rattle.std.specs.Prelude.{◌≡◌, true, ◌≤◌};
-ghost use Rattle.cqf.specs.Plan.{valid_plan};
-ghost use Rattle.cqf.specs.FixedPoint.{iterate};
-ghost use Rattle.numbers.specs.Clock.{clock_of};
-ghost use Rattle.tables.specs.Columns.{plan_by};
-ghost use Rattle.questions.specs.Answer.{fixed_point_of};
+// The fixed-point iteration for the least duration from a start on, by the most that a port needs.
+ghost use Rattle.std.specs.Prelude.{◌≡◌, ◌≤◌, length};
+ghost use Rattle.cqf.specs.Limits.{port_slots};
+ghost use Rattle.cqf.specs.FixedPoint.{none, iterate};
+ghost use Rattle.tables.specs.Lent.{plan_lent};
+ghost use Rattle.questions.specs.Answer.{fixed_point_of, fixed_point_refused};
 ghost use Rattle.questions.specs.FixedPoint.{outcome_answer, fixed_point_answer};
 
-use super::FixedPointAnswer;
-use super::failing::failing_at;
-use super::iterate::{Iterated, iterate};
-use numbers::clock::Clock;
+use super::demand::demands;
+use super::failing::{failing_at, some_fails};
+use super::need::neediest;
 use numbers::limits::between;
-use tables::{PORTS, columns, valid_tables};
+use numbers::port::window;
+use tables::{Held, Lent, PORTS, hold};
 
-// What so many steps answer; where there is no duration up to top, with the ports that fail at top.
-fn steps_answer<'a>(
-    guard: u32,
-    top: u32,
-    clock: Clock,
-    rates: &'a columns::Rates,
-    blockings: &'a columns::Blockings,
-    extras: &'a columns::Extras,
-    periods: &'a columns::Periods,
-    counts: &'a columns::Counts,
-    lengths: &'a columns::Lengths,
-    jitters: &'a columns::Jitters,
-    hops: &'a columns::Hops,
-    routes: &'a columns::Routes,
-    start: u64,
-    steps: u64,
-) -> FixedPointAnswer
-    requires routes_value { valid_plan
-        (plan_by guard top (clock_of clock) rates.now blockings.now extras.now periods.now counts.now
-        lengths.now jitters.now hops.now routes.now)
-        ≡ true }
-    requires le_start { (1 ≤ start) × (start ≤ top) }
-    ensures { fixed_point_of result ≡ outcome_answer
-        (plan_by guard top (clock_of clock) rates.now blockings.now extras.now
-        periods.now counts.now lengths.now jitters.now
-        hops.now routes.now)
-        steps
-        (iterate
-        (plan_by guard top (clock_of clock) rates.now blockings.now extras.now
-        periods.now counts.now lengths.now jitters.now
-        hops.now routes.now)
-        start steps) }
+// A duration found, and the steps that it took.
+#[derive(Clone, Copy)]
+pub struct FixedPoint {
+    pub duration: u64,
+    pub steps: u64,
+}
+
+#[derive(Clone, Copy)]
+pub enum FixedPointRefusal {
+    NoPlan,
+    BadStart,
+    Failing { port: u32, count: u32, steps: u64 },
+    Unfinished { duration: u64, steps: u64 },
+}
+
+// There is no duration up to top, as so many steps have shown: the ports that fail at top.
+fn none_found(held: Held, steps: u64, out: &mut [u64]) -> FixedPointRefusal
+    requires { length out.old ≡ port_slots }
+    ensures { fixed_point_refused result ≡ outcome_answer (plan_lent held.entry.lent) steps (none steps) }
 {
-    let mut out = [0u64; PORTS];
-    let iterated = iterate(
-        guard, top, clock, rates, blockings, extras, periods, counts, lengths, jitters, hops,
-        routes, start, steps, &mut out,
-    );
-    match iterated {
-        Iterated::Found {
-            duration,
-            steps: used,
-        } => FixedPointAnswer::Duration {
-            duration,
-            steps: used,
-        },
-        Iterated::Unfinished { duration } => FixedPointAnswer::Unfinished { duration, steps },
-        Iterated::None { steps: used } => {
-            let ports = failing_at(
-                guard, clock, rates, blockings, extras, periods, counts, lengths, jitters, hops,
-                routes, top as u64, &mut out,
-            );
-            FixedPointAnswer::Failing {
-                port: ports.port,
-                count: ports.count,
-                steps: used,
-            }
-        }
+    let ports = failing_at(held, held.lent.top as u64, out);
+    FixedPointRefusal::Failing {
+        port: ports.port,
+        count: ports.count,
+        steps,
     }
 }
 
+// At most so many steps. Where no port fails at t, it is found; otherwise the next step is at the most that a port needs at t.
+fn iterate(held: Held, start: u64, steps: u64) -> Result<FixedPoint, FixedPointRefusal>
+    requires { (1 ≤ start) × (start ≤ held.lent.top) }
+    ensures { fixed_point_of result ≡ outcome_answer (plan_lent held.entry.lent) steps (iterate (plan_lent held.entry.lent) start steps) }
+{
+    let lent = held.lent;
+    let limit = lent.top as u64;
+    let mut out = [0u64; PORTS];
+    let mut t = start;
+    for made in 0..steps {
+        demands(held, t, &mut out);
+        let available = window(lent.guard, t);
+        if !some_fails(lent, available, &out) {
+            let found = FixedPoint {
+                duration: t,
+                steps: made + 1,
+            };
+            return Ok(found);
+        }
+        let worst = neediest(lent, &out);
+        let next = worst.needed;
+        if limit < next {
+            let refusal = none_found(held, made + 1, &mut out);
+            return Err(refusal);
+        }
+        t = next;
+    }
+    Err(FixedPointRefusal::Unfinished { duration: t, steps })
+}
+
 // The least admissible duration from a start on, by at most so many steps; 26 where they end before.
-pub fn fixed_point_tables<'a>(
-    guard: u32,
-    top: u32,
-    clock: Clock,
-    rates: &'a columns::Rates,
-    blockings: &'a columns::Blockings,
-    extras: &'a columns::Extras,
-    periods: &'a columns::Periods,
-    counts: &'a columns::Counts,
-    lengths: &'a columns::Lengths,
-    jitters: &'a columns::Jitters,
-    hops: &'a columns::Hops,
-    routes: &'a columns::Routes,
+pub fn fixed_point_tables(
+    lent: Lent,
     start: u64,
     steps: u64,
-) -> FixedPointAnswer
-    ensures { fixed_point_of result ≡ fixed_point_answer
-        (plan_by guard top (clock_of clock) rates.now blockings.now extras.now
-        periods.now counts.now lengths.now jitters.now
-        hops.now routes.now)
-        start steps }
+) -> Result<FixedPoint, FixedPointRefusal>
+    ensures { fixed_point_of result ≡ fixed_point_answer (plan_lent lent.entry) start steps }
 {
-    if !valid_tables(
-        guard, top, clock, rates, blockings, extras, periods, counts, lengths, jitters, hops,
-        routes,
-    ) {
-        return FixedPointAnswer::NoPlan;
+    let Some(held) = hold(lent) else {
+        return Err(FixedPointRefusal::NoPlan);
+    };
+    if !between(1, held.lent.top as u64, start) {
+        return Err(FixedPointRefusal::BadStart);
     }
-    if !between(1, top as u64, start) {
-        return FixedPointAnswer::BadStart;
-    }
-    steps_answer(
-        guard, top, clock, rates, blockings, extras, periods, counts, lengths, jitters, hops,
-        routes, start, steps,
-    )
+    iterate(held, start, steps)
 }

@@ -1,18 +1,16 @@
 // The demand of one port at a duration, in bits.
-ghost use Rattle.std.specs.Prelude.{◌≡◌, [], suc, ◌+◌, ◌*◌, ◌≤◌, ◌<◌};
-ghost use Rattle.cqf.specs.Bounded.{elem, sublist};
-ghost use Rattle.cqf.specs.Limits.{port_slots, flow_slots, route_stride, min_period, max_period, max_count, max_length, max_jitter, max_extra};
+ghost use Rattle.std.specs.Prelude.{◌≡◌, ◌*◌, ◌≤◌, ◌<◌};
+ghost use Rattle.cqf.specs.Limits.{port_slots, flow_slots, min_period, max_period, max_count, max_length, max_jitter, max_extra};
 ghost use Rattle.cqf.specs.Overflow.{most_widened};
+ghost use Rattle.cqf.specs.Plan.{crosses};
 ghost use Rattle.cqf.specs.Port.{bits_of};
-ghost use Rattle.cqf.specs.Widened.{widened_by};
 ghost use Rattle.cqf.specs.Condition.{frames_by, demand};
-ghost use Rattle.numbers.specs.Clock.{clock_of};
-ghost use Rattle.tables.specs.Columns.{columns, FlowsInRange, ExtrasInRange};
+ghost use Rattle.tables.specs.Lent.{plan_lent};
 
 use super::demand::flow_frames;
-use numbers::clock::{Clock, widened};
+use numbers::clock::widened;
 use numbers::frame::wire_bits;
-use tables::{FLOWS, STRIDE, columns};
+use tables::{FLOWS, Held, STRIDE};
 
 // The wire bits of the frames that a flow brings to a port.
 pub(crate) fn flow_bits(
@@ -35,69 +33,46 @@ pub(crate) fn flow_bits(
     flow_frames(period, count, jitter, widened) * wire_bits(bytes, extra)
 }
 
-// Whether a route holds the port in slot q. Two ports at a time, and the last one of an odd number.
-pub(crate) fn route_holds<'a>(
-    routes: &'a columns::Routes,
-    base: usize,
-    hops: usize,
-    q: usize,
-) -> bool
-    requires { (base + hops ≤ flow_slots * route_stride) × (q < port_slots) }
-    ensures { result ≡ elem (suc q) (sublist routes.now base hops) }
+// Whether the route of the flow in slot f holds the port in slot q. Two ports at a time, and the last one of an odd number.
+pub(crate) fn route_holds(held: Held, f: usize, q: usize) -> bool
+    requires { (f < flow_slots) × (q < port_slots) }
+    ensures { result ≡ crosses (plan_lent held.entry.lent) f q }
 {
+    let routes = held.lent.routes;
+    let base = f * STRIDE;
+    let hops = held.lent.hops[f] as usize;
     let port = (q + 1) as u8;
     let even = hops - hops % 2;
     let mut i: usize = 0;
     while i < even {
-        if routes[base + i] == port {
-            return true;
-        }
-        if routes[base + i + 1] == port {
+        if port == routes[base + i] || port == routes[base + i + 1] {
             return true;
         }
         i += 2;
     }
-    if i == hops {
-        return false;
-    }
-    if routes[base + i] == port {
-        return true;
-    }
-    false
+    i != hops && port == routes[base + i]
 }
 
 // The demand of the port in slot q.
-pub(crate) fn port_demand<'a>(
-    clock: Clock,
-    extras: &'a columns::Extras,
-    periods: &'a columns::Periods,
-    counts: &'a columns::Counts,
-    lengths: &'a columns::Lengths,
-    jitters: &'a columns::Jitters,
-    hops: &'a columns::Hops,
-    routes: &'a columns::Routes,
-    duration: u64,
-    q: usize,
-) -> u64
-    requires flows_in_range { FlowsInRange periods.now counts.now lengths.now jitters.now hops.now routes.now
-        × ExtrasInRange extras.now }
-    requires duration_bound { (widened_by (clock_of clock) duration ≤ most_widened) × (q < port_slots) }
-    ensures { result ≡ demand
-        (columns (clock_of clock) [] [] extras.now periods.now counts.now
-        lengths.now jitters.now hops.now routes.now)
-        q duration }
+pub(crate) fn port_demand(held: Held, duration: u64, q: usize) -> u64
+    requires { (duration ≤ held.lent.top) × (q < port_slots) }
+    ensures { result ≡ demand (plan_lent held.entry.lent) q duration }
 {
+    let lent = held.lent;
     let at = duration as u32;
-    let over = widened(clock, at) as u32;
+    let over = widened(lent.clock, at) as u32;
     let mut bits: u64 = 0;
-    let mut f: usize = 0;
-    while f < FLOWS {
-        if route_holds(routes, f * STRIDE, hops[f] as usize, q) {
+    for f in 0..FLOWS {
+        if route_holds(held, f, q) {
             bits += flow_bits(
-                periods[f], counts[f], lengths[f], jitters[f], extras[q], over,
+                lent.periods[f],
+                lent.counts[f],
+                lent.lengths[f],
+                lent.jitters[f],
+                lent.extras[q],
+                over,
             );
         }
-        f += 1;
     }
     bits
 }

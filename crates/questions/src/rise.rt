@@ -2,10 +2,8 @@
 ghost use Rattle.std.specs.Prelude.{◌≤◌, ◌<◌};
 ghost use Rattle.questions.specs.Run.{far};
 
-use super::need::larger;
-use super::upward::smaller;
 use numbers::clock::{Clock, widened};
-use tables::{FLOWS, columns};
+use tables::{FLOWS, Lent};
 
 // Above every length over which frames are counted, with a period and a jitter.
 const FAR: u64 = 1_099_511_627_776;
@@ -31,30 +29,16 @@ fn last_shorter(clock: Clock, length: u64) -> u64
 {
     let apart = clock.timing_jitter as u64 + 1;
     let synchronized = 2 * (clock.sync_error as u64) + 1;
-    let mut by_drift: u64 = 0;
-    if apart <= length {
-        by_drift = (length - apart) * MILLION / (MILLION + clock.drift as u64);
-    }
-    let mut by_error: u64 = 0;
-    if synchronized <= length {
-        by_error = length - synchronized;
-    }
-    larger(by_drift, by_error)
+    let by_drift = length.saturating_sub(apart) * MILLION / (MILLION + clock.drift as u64);
+    by_drift.max(length.saturating_sub(synchronized))
 }
 
 // One below the first duration above this one at which some flow begins a further period.
-pub(crate) fn before_rise<'a>(
-    clock: Clock,
-    periods: &'a columns::Periods,
-    jitters: &'a columns::Jitters,
-    duration: u32,
-) -> u64 {
-    let length = widened(clock, duration) % FAR;
+pub(crate) fn before_rise(lent: Lent, duration: u32) -> u64 {
+    let length = widened(lent.clock, duration) % FAR;
     let mut nearest = FAR;
-    let mut f: usize = 0;
-    while f < FLOWS {
-        nearest = smaller(nearest, next_length(periods[f], jitters[f], length));
-        f += 1;
+    for f in 0..FLOWS {
+        nearest = nearest.min(next_length(lent.periods[f], lent.jitters[f], length));
     }
-    last_shorter(clock, nearest)
+    last_shorter(lent.clock, nearest)
 }

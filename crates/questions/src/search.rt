@@ -1,111 +1,50 @@
 // A search, whatever its goal.
-ghost use Rattle.std.specs.Prelude.{◌≡◌, true, length};
+ghost use Rattle.std.specs.Prelude.{◌≡◌, length};
 ghost use Rattle.cqf.specs.Limits.{port_slots};
-ghost use Rattle.cqf.specs.Plan.{valid_plan};
-ghost use Rattle.numbers.specs.Clock.{clock_of};
-ghost use Rattle.tables.specs.Columns.{plan_by};
+ghost use Rattle.tables.specs.Lent.{plan_lent};
 ghost use Rattle.questions.specs.Answer.{search_of};
 ghost use Rattle.questions.specs.Search.{Answers, SearchEnds, wanted, none_number};
 
-use super::SearchAnswer;
 use super::failing::failing_at;
 use super::seek::{Goal, seek};
-use numbers::clock::Clock;
-use tables::{PORTS, columns, valid_tables};
+use tables::{Held, Lent, PORTS, hold};
+
+#[derive(Clone, Copy)]
+pub enum SearchRefusal {
+    NoPlan,
+    ShortScratch,
+    Failing { port: u32, count: u32 },
+}
 
 // The answer over 64 numbers, which are left with the demands at the duration found, or at top where there is none.
-fn answer<'a>(
-    goal: Goal,
-    guard: u32,
-    top: u32,
-    clock: Clock,
-    rates: &'a columns::Rates,
-    blockings: &'a columns::Blockings,
-    extras: &'a columns::Extras,
-    periods: &'a columns::Periods,
-    counts: &'a columns::Counts,
-    lengths: &'a columns::Lengths,
-    jitters: &'a columns::Jitters,
-    hops: &'a columns::Hops,
-    routes: &'a columns::Routes,
-    out: &mut [u64],
-) -> SearchAnswer
-    requires { (valid_plan
-        (plan_by guard top (clock_of clock) rates.now blockings.now extras.now periods.now counts.now
-        lengths.now jitters.now hops.now routes.now)
-        ≡ true)
-        × (length out.old ≡ port_slots) }
-    ensures { Answers (none_number goal) (wanted goal)
-        (plan_by guard top (clock_of clock) rates.now blockings.now extras.now
-        periods.now counts.now lengths.now jitters.now
-        hops.now routes.now)
+fn answer(goal: Goal, held: Held, out: &mut [u64]) -> Result<u64, SearchRefusal>
+    requires { length out.old ≡ port_slots }
+    ensures { Answers (none_number goal) (wanted goal) (plan_lent held.entry.lent)
         (search_of (none_number goal) result) out.new }
 {
-    let found = seek(
-        goal, guard, top, clock, rates, blockings, extras, periods, counts, lengths, jitters, hops,
-        routes, out,
-    );
-    let limit = top as u64;
-    if found <= limit {
-        return SearchAnswer::Duration(found);
+    let found = seek(goal, held, out);
+    let limit = held.lent.top as u64;
+    if limit < found {
+        let ports = failing_at(held, limit, out);
+        return Err(SearchRefusal::Failing {
+            port: ports.port,
+            count: ports.count,
+        });
     }
-    let ports = failing_at(
-        guard, clock, rates, blockings, extras, periods, counts, lengths, jitters, hops, routes,
-        limit, out,
-    );
-    SearchAnswer::Failing {
-        port: ports.port,
-        count: ports.count,
-    }
+    Ok(found)
 }
 
 // A search over the first 64 numbers of a scratch.
-pub fn search_tables<'a>(
-    goal: Goal,
-    guard: u32,
-    top: u32,
-    clock: Clock,
-    rates: &'a columns::Rates,
-    blockings: &'a columns::Blockings,
-    extras: &'a columns::Extras,
-    periods: &'a columns::Periods,
-    counts: &'a columns::Counts,
-    lengths: &'a columns::Lengths,
-    jitters: &'a columns::Jitters,
-    hops: &'a columns::Hops,
-    routes: &'a columns::Routes,
-    scratch: &mut [u64],
-) -> SearchAnswer
-    ensures { SearchEnds (none_number goal) (wanted goal)
-        (plan_by guard top (clock_of clock) rates.now blockings.now extras.now
-        periods.now counts.now lengths.now jitters.now
-        hops.now routes.now)
+pub fn search_tables(goal: Goal, lent: Lent, scratch: &mut [u64]) -> Result<u64, SearchRefusal>
+    ensures { SearchEnds (none_number goal) (wanted goal) (plan_lent lent.entry)
         scratch.old (search_of (none_number goal) result) scratch.new }
 {
-    if !valid_tables(
-        guard, top, clock, rates, blockings, extras, periods, counts, lengths, jitters, hops,
-        routes,
-    ) {
-        return SearchAnswer::NoPlan;
-    }
+    let Some(held) = hold(lent) else {
+        return Err(SearchRefusal::NoPlan);
+    };
     let size = scratch.len();
     if size < PORTS {
-        return SearchAnswer::ShortScratch;
+        return Err(SearchRefusal::ShortScratch);
     }
-    answer(
-        goal,
-        guard,
-        top,
-        clock,
-        rates,
-        blockings,
-        extras,
-        periods,
-        counts,
-        lengths,
-        jitters,
-        hops,
-        routes,
-        &mut scratch[..PORTS],
-    )
+    answer(goal, held, &mut scratch[..PORTS])
 }

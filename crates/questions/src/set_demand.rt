@@ -1,6 +1,6 @@
 // The demand of a port from the set of the flows that cross it, and what it needs for it.
-ghost use Rattle.std.specs.Prelude.{◌≡◌, ◌+◌, ◌≤◌, ◌<◌};
-ghost use Rattle.cqf.specs.Limits.{flow_slots, max_extra};
+ghost use Rattle.std.specs.Prelude.{◌≡◌, ◌+◌, ◌≤◌, ◌<◌, get_or};
+ghost use Rattle.cqf.specs.Limits.{port_slots, flow_slots, max_extra};
 ghost use Rattle.cqf.specs.Overflow.{most_widened};
 ghost use Rattle.cqf.specs.Widened.{widened_by};
 ghost use Rattle.cqf.specs.Need.{need_by};
@@ -10,39 +10,29 @@ ghost use Rattle.questions.specs.FlowSet.{word_slots, flow_bits, word_bits, set_
 use super::flow_set::FlowSet;
 use super::need::need;
 use super::port_demand::flow_bits;
-use numbers::clock::{Clock, widened};
-use tables::columns;
+use numbers::clock::widened;
+use tables::Lent;
 
 // What the flow in slot f brings to a port.
-fn bits_at<'a>(
-    periods: &'a columns::Periods,
-    counts: &'a columns::Counts,
-    lengths: &'a columns::Lengths,
-    jitters: &'a columns::Jitters,
-    extra: u8,
-    over: u32,
-    f: usize,
-) -> u64
-    requires { Countable periods.now counts.now lengths.now jitters.now f × (f < flow_slots) × (extra ≤ max_extra) × (over ≤ most_widened) }
-    ensures { result ≡ flow_bits periods.now counts.now lengths.now jitters.now extra over f }
+fn bits_at(lent: Lent, extra: u8, over: u32, f: usize) -> u64
+    requires { Countable lent.periods.now lent.counts.now lent.lengths.now lent.jitters.now f × (f < flow_slots) × (extra ≤ max_extra) × (over ≤ most_widened) }
+    ensures { result ≡ flow_bits lent.entry.periods.now lent.entry.counts.now lent.entry.lengths.now lent.entry.jitters.now extra over f }
 {
-    flow_bits(periods[f], counts[f], lengths[f], jitters[f], extra, over)
+    flow_bits(
+        lent.periods[f],
+        lent.counts[f],
+        lent.lengths[f],
+        lent.jitters[f],
+        extra,
+        over,
+    )
 }
 
 // What the flows of one number of a set bring.
-fn word_bits<'a>(
-    periods: &'a columns::Periods,
-    counts: &'a columns::Counts,
-    lengths: &'a columns::Lengths,
-    jitters: &'a columns::Jitters,
-    extra: u8,
-    over: u32,
-    word: u64,
-    base: usize,
-) -> u64
-    requires word_countable { WordCountable periods.now counts.now lengths.now jitters.now word base }
+fn word_bits(lent: Lent, extra: u8, over: u32, word: u64, base: usize) -> u64
+    requires word_countable { WordCountable lent.periods.now lent.counts.now lent.lengths.now lent.jitters.now word base }
     requires word_slots_bound { (base + word_slots ≤ flow_slots) × (extra ≤ max_extra) × (over ≤ most_widened) }
-    ensures { result ≡ word_bits (flow_bits periods.now counts.now lengths.now jitters.now extra over) word base }
+    ensures { result ≡ word_bits (flow_bits lent.entry.periods.now lent.entry.counts.now lent.entry.lengths.now lent.entry.jitters.now extra over) word base }
 {
     let mut bits: u64 = 0;
     let mut rest = word;
@@ -50,8 +40,7 @@ fn word_bits<'a>(
     while rest != 0 {
         let skip = u64::trailing_zeros(rest);
         let at = i + skip as usize;
-        let f = base + at;
-        bits += bits_at(periods, counts, lengths, jitters, extra, over, f);
+        bits += bits_at(lent, extra, over, base + at);
         rest = (rest >> skip) / 2;
         i = at + 1;
     }
@@ -59,56 +48,28 @@ fn word_bits<'a>(
 }
 
 // What the flows of a set bring at a duration.
-fn set_demand<'a>(
-    clock: Clock,
-    extra: u8,
-    periods: &'a columns::Periods,
-    counts: &'a columns::Counts,
-    lengths: &'a columns::Lengths,
-    jitters: &'a columns::Jitters,
-    set: FlowSet,
-    duration: u64,
-) -> u64
-    requires set_countable { SetCountable periods.now counts.now lengths.now jitters.now set }
-    requires extra_le_max_extra { (extra ≤ max_extra) × (widened_by (clock_of clock) duration ≤ most_widened) }
-    ensures { result ≡ set_bits (flow_bits periods.now counts.now lengths.now jitters.now extra (widened_by (clock_of clock) duration)) set }
+fn set_demand(lent: Lent, extra: u8, set: FlowSet, duration: u64) -> u64
+    requires set_countable { SetCountable lent.periods.now lent.counts.now lent.lengths.now lent.jitters.now set }
+    requires extra_le_max_extra { (extra ≤ max_extra) × (widened_by (clock_of lent.clock) duration ≤ most_widened) }
+    ensures { result ≡ set_bits (flow_bits lent.entry.periods.now lent.entry.counts.now lent.entry.lengths.now lent.entry.jitters.now extra (widened_by (clock_of lent.entry.clock) duration)) set }
 {
     let at = duration as u32;
-    let over = widened(clock, at) as u32;
-    let first = word_bits(periods, counts, lengths, jitters, extra, over, set.first, 0);
-    let second = word_bits(
-        periods, counts, lengths, jitters, extra, over, set.second, 64,
-    );
-    let third = word_bits(
-        periods, counts, lengths, jitters, extra, over, set.third, 128,
-    );
-    let fourth = word_bits(
-        periods, counts, lengths, jitters, extra, over, set.fourth, 192,
-    );
+    let over = widened(lent.clock, at) as u32;
+    let first = word_bits(lent, extra, over, set.first, 0);
+    let second = word_bits(lent, extra, over, set.second, 64);
+    let third = word_bits(lent, extra, over, set.third, 128);
+    let fourth = word_bits(lent, extra, over, set.fourth, 192);
     first + second + third + fourth
 }
 
-// What a port needs for the demand of its flows at a duration.
-pub(crate) fn set_need<'a>(
-    guard: u32,
-    clock: Clock,
-    rate: u32,
-    blocking: u16,
-    extra: u8,
-    periods: &'a columns::Periods,
-    counts: &'a columns::Counts,
-    lengths: &'a columns::Lengths,
-    jitters: &'a columns::Jitters,
-    set: FlowSet,
-    duration: u64,
-) -> u64
-    requires set_countable { SetCountable periods.now counts.now lengths.now jitters.now set }
-    requires extra_le_max_extra { (extra ≤ max_extra) × (widened_by (clock_of clock) duration ≤ most_widened) }
-    requires rate_nonzero { 0 < set_bits (flow_bits periods.now counts.now lengths.now jitters.now extra (widened_by (clock_of clock) duration)) set → 0 < rate }
-    ensures { result ≡ need_by guard rate blocking extra (set_bits (flow_bits periods.now counts.now lengths.now jitters.now extra (widened_by (clock_of clock) duration)) set) }
+// What the port in slot q needs for the demand of its flows at a duration.
+pub(crate) fn set_need(lent: Lent, q: usize, set: FlowSet, duration: u64) -> u64
+    requires set_countable { SetCountable lent.periods.now lent.counts.now lent.lengths.now lent.jitters.now set }
+    requires extra_le_max_extra { (q < port_slots) × (get_or lent.extras.now q 0 ≤ max_extra) × (widened_by (clock_of lent.clock) duration ≤ most_widened) }
+    requires rate_nonzero { 0 < set_bits (flow_bits lent.periods.now lent.counts.now lent.lengths.now lent.jitters.now (get_or lent.extras.now q 0) (widened_by (clock_of lent.clock) duration)) set → 0 < get_or lent.rates.now q 0 }
+    ensures { result ≡ need_by lent.entry.guard (get_or lent.entry.rates.now q 0) (get_or lent.entry.blockings.now q 0) (get_or lent.entry.extras.now q 0) (set_bits (flow_bits lent.entry.periods.now lent.entry.counts.now lent.entry.lengths.now lent.entry.jitters.now (get_or lent.entry.extras.now q 0) (widened_by (clock_of lent.entry.clock) duration)) set) }
 {
-    let bits = set_demand(
-        clock, extra, periods, counts, lengths, jitters, set, duration,
-    );
-    need(guard, rate, blocking, extra, bits)
+    let extra = lent.extras[q];
+    let bits = set_demand(lent, extra, set, duration);
+    need(lent.guard, lent.rates[q], lent.blockings[q], extra, bits)
 }

@@ -8,12 +8,6 @@ use Rattle.cqf.specs.PortSteps.{highest_crossed}
 use Rattle.answers.specs.Answer.{Answer, result, refusal}
 use Rattle.answers.specs.Refusals.{short_scratch, no_plan_held, no_least, no_margin_safe}
 use Rattle.questions.specs.Lean.{LeanEnds, lean_least_answer, lean_least_leaves, lean_margin_safe_answer, lean_margin_safe_leaves}
-use Rattle.questions.specs.PortSearch.{routes_only}
-
--- which port is the highest crossed one depends on the routes alone
-pub highest_routes : (p : Plan) → highest_crossed (routes_only p.hops p.routes) ≡ highest_crossed p
-unfolding highest_crossed crossed
-highest_routes p = refl
 
 -- a store into the first number keeps the others
 pub set_first : (l : List ℕ) (n : ℕ) → 1 ≤ length l → set l 0 n ≡ n ∷ drop 1 l

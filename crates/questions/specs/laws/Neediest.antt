@@ -8,7 +8,7 @@ use Rattle.cqf.specs.Plan.{Plan, rate_of, blocking_of, extra_of}
 use Rattle.cqf.specs.Condition.{fails}
 use Rattle.cqf.specs.Need.{need_by, need, largest_need}
 use Rattle.cqf.proofs.laws.Search.{need-fails}
-use Rattle.questions.specs.PortSearch.{need_in}
+use Rattle.questions.specs.PortSearch.{need_in, NeedsMost}
 use Rattle.questions.specs.laws.Scratch.{Filled, filled_bits, filled-largest}
 use Rattle.cqf.proofs.laws.Bounds.{max_to_most, max_to-next}
 
@@ -44,6 +44,11 @@ module _ {needs : ℕ → ℕ} {q most at : ℕ} (s : Neediest needs q most at) 
       go : most ≡ max_to port_slots needs → Dec (0 < most) → needs at ≡ max_to port_slots needs
       go e (yes some) = s.here some ∙ e
       go e (no none) = let h = max_to_most port_slots needs at s.slot in omega arith
+
+  pub neediest_is : port_slots ≤ q → NeedsMost needs at most
+  neediest_is l =
+      let all : q ≡ port_slots = omega (arith, s.slots) in
+      record { inside = s.slot; here = neediest_all l; most = s.is ∙ ap (λ (n : ℕ). max_to n needs) all }
 
 -- where a port fails, the one that needs most fails
 pub neediest_fails

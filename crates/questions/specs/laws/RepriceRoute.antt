@@ -19,8 +19,8 @@ use Rattle.cqf.proofs.laws.Demand.{share, demand_sum}
 use Rattle.cqf.proofs.laws.Replaced.{replaced_more}
 use Rattle.cqf.proofs.laws.Reprice.{demand-with}
 use Rattle.cqf.proofs.laws.Repriced.{slack_is}
-use Rattle.tables.specs.Columns.{plan_by, columns, ExtrasInRange}
-use Rattle.questions.specs.laws.Sums.{AllInRange, framed, demand_most, demand-columns, elem_here}
+use Rattle.tables.specs.Columns.{ExtrasInRange}
+use Rattle.questions.specs.laws.Sums.{AllInRange, framed, demand_most, elem_here}
 
 -- a number set in a list that is at most as large
 set_most : (l : List ℕ) (i v g m : ℕ) → get_or l g 0 ≤ m → v ≤ m → get_or (set l i v) g 0 ≤ m
@@ -56,19 +56,6 @@ module _ (p : Plan) (in_range : AllInRange p) (f bytes : ℕ) (few : bytes ≤ m
       → demand (with_length p f bytes) q T ≤ most_demand
   unfolding with_length widened
   changed_fits small T fits q slot = demand_most (with_length p f bytes) changed_in_range small T fits q slot
-
--- the demand with that length depends on the same columns
-pub changed_columns
-    : (p : Plan) (f bytes q T : ℕ)
-    → demand (with_length (columns p.clock [] [] p.extras p.periods p.counts p.lengths p.jitters p.hops p.routes) f bytes) q T
-    ≡ demand (with_length p f bytes) q T
-unfolding with_length
-changed_columns p f bytes q T = demand-columns (with_length p f bytes) q T
-
--- a number that is the length over which frames are counted
-pub widened_by_lem : (p : Plan) (T : ℕ) {over : ℕ} → over ≡ widened_by p.clock T → over ≡ widened p T
-unfolding widened
-widened_by_lem p T e = e
 
 -- the flow's bits with its own length and with the other, from its frames
 module _ (p : Plan) (f q T : ℕ) (slot : f < flow_slots) (long : f < length p.lengths) (on : crosses p f q ≡ true) where
@@ -145,22 +132,3 @@ repriced-next routes at i v out₀ out z e some is =
     (get_or routes (at + i) 0 - 1)
     (more_same routes at i (get_or routes (at + i) 0) refl some)
     (more_here routes at i (get_or routes (at + i) 0) refl some)
-
--- the slacks do not depend on top
-module _ (p : Plan) (T f bytes : ℕ) where
-  abbrev topless : Plan
-  topless =
-      plan_by p.guard 0 p.clock p.rates p.blockings p.extras p.periods p.counts p.lengths p.jitters p.hops p.routes
-
-  demand_top : (q : ℕ) → demand (with_length topless f bytes) q T ≡ demand (with_length p f bytes) q T
-  unfolding with_length
-  demand_top q = sym (demand-columns (with_length topless f bytes) q T) ∙ demand-columns (with_length p f bytes) q T
-
-  slack_top : (q : ℕ) → slack (with_length topless f bytes) q T ≡ slack (with_length p f bytes) q T
-  slack_top q =
-      changed_slack p f bytes q T {available = T - 2 * p.guard} refl (demand_top q)
-      (slack_is (with_length topless f bytes) q T ∙ ap₂ sub_ℕ (capacity_here topless f bytes q T) (workload_here topless f bytes q _))
-
-  pub repriced_top : (out : List ℤ) → repriced topless T f bytes out ≡ repriced p T f bytes out
-  unfolding repriced
-  repriced_top out = ap (λ (v : ℕ → ℤ). replaced (crosses p f) v out) (fun_ext slack_top)

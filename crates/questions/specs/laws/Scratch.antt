@@ -1,6 +1,6 @@
 -- The scratch in a search, filled with each port's demand at a duration.
-use Rattle.std.specs.Prelude.{◌≡◌, true, List, [], ℕ, ◌≤◌, ◌<◌, length, get_or}
-use Rattle.std.proofs.Math.Path.{ap, fun_ext}
+use Rattle.std.specs.Prelude.{◌≡◌, true, List, ℕ, ◌≤◌, ◌<◌, length, get_or}
+use Rattle.std.proofs.Math.Path.{ap}
 use Rattle.std.proofs.Common.{◌∙◌, arith}
 use Rattle.cqf.specs.Bounded.{max_to, tabulate}
 use Rattle.cqf.specs.Limits.{port_slots, max_top}
@@ -12,9 +12,7 @@ use Rattle.cqf.proofs.laws.Bounds.{max_to_same}
 use Rattle.cqf.proofs.laws.Tabulate.{tabulate_length, tabulate-at}
 use Rattle.cqf.proofs.laws.Ranges.{top_most}
 use Rattle.cqf.proofs.laws.Search.{busy_rate}
-use Rattle.tables.specs.Columns.{columns}
 use Rattle.questions.specs.laws.Widened.{demand_fits}
-use Rattle.questions.specs.laws.Sums.{demand-columns}
 
 -- the demands at t, in a valid plan
 pub record Filled (p : Plan) (out : List ℕ) (t : ℕ) : Type 0 where
@@ -22,14 +20,8 @@ pub record Filled (p : Plan) (out : List ℕ) (t : ℕ) : Type 0 where
   pub within : t ≤ p.top
   pub demands : out ≡ tabulate port_slots (λ q. demand p q t)
 
-pub filled_by
-    : (p : Plan) {out : List ℕ} {t : ℕ}
-    → valid_plan p ≡ true
-    → t ≤ p.top
-    → out ≡ tabulate port_slots (λ q. demand (columns p.clock [] [] p.extras p.periods p.counts p.lengths p.jitters p.hops p.routes) q t)
-    → Filled p out t
-filled_by p {t = t} valid l e =
-    record { valid = valid; within = l; demands = e ∙ ap (tabulate port_slots) (fun_ext (λ q. demand-columns p q t)) }
+pub filled_by : {p : Plan} {out : List ℕ} {t : ℕ} → valid_plan p ≡ true → t ≤ p.top → out ≡ tabulate port_slots (λ q. demand p q t) → Filled p out t
+filled_by valid l e = record { valid = valid; within = l; demands = e }
 
 module _ {p : Plan} {out : List ℕ} {t : ℕ} (s : Filled p out t) where
   pub filled_length : length out ≡ port_slots

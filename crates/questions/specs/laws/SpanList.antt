@@ -15,7 +15,7 @@ use Rattle.span_lists.specs.Span.{Span, begins, span_from, and_where, spans_in, 
 use Rattle.span_lists.specs.results.Theorem.{spans_are, spans_sound}
 use Rattle.span_lists.specs.laws.Ending.{ending_all, ending_next, ending_from_lem}
 use Rattle.questions.specs.Spans.{record_of, span_of, no_span_of, first_or, next_span}
-use Rattle.questions.specs.SpanList.{nth, filled}
+use Rattle.questions.specs.SpanList.{after, nth, filled}
 use Rattle.questions.specs.declared.one_span.SpanRecord.{SpanRecord}
 
 pub filled_length : (p : Plan) (l : List SpanRecord) (i : ℕ) → length (filled p l i) ≡ length l
@@ -25,6 +25,16 @@ filled_length p l (suc i) = length-set (filled p l i) i (nth p (suc i)) ∙ fill
 
 drop_next : (i : ℕ) (ss : List Span) {s : Span} {rest : List Span} → drop i ss ≡ s ∷ rest → drop (suc i) ss ≡ rest
 drop_next i ss {s} {rest} e = ap (λ (n : ℕ). drop n ss) (sym (add-one i)) ∙ sym (drop-drop 1 i ss) ∙ ap (drop 1) e
+
+-- the span that follows the first i, and the list with it
+pub nth-after : (p : Plan) (i : ℕ) {s r : SpanRecord} → r ≡ after p s → s ≡ nth p i → r ≡ nth p (suc i)
+unfolding nth
+nth-after p i e at = e ∙ ap (after p) at
+
+pub filled-next : (p : Plan) (l : List SpanRecord) (i : ℕ) {k : List SpanRecord} {r : SpanRecord} → k ≡ filled p l i → r ≡ nth p (i + 1) → set k i r ≡ filled p l (i + 1)
+unfolding filled
+filled-next p l i {k} {r} e at =
+    ap (λ (k : List SpanRecord). set k i r) e ∙ ap (set (filled p l i) i) (at ∙ ap (nth p) (add-one i)) ∙ ap (filled p l) (sym (add-one i))
 
 module _ (p : Plan) where
   nth-next : (i : ℕ) → nth p (suc i) ≡ record_of (first_or (ending_from ((nth p i).last + 1) (spans p)))

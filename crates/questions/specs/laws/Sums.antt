@@ -6,7 +6,7 @@ use Rattle.std.proofs.lemmas.Bool.{false≢true}
 use Prim.Native.Nat.{ℕ, ◌+◌, ◌*◌, ◌≤◌, ◌<◌, zero-le}
 use Rattle.std.proofs.Math.Decide.{ℕ_discrete}
 use Rattle.cqf.specs.Bounded.{sum_to, elem, every, distinct, sublist, tabulate}
-use Rattle.cqf.specs.Limits.{port_slots, flow_slots, min_period, port_ok}
+use Rattle.cqf.specs.Limits.{port_slots, flow_slots, route_stride, min_period, port_ok}
 use Rattle.cqf.specs.Overflow.{most_widened, most_bits, most_demand}
 use Rattle.cqf.specs.Plan.{Plan, extra_of, period_of, count_of, length_of, jitter_of, hops_of, route_of, crosses, port_in, valid_plan}
 use Rattle.cqf.specs.Port.{bits_of, wire_bits}
@@ -15,10 +15,10 @@ use Rattle.cqf.specs.Condition.{frames_by, begun, frames, demand}
 use Rattle.cqf.proofs.laws.Bounds.{sum_to_most}
 use Rattle.cqf.proofs.laws.Valid.{Empty, Held, slot_cases}
 use Rattle.cqf.proofs.laws.Lists.{elem_at, sublist_length, sublist-at}
-use Rattle.cqf.proofs.laws.Route.{sublist_more, elem_more}
+use Rattle.cqf.proofs.laws.Route.{sublist_more, elem_more, next-port}
 use Rattle.cqf.proofs.laws.Tabulate.{tabulate_length, tabulate-at}
 use Rattle.cqf.proofs.laws.Demand.{frames_by_lem, share, demand_sum, flow_bits_most, share-none, demand-next}
-use Rattle.tables.specs.Columns.{columns, FlowInRange, ExtrasInRange, Marked}
+use Rattle.tables.specs.Columns.{FlowInRange, ExtrasInRange, Marked}
 
 -- a stronger test that each number of a list passes
 every_weaker : (a b : ℕ → Bool) → ((n : ℕ) → a n ≡ true → b n ≡ true) → (l : List ℕ) → every a l ≡ true → every b l ≡ true
@@ -62,6 +62,20 @@ slot_in_range p valid f l = go (slot_cases p valid f l)
           ports = every_weaker (port_in p.rates) port_ok (λ n e. ((and-eq-true_iff _ _).0 e).0) (route_of p f) h.in_plan;
           once = h.once;
         }
+
+-- the port at i of a flow's route: in range, and none of those before
+pub route_next
+    : (p : Plan)
+    → valid_plan p ≡ true
+    → (f i : ℕ)
+    → f < flow_slots
+    → i < hops_of p f
+    → (0 < get_or p.routes (f * route_stride + i) 0)
+    × (get_or p.routes (f * route_stride + i) 0 ≤ port_slots)
+    × (elem (get_or p.routes (f * route_stride + i) 0) (sublist p.routes (f * route_stride) i) ≡ false)
+route_next p valid f i slot l =
+    let r = slot_in_range p valid f slot in
+    next-port p.routes (f * route_stride) (hops_of p f) i r.ports r.once l
 
 -- the wire bits of flow f's frames at the port in slot q
 abbrev pub bits_at : Plan → ℕ → ℕ → ℕ → ℕ
@@ -171,11 +185,3 @@ pub elem_here : (l : List ℕ) (at h i n : ℕ) → i < h → get_or l (at + i) 
 elem_here l at h i n less e =
     ap (λ (m : ℕ). elem m (sublist l at h)) (sym (sublist-at l at h i less ∙ e))
     ∙ elem_at (sublist l at h) i (rw sublist_length less)
-
--- the demand depends on the clocks, the extra bytes and the flows' columns alone
-pub demand-columns
-    : (p : Plan) (q T : ℕ)
-    → demand (columns p.clock [] [] p.extras p.periods p.counts p.lengths p.jitters p.hops p.routes) q T ≡ demand p q T
-unfolding frames begun widened wire_bits
-demand-columns p q T =
-    demand_sum (columns p.clock [] [] p.extras p.periods p.counts p.lengths p.jitters p.hops p.routes) q T ∙ sym (demand_sum p q T)

@@ -1,5 +1,4 @@
--- The length over which frames are counted where clocks differ: it is at most the longest, and a demand is that of equal clocks
--- at a duration so long.
+-- The length over which frames are counted where clocks differ is at most the longest.
 use Rattle.std.specs.Prelude.{◌≡◌, refl, true, [], ℕ, ◌*◌, ◌≤◌, ◌<◌}
 use Rattle.std.proofs.Math.Path.{sym, ap, fun_ext}
 use Rattle.std.proofs.Common.{◌∙◌, arith}
@@ -27,24 +26,12 @@ unfolding widened
 demand_fits p valid T l q slot =
     demand_most p (slot_in_range p valid) (extra_most p valid) T (widened_fits p valid T l) q slot
 
--- the columns of a demand, with clocks that are equal
-abbrev pub aligned : Plan → Plan
-aligned p = columns equal_clocks [] [] p.extras p.periods p.counts p.lengths p.jitters p.hops p.routes
-
-pub aligned-widened : (p : Plan) (over : ℕ) → widened (aligned p) over ≡ over
-aligned-widened p over = widened-aligned (aligned p) refl over
-
-module _ (p : Plan) (T : ℕ) {over : ℕ} (is : over ≡ widened_by p.clock T) where
-  frames-widened : (f : ℕ) → frames (aligned p) f over ≡ frames p f T
+-- the length over which frames are counted, as a number
+module _ (p : Plan) (T : ℕ) where
+  pub widened_is : {over : ℕ} → over ≡ widened_by p.clock T → over ≡ widened p T
   unfolding widened
-  frames-widened f =
-      frames_by_lem (aligned p) f over
-      ∙ ap (λ (n : ℕ). frames_by (count_of p f) n (jitter_of p f) (period_of p f)) (aligned-widened p over ∙ is)
-      ∙ sym (frames_by_lem p f T)
+  widened_is e = e
 
-  pub demand-widened : (q : ℕ) → demand (aligned p) q over ≡ demand p q T
-  unfolding wire_bits
-  demand-widened q =
-      demand_sum (aligned p) q over
-      ∙ ap (sum_to flow_slots) (fun_ext (λ f. ap (λ (n : ℕ). cond (crosses p f q) (n * wire_bits p f q) 0) (frames-widened f)))
-      ∙ sym (demand_sum p q T)
+  pub widened_short : valid_plan p ≡ true → T ≤ p.top → widened p T ≤ most_widened
+  unfolding widened
+  widened_short valid l = widened_fits p valid T l

@@ -4,12 +4,11 @@ use Prim.Native.Nat.{suc}
 use lib.ListN.{length}
 use Rattle.cqf.specs.Limits.{port_slots}
 use Rattle.cqf.proofs.laws.Search.{Descended}
-use Rattle.numbers.specs.Clock.{clock_of}
-use Rattle.tables.specs.Columns.{plan_by}
+use Rattle.tables.specs.Lent.{plan_lent}
 use Rattle.questions.proofs.descend.descend.Given as goal
 
 abbrev pub invariant-loop-below : goal.invariant-loop-below
-invariant-loop-below l = (length l.out ≡ port_slots) × Descended (plan_by l.guard l.top (clock_of l.clock) l.rates l.blockings l.extras l.periods l.counts l.lengths l.jitters l.hops l.routes) (suc l.below)
+invariant-loop-below l = (length l.out ≡ port_slots) × Descended (plan_lent l.held.lent) (suc l.below)
 
 abbrev pub decreases-loop-below : goal.decreases-loop-below
 decreases-loop-below l = l.below

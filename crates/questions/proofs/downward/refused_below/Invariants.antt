@@ -3,12 +3,11 @@ use mathlib.Core.Path.{◌≡◌}
 use lib.ListN.{length}
 use Rattle.cqf.specs.Limits.{port_slots}
 use Rattle.span_lists.specs.laws.Pieces.{Downward}
-use Rattle.numbers.specs.Clock.{clock_of}
-use Rattle.tables.specs.Columns.{plan_by}
+use Rattle.tables.specs.Lent.{plan_lent}
 use Rattle.questions.proofs.downward.refused_below.Given as goal
 
 abbrev pub invariant-loop-below : goal.invariant-loop-below
-invariant-loop-below l = Downward (plan_by l.guard l.top (clock_of l.clock) l.rates l.blockings l.extras l.periods l.counts l.lengths l.jitters l.hops l.routes) l.low l.high l.below × (length l.out ≡ port_slots)
+invariant-loop-below l = Downward (plan_lent l.held.lent) l.low l.high l.below × (length l.out ≡ port_slots)
 
 abbrev pub decreases-loop-below : goal.decreases-loop-below
 decreases-loop-below l = l.below

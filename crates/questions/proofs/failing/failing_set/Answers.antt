@@ -1,7 +1,5 @@
-use mathlib.Core.Path.{◌≡◌, sym, ◌∙◌}
-use native.Mathlib.Omega.{arith}
+use mathlib.Core.Path.{sym, ◌∙◌}
 use borrow.Author.Rules.{rules}
-use Rattle.cqf.specs.Limits.{port_slots}
 use Rattle.questions.specs.Failing.{set_to}
 use Rattle.questions.specs.laws.Sets.{set_or, set_skip}
 use Rattle.questions.proofs.failing.failing_set.Goals as goal
@@ -11,17 +9,9 @@ pub loop-q-init : goal.loop-q-init
 unfolding set_to
 loop-q-init c = search rules
 
-pub port_fails-requires : goal.port_fails-requires
-port_fails-requires c = (c.requires.1, c.requires.2 c.loop-q.q c.loop-q-test.true)
-
 pub loop-q-preserved : goal.loop-q-preserved
 loop-q-preserved c =
     elim c.if-port_fails.branch [
-      | then-port_fails w ↦ (omega arith, w.set-is ∙ set_or c.loop-q.q _ c.loop-q-test.true c.loop-q.invariant.1 (sym c.port_fails.ensures ∙ w.if-port_fails.true))
-      | else-port_fails w ↦ (omega arith, w.set-is ∙ set_skip c.loop-q.q _ c.loop-q.invariant.1 (sym c.port_fails.ensures ∙ w.if-port_fails.false))
+      | then-port_fails w ↦ w.set-is ∙ set_or c.loop-q.q _ c.loop-q-test.true c.loop-q.invariant (sym c.port_fails.ensures ∙ w.if-port_fails.true)
+      | else-port_fails w ↦ w.set-is ∙ set_skip c.loop-q.q _ c.loop-q.invariant (sym c.port_fails.ensures ∙ w.if-port_fails.false)
     ]
-
-pub returns : goal.returns
-returns c =
-    let all : c.loop-q.q ≡ port_slots = omega arith in
-    rw all at c.loop-q.invariant.1

@@ -2,19 +2,18 @@
 -- the ports so many of them in turn pass at t.
 use Prim.Native.Nat.{suc, ◌-◌, ◌<◌}
 use Rattle.cqf.specs.Limits.{port_slots}
-use Rattle.numbers.specs.Clock.{clock_of}
-use Rattle.tables.specs.Columns.{plan_by}
+use Rattle.tables.specs.Lent.{plan_lent}
 use Rattle.questions.specs.laws.LeanSearch.{Reached, InTurn}
 use Rattle.questions.proofs.lean_seek.lean_least.Given as goal
 
 abbrev pub invariant-ports : goal.invariant-ports
-invariant-ports l = InTurn (plan_by l.guard l.top (clock_of l.clock) l.rates l.blockings l.extras l.periods l.counts l.lengths l.jitters l.hops l.routes) l.t l.q l.passed
+invariant-ports l = InTurn (plan_lent l.held.lent) l.t l.q l.passed
 
 abbrev pub decreases-ports : goal.decreases-ports
 decreases-ports l = port_slots - l.passed
 
 abbrev pub invariant-loop-reached : goal.invariant-loop-reached
-invariant-loop-reached l = Reached (plan_by l.guard l.top (clock_of l.clock) l.rates l.blockings l.extras l.periods l.counts l.lengths l.jitters l.hops l.routes) l.t × (l.q < port_slots)
+invariant-loop-reached l = Reached (plan_lent l.held.lent) l.t × (l.q < port_slots)
 
 abbrev pub decreases-loop-reached : goal.decreases-loop-reached
-decreases-loop-reached l = suc l.top - l.t
+decreases-loop-reached l = suc l.held.lent.top - l.t

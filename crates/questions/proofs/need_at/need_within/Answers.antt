@@ -1,23 +1,24 @@
 -- `questions::need_at::need_within` meets its contract: at a duration out of the range nothing is worked out.
-use mathlib.Core.Path.{sym, ap, ◌∙◌}
-use mathlib.Core.Bool.{Bool, cond}
-use Prim.Native.Nat.{ℕ}
+use mathlib.Core.Path.{◌≡◌, sym, ap, ◌∙◌}
+use mathlib.Core.Bool.{Bool, true, cond}
+use Prim.Native.Nat.{ℕ, ◌≤◌}
+use Rattle.cqf.specs.Bounded.{within}
 use Rattle.cqf.specs.Plan.{Plan}
 use Rattle.cqf.specs.Need.{largest_need}
 use Rattle.plan_reading.specs.laws.fields.Within.{within_high}
-use Rattle.numbers.specs.Clock.{clock_of}
-use Rattle.tables.specs.Columns.{plan_by}
+use Rattle.tables.specs.Lent.{plan_lent}
+use Rattle.questions.specs.laws.Scratch.{filled_by, filled_length, filled_most, filled-served, filled-largest}
 use Rattle.questions.proofs.need_at.need_within.Goals as goal
 
--- the need in the range, or 0
-abbrev needed : Plan → ℕ → Bool → ℕ
-needed p t b = cond b (largest_need p t) 0
-
-pub returns-then-not-between : goal.returns-then-not-between
-returns-then-not-between c = sym (ap (needed (plan_by c.args.guard c.args.top (clock_of c.args.clock) c.args.rates.now c.args.blockings.now c.args.extras.now c.args.periods.now c.args.counts.now c.args.lengths.now c.args.jitters.now c.args.hops.now c.args.routes.now) c.args.duration) (sym c.between.ensures ∙ c.if-not-between.true))
-
-pub need_into-requires : goal.need_into-requires
-need_into-requires c = (c.requires.0, c.requires.1, within_high _ _ _ (sym c.between.ensures ∙ c.if-not-between.false))
+pub neediest-requires-clause-by_index : goal.neediest-requires-clause-by_index
+neediest-requires-clause-by_index c =
+    let within = within_high c.args.low c.args.held.lent.top c.args.duration (sym c.between.ensures ∙ c.if-not-between.false) in
+    let full = filled_by c.args.held.valid within c.demands.ensures in
+    λ q l. (filled_most full q l, filled-served full q l)
 
 pub returns : goal.returns
-returns c = c.need_into.ensures ∙ sym (ap (needed (plan_by c.args.guard c.args.top (clock_of c.args.clock) c.args.rates.now c.args.blockings.now c.args.extras.now c.args.periods.now c.args.counts.now c.args.lengths.now c.args.jitters.now c.args.hops.now c.args.routes.now) c.args.duration) (sym c.between.ensures ∙ c.if-not-between.false))
+returns c =
+    let inside = sym c.between.ensures ∙ c.if-not-between.false in
+    let within = within_high c.args.low c.args.held.lent.top c.args.duration inside in
+    filled-largest (filled_by c.args.held.valid within c.demands.ensures) c.neediest.ensures.most
+    ∙ sym (ap (λ (b : Bool). cond b (largest_need (plan_lent c.args.held.lent) c.args.duration) 0) inside)

@@ -1,11 +1,7 @@
 -- `questions::rise::before_rise` is safe. Round the loop nearest is at most what it starts with.
-use Prim.Native.Nat.{◌-◌, ◌≤◌}
-use Rattle.cqf.specs.Limits.{flow_slots}
+use Prim.Native.Nat.{◌≤◌}
 use Rattle.questions.specs.Run.{far}
 use Rattle.questions.proofs.rise.before_rise.Given as goal
 
 abbrev pub invariant-loop-f : goal.invariant-loop-f
 invariant-loop-f l = l.nearest ≤ far
-
-abbrev pub decreases-loop-f : goal.decreases-loop-f
-decreases-loop-f l = flow_slots - l.f

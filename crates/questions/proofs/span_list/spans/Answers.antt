@@ -1,53 +1,52 @@
--- `questions::span_list::spans` meets its contract: there is a plan where a span is listed, and the list is filled by one more in a turn.
-use Rattle.std.specs.Prelude.{List, ℕ, suc, set}
-use Rattle.std.proofs.Common.{◌≡◌, ◌<◌, ◌+◌, length, refl, sym, ap, ◌∙◌, add-one, arith}
-use Rattle.cqf.specs.Plan.{Plan}
-use Rattle.tables.specs.Tables.{plan_of}
+use mathlib.Core.Path.{◌≡◌, refl, sym, ap, ◌∙◌}
+use mathlib.Core.List.{List}
+use Prim.Native.Nat.{ℕ, suc, ◌+◌, ◌≤◌, ◌<◌}
+use native.Mathlib.Omega.{arith}
+use lib.ListN.{length, set}
+use Rattle.std.proofs.Common.{add-one}
+use Rattle.cqf.proofs.laws.Ranges.{top_most}
+use Rattle.span_lists.specs.Span.{spans}
+use Rattle.tables.specs.Lent.{plan_lent}
 use Rattle.questions.specs.Spans.{record_of}
-use Rattle.questions.specs.SpanList.{after, nth, filled, listed_in}
-use Rattle.questions.specs.laws.SpanList.{filled_length}
-use Rattle.questions.specs.laws.Counted.{listed_fits, listed_valid, counted_answer, listed-leaves}
-use Rattle.questions.specs.declared.one_span.SpanRecord.{SpanRecord}
+use Rattle.questions.specs.SpanList.{nth, filled}
+use Rattle.questions.specs.laws.SpanList.{nth-after, filled-next, filled_length, spans_most}
+use Rattle.questions.specs.laws.Counted.{spans-none, spans_keeps, spans-listed, spans_short, filled_all}
 use Rattle.questions.proofs.span_list.spans.Goals as goal
 
--- the span that follows the first i, and the list with it
-next_is : (p : Plan) (i : ℕ) {s r : SpanRecord} → r ≡ after p s → s ≡ nth p i → r ≡ nth p (i + 1)
-unfolding nth
-next_is p i e at = e ∙ ap (after p) at ∙ ap (nth p) (sym (add-one i))
+pub returns-in_default : goal.returns-in_default
+returns-in_default c =
+    let p = plan_lent c.args.lent in
+    (sym (spans-none p _ c.in_default.ensures), sym (spans_keeps p _ c.in_default.ensures))
 
-one_more : (p : Plan) (xs : List SpanRecord) (i : ℕ) {ys : List SpanRecord} {r : SpanRecord} → ys ≡ filled p xs i → r ≡ nth p (i + 1) → set ys i r ≡ filled p xs (i + 1)
-unfolding filled
-one_more p xs i {ys} {r} e at =
-    ap (λ (l : List SpanRecord). set l i r) e ∙ ap (set (filled p xs i) i) (at ∙ ap (nth p) (add-one i)) ∙ ap (filled p xs) (sym (add-one i))
+pub returns-then-size-count : goal.returns-then-size-count
+returns-then-size-count c =
+    let held = c.in-Some.held in
+    let p = plan_lent held.lent in
+    let l = c.args.list.now in
+    let short : length l < length (spans p) = omega (arith, c.count_spans-count.ensures, c.if-size-count.true) in
+    let s = spans_short p held.valid l short in
+    rw (sym c.in-Some.ensures) (rw c.count_spans-count.ensures (sym s.0), sym s.1)
 
 pub loop-i-init : goal.loop-i-init
 unfolding nth filled
-loop-i-init c = (omega arith, ap record_of c.no_span-span.ensures, refl)
-
-pub next_span-span-requires : goal.next_span-span-requires
-next_span-span-requires c =
-    let p = plan_of c.args.planner in
-    let size = length c.args.list.now in
-    let here : c.loop-i.i < listed_in p size = omega (arith, c.span_count-counted.ensures.listed) in
-    listed_valid p size c.loop-i.i here
+loop-i-init c = (ap record_of c.no_span-span.ensures, refl)
 
 pub bounds-list-i : goal.bounds-list-i
-bounds-list-i c =
-    let p = plan_of c.args.planner in
-    omega (arith, c.span_count-counted.ensures.listed, listed_fits p (length c.args.list.now), ap length c.loop-i.invariant.2, filled_length p c.args.list.now c.loop-i.i)
+bounds-list-i c = omega (arith, c.if-size-count.false)
 
 pub loop-i-preserved : goal.loop-i-preserved
 loop-i-preserved c =
-    let p = plan_of c.args.planner in
-    let l = c.loop-i in
-    let next = next_is p l.i c.next_span-span.ensures l.invariant.1 in
-    (omega arith, next, one_more p c.args.list.now l.i l.invariant.2 next)
+    let p = plan_lent c.in-Some.held.lent in
+    let i = c.loop-i.i in
+    let next : c.span_after-span.result ≡ nth p (i + 1) = nth-after p i c.span_after-span.ensures c.loop-i.invariant.0 ∙ ap (nth p) (sym (add-one i)) in
+    (next, filled-next p c.args.list.now i c.loop-i.invariant.1 next)
 
 pub returns : goal.returns
 returns c =
-    let p = plan_of c.args.planner in
-    let xs = c.args.list.now in
-    let counted = c.span_count-counted.ensures in (
-      c.count_answer.ensures ∙ counted_answer p (length xs) counted,
-      c.loop-i.invariant.2 ∙ ap (filled p xs) (omega (arith, counted.listed)) ∙ listed-leaves p xs,
-    )
+    let held = c.in-Some.held in
+    let p = plan_lent held.lent in
+    let l = c.args.list.now in
+    let all : c.loop-i.i ≡ length (spans p) = omega (arith, c.count_spans-count.ensures) in
+    let fits : length (spans p) ≤ length l = omega (arith, c.count_spans-count.ensures, c.if-size-count.false) in
+    let s = spans-listed p held.valid l fits in
+    rw (sym c.in-Some.ensures) (rw c.count_spans-count.ensures (sym s.0), c.loop-i.invariant.1 ∙ ap (filled p l) all ∙ filled_all p held.valid l fits)

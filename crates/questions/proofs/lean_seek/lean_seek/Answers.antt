@@ -1,1 +1,0 @@
--- `questions::lean_seek::lean_seek` meets its contract: each goal has its search.
