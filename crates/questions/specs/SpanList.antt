@@ -1,7 +1,6 @@
 -- The list of the spans as it is filled: one after the other, each the first that ends above the one before.
-use Rattle.std.specs.Prelude.{ℕ, zero, suc, ◌+◌, ◌≡◌, true, cond, ◌&&◌, List, leb, length, set}
-use Rattle.cqf.specs.Plan.{Plan, valid_plan}
-use Rattle.span_lists.specs.Span.{Span, spans}
+use Rattle.std.specs.Prelude.{ℕ, zero, suc, ◌+◌, List, set}
+use Rattle.cqf.specs.Plan.{Plan}
 use Rattle.questions.specs.Spans.{record_of, no_span_of, next_span}
 use Rattle.questions.specs.declared.one_span.SpanRecord.{SpanRecord}
 

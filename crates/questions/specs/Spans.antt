@@ -1,7 +1,6 @@
 -- What the questions for spans answer and leave in the lent list, for any held plan, any duration and any list. Tables that are not
 -- valid count as no plan held (refusal 20).
-use Rattle.std.specs.Prelude.{ℕ, suc, List, [], ◌∷◌, ◌++◌, map, cond, ◌&&◌, leb, length, drop}
-use Rattle.cqf.specs.Bounded.{within}
+use Rattle.std.specs.Prelude.{ℕ, List, [], ◌∷◌, ◌++◌, map, cond, ◌&&◌, leb, length, drop}
 use Rattle.cqf.specs.Plan.{Plan, valid_plan}
 use Rattle.span_lists.specs.Span.{Span, spans, ending_from}
 use Rattle.answers.specs.Answer.{Answer, result, refusal}

@@ -1,12 +1,12 @@
 -- What the spans of tables answer, case by case, and what a list filled with them is left with.
-use Rattle.std.specs.Prelude.{◌≡◌, ◌&&◌, List, [], ◌∷◌, ◌++◌, map, ℕ, ◌≤◌, ◌<◌, length, take, drop}
+use Rattle.std.specs.Prelude.{◌≡◌, List, [], ◌∷◌, ◌++◌, map, ℕ, ◌≤◌, ◌<◌, length, drop}
 use Rattle.std.proofs.Common.{ap, ◌∙◌, le_refl}
 use Rattle.std.proofs.Math.Bool.{true, false}
 use Rattle.std.proofs.Math.Seq.{take-length}
 use borrow.Author.Tests.{le-leb, lt-leb}
 use Rattle.cqf.specs.Plan.{Plan, valid_plan}
 use Rattle.span_lists.specs.Span.{spans}
-use Rattle.answers.specs.Answer.{Answer, result, refusal}
+use Rattle.answers.specs.Answer.{result, refusal}
 use Rattle.answers.specs.Refusals.{short_buffer, no_plan_held}
 use Rattle.questions.specs.Spans.{record_of, spans_answer, spans_leaves}
 use Rattle.questions.specs.SpanList.{filled}

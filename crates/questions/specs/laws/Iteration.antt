@@ -1,11 +1,8 @@
 -- The steps of the fixed-point iteration: what the loop keeps, and what it gives where it ends.
-use Rattle.std.specs.Prelude.{◌≡◌, refl, true, List, ℕ, ◌+◌, ◌≤◌, ◌<◌, length}
+use Rattle.std.specs.Prelude.{◌≡◌, refl, true, ℕ, ◌+◌, ◌≤◌, ◌<◌}
 use Rattle.std.proofs.Common.{sym, ap, ◌∙◌, arith, lt-ltb, le-ltb}
 use Rattle.std.proofs.lemmas.Bool.{lt-leb}
-use Rattle.cqf.specs.Bounded.{tabulate}
-use Rattle.cqf.specs.Limits.{port_slots}
 use Rattle.cqf.specs.Plan.{Plan}
-use Rattle.cqf.specs.Condition.{demand}
 use Rattle.cqf.specs.Need.{largest_need}
 use Rattle.cqf.specs.FixedPoint.{settles, found, none, unfinished, iterate}
 use Rattle.cqf.proofs.laws.FixedPoint.{then_settled, then_over, then_rises}

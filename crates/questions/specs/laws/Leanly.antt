@@ -3,7 +3,7 @@ use Rattle.std.specs.Prelude.{◌≡◌, refl, true, false, List, [], ◌∷◌,
 use Rattle.std.proofs.Common.{◌∙◌, arith, le-leb}
 use Rattle.std.proofs.lemmas.Bool.{lt-leb}
 use Rattle.cqf.specs.Plan.{Plan, valid_plan}
-use Rattle.cqf.specs.Condition.{demand, crossed, failing, lowest_failing, least, margin_safe}
+use Rattle.cqf.specs.Condition.{demand, failing, lowest_failing, least, margin_safe}
 use Rattle.cqf.specs.PortSteps.{highest_crossed}
 use Rattle.answers.specs.Answer.{Answer, result, refusal}
 use Rattle.answers.specs.Refusals.{short_scratch, no_plan_held, no_least, no_margin_safe}

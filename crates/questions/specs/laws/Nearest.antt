@@ -1,7 +1,7 @@
 -- The nearest durations: the search down past durations that some port needs more than, and the answers case by case.
 use Rattle.std.specs.Prelude.{◌≡◌, Bool, cond, [], ◌∷◌}
 use Rattle.std.proofs.Math.Path.{refl, ap}
-use Rattle.std.proofs.Common.{sym, ap₂, subst, ◌∙◌, le_trans}
+use Rattle.std.proofs.Common.{sym, ap₂, ◌∙◌, le_trans}
 use Rattle.std.proofs.Math.Bool.{true, false}
 use Rattle.std.proofs.lemmas.Bool.{false≢true}
 use Rattle.std.proofs.Math.Option.{Option, none, some}
@@ -16,10 +16,10 @@ use Rattle.cqf.specs.Need.{largest_need, least_from}
 use Rattle.cqf.proofs.laws.Need.{admissible-none}
 use Rattle.cqf.proofs.laws.Search.{largest-none}
 use Rattle.span_lists.specs.laws.Pieces.{need_within, need_in, need_above, need_below, upward_start, upward_next}
-use Rattle.answers.specs.Answer.{Answer, result, refusal}
+use Rattle.answers.specs.Answer.{result, refusal}
 use Rattle.answers.specs.Refusals.{bad_duration, no_plan_held}
 use Rattle.questions.specs.Outcome.{asked}
-use Rattle.questions.specs.Nearest.{Nearest, largest_up_to, most_up_to, duration_in, nearest, nearest_answer}
+use Rattle.questions.specs.Nearest.{largest_up_to, most_up_to, duration_in, nearest, nearest_answer}
 
 -- the largest up to n: it passes unless it is 0, and none above it does
 module _ (good : ℕ → Bool) where

@@ -1,5 +1,5 @@
 -- The test of the ports at a duration, and what it gives.
-use Rattle.std.specs.Prelude.{◌≡◌, refl, Bool, true, false, List, ℕ, ◌≤◌, ◌<◌}
+use Rattle.std.specs.Prelude.{◌≡◌, refl, Bool, true, false, List, ℕ, ◌<◌}
 use Rattle.std.proofs.Common.{sym, ap₂, ◌∙◌, true≢false, le-leb}
 use Rattle.cqf.specs.Bounded.{any_to}
 use Rattle.cqf.specs.Limits.{port_slots}

@@ -1,6 +1,6 @@
 -- What the code of another frame length rests on: the demand with it, its bounds, and the list as it is written port by port.
 use Rattle.std.specs.Prelude.{◌≡◌, refl, true, List, [], ◌∷◌, ℤ, length, get_or, set}
-use Rattle.std.proofs.Math.Path.{sym, ap, fun_ext}
+use Rattle.std.proofs.Math.Path.{sym, ap}
 use Rattle.std.proofs.Common.{ap₂, ◌∙◌, add-one, arith, ne_eqb}
 use Rattle.std.proofs.Math.Bool.{or-false}
 use Prim.Native.Nat.{ℕ, zero, suc, ◌+◌, ◌-◌, ◌*◌, ◌≤◌, ◌<◌}
@@ -12,7 +12,7 @@ use Rattle.cqf.specs.Plan.{Plan, rate_of, blocking_of, extra_of, period_of, coun
 use Rattle.cqf.specs.Port.{bits_of, workload_of, wire_bits, window, capacity, workload}
 use Rattle.cqf.specs.Widened.{widened_by, widened}
 use Rattle.cqf.specs.Condition.{frames_by, frames, demand, slack}
-use Rattle.cqf.specs.Reprice.{with_length, replaced, repriced}
+use Rattle.cqf.specs.Reprice.{with_length, replaced}
 use Rattle.cqf.proofs.laws.Bounded.{sum_to_term}
 use Rattle.cqf.proofs.laws.Route.{sublist_more, elem_more}
 use Rattle.cqf.proofs.laws.Demand.{share, demand_sum}

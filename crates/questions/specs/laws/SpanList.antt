@@ -4,7 +4,7 @@ use Rattle.std.proofs.Math.Path.{refl, sym, ap}
 use Rattle.std.proofs.Common.{subst, ◌∙◌, add-one, length-set, drop_of_length-le, take-suc, drop-cons, drop-drop}
 use Rattle.std.proofs.Math.Bool.{true, false}
 use mathlib.Core.List.{List, [], ◌∷◌, ◌++◌, map, Memᴰ, append_assoc, map-append}
-use Prim.Native.Nat.{ℕ, zero, suc, ◌+◌, ◌-◌, ◌≤◌, ◌<◌}
+use Prim.Native.Nat.{ℕ, zero, suc, ◌+◌, ◌≤◌, ◌<◌}
 use Rattle.std.proofs.Math.Nat.{le_refl}
 use Rattle.std.proofs.Math.Decide.{dec_lt}
 use native.Mathlib.Omega.{arith}
@@ -14,7 +14,7 @@ use Rattle.cqf.specs.Plan.{Plan}
 use Rattle.span_lists.specs.Span.{Span, begins, span_from, and_where, spans_in, spans, ending_from}
 use Rattle.span_lists.specs.results.Theorem.{spans_are, spans_sound}
 use Rattle.span_lists.specs.laws.Ending.{ending_all, ending_next, ending_from_lem}
-use Rattle.questions.specs.Spans.{record_of, span_of, no_span_of, first_or, next_span}
+use Rattle.questions.specs.Spans.{record_of, no_span_of, first_or, next_span}
 use Rattle.questions.specs.SpanList.{after, nth, filled}
 use Rattle.questions.specs.declared.one_span.SpanRecord.{SpanRecord}
 

@@ -1,5 +1,5 @@
 -- One span: how it is put together, and the answers case by case.
-use Rattle.std.specs.Prelude.{◌≡◌, ◌↔◌, true, false, cond, ℕ, suc, ◌≤◌, ◌<◌}
+use Rattle.std.specs.Prelude.{◌≡◌, ◌↔◌, true, false, ℕ, suc, ◌≤◌, ◌<◌}
 use Rattle.std.proofs.Math.Path.{refl}
 use Rattle.std.proofs.Common.{sym, ap, subst, ◌∙◌, le_refl, le_trans, arith}
 use Rattle.std.proofs.lemmas.Bool.{false≢true}
@@ -14,11 +14,11 @@ use Rattle.span_lists.specs.results.Theorem.{spans_are}
 use Rattle.cqf.proofs.laws.LeastFrom.{least_from_admissible, least_from_above}
 use Rattle.span_lists.specs.laws.Runs.{last_run, last_high, last_above, last_from_lem}
 use Rattle.span_lists.specs.laws.Ending.{ending_from_lem}
-use Rattle.answers.specs.Answer.{Answer, result, refusal}
+use Rattle.answers.specs.Answer.{result, refusal}
 use Rattle.answers.specs.Refusals.{bad_duration, no_plan_held, no_span_from}
 use Rattle.questions.specs.Outcome.{asked}
 use Rattle.questions.specs.Run.{RunDown, FirstOf}
-use Rattle.questions.specs.Spans.{span_of, no_span_of, first_answer, first_or, next_span, span_answer}
+use Rattle.questions.specs.Spans.{no_span_of, first_answer, first_or, next_span, span_answer}
 
 -- the first of a run: the least admissible duration itself where it is above T, and otherwise one above the refused one below it
 pub first_start : (p : Plan) (T start : ℕ) → 1 ≤ T → T < start → FirstOf p T start start

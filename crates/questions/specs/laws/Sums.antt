@@ -11,7 +11,7 @@ use Rattle.cqf.specs.Overflow.{most_widened, most_bits, most_demand}
 use Rattle.cqf.specs.Plan.{Plan, extra_of, period_of, count_of, length_of, jitter_of, hops_of, route_of, crosses, port_in, valid_plan}
 use Rattle.cqf.specs.Port.{bits_of, wire_bits}
 use Rattle.cqf.specs.Widened.{widened}
-use Rattle.cqf.specs.Condition.{frames_by, begun, frames, demand}
+use Rattle.cqf.specs.Condition.{frames_by, frames, demand}
 use Rattle.cqf.proofs.laws.Bounds.{sum_to_most}
 use Rattle.cqf.proofs.laws.Valid.{Empty, Held, slot_cases}
 use Rattle.cqf.proofs.laws.Lists.{elem_at, sublist_length, sublist-at}

@@ -1,6 +1,6 @@
 -- A walk of one port: the loop's invariant, and what holds where it goes on and where it stops.
 use Rattle.std.specs.Prelude.{◌≡◌, refl, Bool, true, false, cond, ℕ, suc, max, ◌-◌, ◌≤◌, ◌<◌, leb, ltb}
-use Rattle.std.proofs.Common.{sym, subst, ◌∙◌, arith, leb-true, leb-false, ltb-true, ltb-false}
+use Rattle.std.proofs.Common.{sym, subst, arith, leb-true, leb-false, ltb-true, ltb-false}
 use Rattle.std.proofs.lemmas.Bool.{false≢true}
 use mathlib.Mathlib.Data.Bool.Basic.{eq-false_of_not-eq-true}
 use Rattle.cqf.specs.Plan.{Plan}

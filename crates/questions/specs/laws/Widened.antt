@@ -1,19 +1,13 @@
 -- The length over which frames are counted where clocks differ is at most the longest.
-use Rattle.std.specs.Prelude.{◌≡◌, refl, true, [], ℕ, ◌*◌, ◌≤◌, ◌<◌}
-use Rattle.std.proofs.Math.Path.{sym, ap, fun_ext}
-use Rattle.std.proofs.Common.{◌∙◌, arith}
-use Rattle.std.proofs.Math.Bool.{cond}
-use Rattle.cqf.specs.Bounded.{sum_to}
-use Rattle.cqf.specs.Limits.{port_slots, flow_slots}
+use Rattle.std.specs.Prelude.{◌≡◌, true, ℕ, ◌≤◌, ◌<◌}
+use Rattle.std.proofs.Common.{arith}
+use Rattle.cqf.specs.Limits.{port_slots}
 use Rattle.cqf.specs.Overflow.{most_widened, most_demand}
-use Rattle.cqf.specs.Plan.{Plan, equal_clocks, period_of, count_of, jitter_of, crosses, valid_plan}
-use Rattle.cqf.specs.Port.{wire_bits}
+use Rattle.cqf.specs.Plan.{Plan, valid_plan}
 use Rattle.cqf.specs.Widened.{widened_by, widened}
-use Rattle.cqf.specs.Condition.{frames_by, frames, demand}
-use Rattle.cqf.proofs.laws.Begun.{widened-aligned, widened_most}
-use Rattle.cqf.proofs.laws.Demand.{frames_by_lem, demand_sum}
+use Rattle.cqf.specs.Condition.{demand}
+use Rattle.cqf.proofs.laws.Begun.{widened_most}
 use Rattle.cqf.proofs.laws.Ranges.{top_most, drift_most, timing_most, extra_most}
-use Rattle.tables.specs.Columns.{columns}
 use Rattle.questions.specs.laws.Sums.{slot_in_range, demand_most}
 
 pub widened_fits : (p : Plan) → valid_plan p ≡ true → (T : ℕ) → T ≤ p.top → widened_by p.clock T ≤ most_widened

@@ -1,5 +1,4 @@
 use native.Mathlib.Omega.{arith}
-use Rattle.tables.specs.Lent.{plan_lent}
 use Rattle.questions.specs.laws.LeanSearch.{reached_start, reached_first, reached_least, reached_further, reached_next, reached_above}
 use Rattle.questions.specs.laws.Neediest.{neediest_fails}
 use Rattle.questions.specs.laws.PortTest.{none_fails, one_needs_more}

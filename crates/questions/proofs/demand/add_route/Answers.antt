@@ -1,7 +1,7 @@
 use mathlib.Core.Path.{◌≡◌, ap, ap₂}
-use Prim.Native.Nat.{ℕ, ◌+◌, ◌-◌, ◌*◌, ◌^◌, ◌≤◌, ◌<◌}
+use Prim.Native.Nat.{ℕ, ◌+◌, ◌-◌, ◌*◌, ◌<◌}
 use native.Mathlib.Omega.{arith}
-use lib.ListN.{length, get_or}
+use lib.ListN.{get_or}
 use Rattle.cqf.specs.Bounded.{sublist}
 use Rattle.cqf.specs.Limits.{port_slots}
 use Rattle.tables.specs.laws.Marks.{mark_none, mark_next, unmarked}

@@ -1,7 +1,7 @@
-use mathlib.Core.Path.{◌≡◌, ◌∙◌}
-use Prim.Native.Nat.{ℕ, ◌+◌, ◌*◌, ◌≤◌, ◌<◌}
+use mathlib.Core.Path.{◌≡◌}
+use Prim.Native.Nat.{◌*◌, ◌≤◌}
 use native.Mathlib.Omega.{arith}
-use lib.ListN.{length, get_or}
+use lib.ListN.{length}
 use Rattle.cqf.specs.Limits.{port_slots, flow_slots}
 use Rattle.cqf.specs.Overflow.{most_bits}
 use Rattle.cqf.specs.Plan.{length_of, extra_of}

@@ -1,7 +1,5 @@
 use mathlib.Core.Path.{◌≡◌, sym, ◌∙◌}
-use Prim.Native.Nat.{◌≤◌}
 use native.Mathlib.Omega.{arith}
-use lib.ListN.{length}
 use Rattle.std.proofs.Common.{max, add-one}
 use Rattle.cqf.specs.Need.{largest_need}
 use Rattle.tables.specs.Lent.{plan_lent}

@@ -1,5 +1,5 @@
 use mathlib.Core.Path.{sym, ◌∙◌}
-use Prim.Native.Nat.{◌-◌, ◌≤◌}
+use Prim.Native.Nat.{◌-◌}
 use native.Mathlib.Omega.{arith}
 use Rattle.cqf.proofs.laws.HighestCrossed.{highest_is, highest_none}
 use Rattle.tables.specs.Lent.{plan_lent}

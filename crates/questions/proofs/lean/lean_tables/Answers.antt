@@ -1,6 +1,6 @@
 -- `questions::lean::lean_tables` meets its contract: the refusals before a search, and the first number of the scratch.
 use mathlib.Core.Path.{◌≡◌, sym, ap, ap₂, ◌∙◌}
-use Prim.Native.Nat.{ℕ, suc, ◌-◌, ◌≤◌}
+use Prim.Native.Nat.{suc, ◌-◌, ◌≤◌}
 use native.Mathlib.Nat.{le_trans, le_of_eq, le_refl}
 use native.Mathlib.Omega.{arith}
 use lib.ListN.{length}

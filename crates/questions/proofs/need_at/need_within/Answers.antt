@@ -1,13 +1,10 @@
 -- `questions::need_at::need_within` meets its contract: at a duration out of the range nothing is worked out.
-use mathlib.Core.Path.{◌≡◌, sym, ap, ◌∙◌}
-use mathlib.Core.Bool.{Bool, true, cond}
-use Prim.Native.Nat.{ℕ, ◌≤◌}
-use Rattle.cqf.specs.Bounded.{within}
-use Rattle.cqf.specs.Plan.{Plan}
+use mathlib.Core.Path.{sym, ap, ◌∙◌}
+use mathlib.Core.Bool.{Bool, cond}
 use Rattle.cqf.specs.Need.{largest_need}
 use Rattle.plan_reading.specs.laws.fields.Within.{within_high}
 use Rattle.tables.specs.Lent.{plan_lent}
-use Rattle.questions.specs.laws.Scratch.{filled_by, filled_length, filled_most, filled-served, filled-largest}
+use Rattle.questions.specs.laws.Scratch.{filled_by, filled_most, filled-served, filled-largest}
 use Rattle.questions.proofs.need_at.need_within.Goals as goal
 
 pub neediest-requires-clause-by_index : goal.neediest-requires-clause-by_index

@@ -6,7 +6,7 @@ use native.Mathlib.Omega.{arith}
 use Rattle.cqf.specs.Condition.{admissible}
 use Rattle.cqf.specs.Need.{least_from}
 use Rattle.cqf.proofs.laws.LeastFrom.{least_from_admissible}
-use Rattle.span_lists.specs.Span.{Span, last_from}
+use Rattle.span_lists.specs.Span.{last_from}
 use Rattle.tables.specs.Lent.{plan_lent}
 use Rattle.questions.specs.Run.{FirstOf}
 use Rattle.questions.specs.laws.Spans.{next-none, next_above, next-found}

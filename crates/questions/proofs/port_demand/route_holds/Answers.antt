@@ -1,16 +1,12 @@
 use mathlib.Core.Path.{◌≡◌, sym, ap, ◌∙◌}
-use mathlib.Core.Bool.{false}
-use Prim.Native.Nat.{ℕ, suc, ◌+◌, ◌*◌, ◌≤◌}
+use Prim.Native.Nat.{ℕ, suc, ◌+◌, ◌*◌}
 use native.Mathlib.Omega.{arith}
 use borrow.Author.Rules.{rules}
 use lib.ListN.{get_or}
 use lib.Dec.{eqb}
 use Rattle.std.proofs.Common.{add-one}
 use Rattle.cqf.specs.Bounded.{elem, sublist}
-use Rattle.cqf.specs.Limits.{max_hops}
-use Rattle.cqf.specs.Plan.{hops_of}
 use Rattle.cqf.proofs.laws.Route.{sublist_more, elem_more}
-use Rattle.tables.specs.Lent.{plan_lent}
 use Rattle.questions.specs.laws.Sums.{slot_in_range, elem_next, elem_here}
 use Rattle.questions.proofs.port_demand.route_holds.Goals as goal
 use Rattle.questions.proofs.port_demand.route_holds.Goals.{then-port-routes-via-then-port-routes, then-port-routes-via-else-port-routes+then-port-routes-2}

@@ -1,11 +1,9 @@
 use mathlib.Core.Path.{◌≡◌, sym, subst, ◌∙◌}
-use mathlib.Core.Bool.{true}
-use native.Mathlib.Omega.{arith}
 use Rattle.cqf.specs.Need.{need}
 use Rattle.cqf.proofs.laws.Ranges.{extra_most}
 use Rattle.tables.specs.Lent.{plan_lent}
 use Rattle.questions.specs.laws.FlowSets.{crossing_countable, crossing_need, crossing_served}
-use Rattle.questions.specs.laws.Walk.{Walking, Inside, walk_start, walk_short, walk_past, walk_stop, walk_next, walk_less}
+use Rattle.questions.specs.laws.Walk.{Walking, walk_start, walk_short, walk_past, walk_stop, walk_next, walk_less}
 use Rattle.questions.specs.laws.Widened.{widened_fits}
 use Rattle.questions.proofs.port_search.walk.Goals as goal
 

@@ -1,5 +1,4 @@
 -- `questions::reprice::changed_demand` meets its contract: the flow's bits are taken off, and those of the other length added.
-use mathlib.Core.Path.{sym}
 use native.Mathlib.Omega.{arith}
 use Rattle.cqf.proofs.laws.Ranges.{extra_most}
 use Rattle.tables.specs.Lent.{plan_lent}

@@ -1,5 +1,4 @@
 use mathlib.Core.Path.{◌≡◌, refl, sym, ◌∙◌}
-use mathlib.Core.Bool.{true}
 use Prim.Native.Nat.{suc, ◌+◌, ◌-◌, ◌*◌, ◌<◌}
 use native.Mathlib.Nat.{le_trans, le_of_eq}
 use native.Mathlib.Omega.{arith}
@@ -9,7 +8,6 @@ use mir.Val.{to_z, of_z}
 use mir.ValLaws.{to_z-of_z}
 use Rattle.cqf.specs.Bounded.{elem, sublist}
 use Rattle.cqf.specs.Limits.{port_slots}
-use Rattle.cqf.specs.Plan.{hops_of, crosses}
 use Rattle.cqf.specs.Condition.{slack}
 use Rattle.cqf.specs.Reprice.{with_length, repriced}
 use Rattle.cqf.proofs.laws.Ranges.{extra_most, top_most}

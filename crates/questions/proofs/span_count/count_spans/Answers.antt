@@ -1,13 +1,10 @@
-use mathlib.Core.Path.{◌≡◌, sym, ap, ◌∙◌}
-use Prim.Native.Nat.{suc, ◌≤◌}
+use mathlib.Core.Path.{sym, ap, ◌∙◌}
 use native.Mathlib.Omega.{arith}
-use lib.ListN.{length}
 use Rattle.std.proofs.Common.{add-one}
 use Rattle.cqf.proofs.laws.Ranges.{top_most}
-use Rattle.span_lists.specs.Span.{spans}
 use Rattle.tables.specs.Lent.{plan_lent}
 use Rattle.questions.specs.Spans.{record_of}
-use Rattle.questions.specs.SpanList.{nth, after}
+use Rattle.questions.specs.SpanList.{nth}
 use Rattle.questions.specs.declared.one_span.SpanRecord.{SpanRecord}
 use Rattle.questions.specs.laws.SpanList.{nth-after, count_ends, count_goes_on, spans_most}
 use Rattle.questions.proofs.span_count.count_spans.Goals as goal

@@ -1,15 +1,13 @@
 use mathlib.Core.Path.{◌≡◌, refl, sym, ap, ◌∙◌}
-use mathlib.Core.List.{List}
-use Prim.Native.Nat.{ℕ, suc, ◌+◌, ◌≤◌, ◌<◌}
+use Prim.Native.Nat.{◌+◌, ◌≤◌, ◌<◌}
 use native.Mathlib.Omega.{arith}
-use lib.ListN.{length, set}
+use lib.ListN.{length}
 use Rattle.std.proofs.Common.{add-one}
-use Rattle.cqf.proofs.laws.Ranges.{top_most}
 use Rattle.span_lists.specs.Span.{spans}
 use Rattle.tables.specs.Lent.{plan_lent}
 use Rattle.questions.specs.Spans.{record_of}
 use Rattle.questions.specs.SpanList.{nth, filled}
-use Rattle.questions.specs.laws.SpanList.{nth-after, filled-next, filled_length, spans_most}
+use Rattle.questions.specs.laws.SpanList.{nth-after, filled-next}
 use Rattle.questions.specs.laws.Counted.{spans-none, spans_keeps, spans-listed, spans_short, filled_all}
 use Rattle.questions.proofs.span_list.spans.Goals as goal
 
