@@ -25,16 +25,6 @@ pub(crate) fn flow_frames(period: u32, count: u16, jitter: u32, widened: u32) ->
     (count as u64) * (begun as u64)
 }
 
-// A difference, 0 where the second is larger.
-pub(crate) fn less(a: u64, b: u64) -> u64
-    ensures { result ≡ a - b }
-{
-    if a < b {
-        return 0;
-    }
-    a - b
-}
-
 // The instant of frame k of a burst in a cycle: count frames in each period, from a jitter before the cycle's start on.
 pub(crate) fn instant_of(
     cycle: u64,
@@ -52,5 +42,5 @@ pub(crate) fn instant_of(
     ensures { result ≡ cycle * duration + (k / count * period - jitter) }
 {
     let nominal = k / (count as u64) * (period as u64);
-    cycle * duration + less(nominal, jitter as u64)
+    cycle * duration + nominal.saturating_sub(jitter as u64)
 }

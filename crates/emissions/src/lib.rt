@@ -1,4 +1,4 @@
-// The bad emission of a port that fails: what each flow sends in it, over the tables lent column by column.
+// The bad emission of a port that fails: what each flow sends in it, over lent tables.
 #![tactic(auto)]
 
 mod burst;
@@ -9,5 +9,5 @@ mod over;
 mod queued;
 mod unsent;
 
-pub use burst::{BurstAnswer, Instant, burst_tables};
-pub use unsent::{UnsentAnswer, unsent_tables};
+pub use burst::{Burst, BurstRefusal, burst_tables};
+pub use unsent::{Unsent, UnsentRefusal, unsent_tables};

@@ -1,21 +1,17 @@
 // Which port leaves a frame unsent in a cycle of the bad emission.
-ghost use Rattle.std.specs.Prelude.{◌≡◌, true, ℕ, ◌-◌, ◌/◌, ◌≤◌, ◌<◌, get_or};
+ghost use Rattle.std.specs.Prelude.{◌≡◌, ℕ, ◌-◌, ◌/◌, ◌≤◌, ◌<◌, get_or};
 ghost use Rattle.cqf.specs.Bounded.{lowest};
 ghost use Rattle.cqf.specs.Limits.{port_slots, max_top};
 ghost use Rattle.cqf.specs.Overflow.{most_demand};
-ghost use Rattle.cqf.specs.Plan.{valid_plan};
 ghost use Rattle.cqf.specs.Port.{ns_per_bit, capacity_of, workload_of, blocking_bits_of, fails_by_of};
-ghost use Rattle.numbers.specs.Clock.{clock_of};
-ghost use Rattle.tables.specs.Columns.{plan_by};
+ghost use Rattle.tables.specs.Lent.{plan_lent};
 ghost use Rattle.questions.specs.Failing.{fails_in};
 ghost use Rattle.emissions.specs.BadEmission.{latest_hop, burst_bits, unsent_at};
 
-use super::frames::less;
-use super::queued::cycle_bits;
-use numbers::clock::Clock;
+use crate::queued::cycle_bits;
 use numbers::frame::blocking_bits;
 use numbers::port::window;
-use tables::{PORTS, columns};
+use tables::{Held, Lent, PORTS};
 
 // One Mbit/s carries one bit in 1,000 ns.
 const NS_PER_BIT: u64 = 1_000;
@@ -33,10 +29,7 @@ fn port_overruns(rate: u32, blocking: u16, extra: u8, window: u64, bits: u64) ->
     requires { (window ≤ max_top) × (bits ≤ most_demand) }
     ensures { result ≡ fails_by_of rate blocking extra window bits }
 {
-    if bits == 0 {
-        return false;
-    }
-    (rate as u64) * window < workload(blocking, extra, bits)
+    bits != 0 && u64::from(rate) * window < workload(blocking, extra, bits)
 }
 
 // The bits that a port can send in a window behind the longest frame of another class.
@@ -44,32 +37,28 @@ pub(crate) fn sendable(rate: u32, blocking: u16, extra: u8, window: u64) -> u64
     requires { window ≤ max_top }
     ensures { result ≡ capacity_of rate window / ns_per_bit - blocking_bits_of blocking extra }
 {
-    less(
-        (rate as u64) * window / NS_PER_BIT,
-        blocking_bits(blocking, extra),
-    )
+    let bits = u64::from(rate) * window / NS_PER_BIT;
+    bits.saturating_sub(blocking_bits(blocking, extra))
 }
 
 // The slot of the lowest port that leaves a frame unsent, 64 where none does.
-fn lowest_over<'a>(
-    rates: &'a columns::Rates,
-    blockings: &'a columns::Blockings,
-    extras: &'a columns::Extras,
-    window: u64,
-    bits: &'a [u64; PORTS],
-) -> usize
+fn lowest_over(lent: Lent, window: u64, bits: &[u64; PORTS]) -> usize
     requires { (window ≤ max_top) × ((r : ℕ) → r < port_slots → get_or bits.now r 0 ≤ most_demand) }
     ensures { result ≡ lowest port_slots
-        (fails_in rates.now blockings.now extras.now window bits.now) }
+        (fails_in lent.entry.rates.now lent.entry.blockings.now lent.entry.extras.now window bits.now) }
 {
-    let mut r: usize = 0;
-    while r < PORTS {
-        if port_overruns(rates[r], blockings[r], extras[r], window, bits[r]) {
+    for r in 0..PORTS {
+        if port_overruns(
+            lent.rates[r],
+            lent.blockings[r],
+            lent.extras[r],
+            window,
+            bits[r],
+        ) {
             return r;
         }
-        r += 1;
     }
-    r
+    PORTS
 }
 
 // The slot of the lowest port that leaves a frame unsent in a cycle, 64 where none does, and the bits that it must send.
@@ -79,56 +68,23 @@ pub(crate) struct Overrun {
     pub bits: u64,
 }
 
-pub(crate) fn overrun_in<'a>(
-    guard: u32,
-    top: u32,
-    clock: Clock,
-    rates: &'a columns::Rates,
-    blockings: &'a columns::Blockings,
-    extras: &'a columns::Extras,
-    periods: &'a columns::Periods,
-    counts: &'a columns::Counts,
-    lengths: &'a columns::Lengths,
-    jitters: &'a columns::Jitters,
-    hops: &'a columns::Hops,
-    routes: &'a columns::Routes,
-    duration: u64,
-    q: usize,
-    latest: u64,
-    c: u64,
-) -> Overrun
-    requires { (valid_plan
-        (plan_by guard top (clock_of clock) rates.now blockings.now extras.now periods.now counts.now
-        lengths.now jitters.now hops.now routes.now)
-        ≡ true) × (duration ≤ top) × (q < port_slots) × (latest ≡ latest_hop
-        (plan_by guard top (clock_of clock) rates.now blockings.now extras.now periods.now counts.now
-        lengths.now jitters.now hops.now routes.now)
-        q) }
-    ensures { (result.slot ≡ lowest port_slots (unsent_at
-        (plan_by guard top (clock_of clock) rates.now blockings.now extras.now
-        periods.now counts.now lengths.now jitters.now
-        hops.now routes.now)
-        duration q c)) × (result.slot < port_slots → result.bits ≡ burst_bits
-        (plan_by guard top (clock_of clock) rates.now blockings.now extras.now
-        periods.now counts.now lengths.now jitters.now
-        hops.now routes.now)
-        duration q c result.slot) }
+pub(crate) fn overrun_in(held: Held, duration: u64, q: usize, latest: u64, c: u64) -> Overrun
+    requires { (duration ≤ held.lent.top)
+        × (q < port_slots)
+        × (latest ≡ latest_hop (plan_lent held.lent) q) }
+    ensures { (result.slot ≡ lowest port_slots (unsent_at (plan_lent held.entry.lent) duration q c))
+        × (result.slot < port_slots → result.bits ≡ burst_bits (plan_lent held.entry.lent) duration q c result.slot) }
 {
     let mut bits = [0u64; PORTS];
-    cycle_bits(
-        guard, top, clock, rates, blockings, extras, periods, counts, lengths, jitters, hops,
-        routes, duration, q, latest, c, &mut bits,
-    );
-    let available = window(guard, duration);
-    let slot = lowest_over(rates, blockings, extras, available, &bits);
+    cycle_bits(held, duration, q, latest, c, &mut bits);
+    let lent = held.lent;
+    let available = window(lent.guard, duration);
+    let slot = lowest_over(lent, available, &bits);
     if slot < PORTS {
         return Overrun {
-            slot: slot,
+            slot,
             bits: bits[slot],
         };
     }
-    Overrun {
-        slot: slot,
-        bits: 0,
-    }
+    Overrun { slot, bits: 0 }
 }

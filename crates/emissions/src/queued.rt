@@ -1,36 +1,31 @@
 // What each port must send in a cycle of the bad emission.
-ghost use Rattle.std.specs.Prelude.{◌≡◌, true, ℕ, ◌+◌, ◌*◌, ◌≤◌, ◌<◌, length, get_or};
+ghost use Rattle.std.specs.Prelude.{◌≡◌, ℕ, ◌+◌, ◌*◌, ◌≤◌, ◌<◌, length, get_or};
 ghost use Rattle.cqf.specs.Bounded.{sublist};
 ghost use Rattle.cqf.specs.Limits.{port_slots, flow_slots, route_stride, min_period, max_period, max_count, max_length, max_jitter, max_extra};
 ghost use Rattle.cqf.specs.Overflow.{most_widened};
 ghost use Rattle.cqf.specs.Port.{bits_of};
 ghost use Rattle.cqf.specs.Condition.{frames_by};
-ghost use Rattle.cqf.specs.Plan.{valid_plan};
-ghost use Rattle.numbers.specs.Clock.{clock_of};
-ghost use Rattle.tables.specs.Columns.{plan_by};
+ghost use Rattle.tables.specs.Lent.{plan_lent};
 ghost use Rattle.emissions.specs.BadEmission.{latest_hop, burst_bits};
 ghost use Rattle.emissions.specs.Queued.{queued_port};
 
-use super::frames::{flow_frames, less};
-use super::hop::hop_on;
-use numbers::clock::{Clock, widened};
+use crate::frames::flow_frames;
+use crate::hop::hop_on;
+use numbers::clock::widened;
 use numbers::frame::wire_bits;
-use tables::{FLOWS, PORTS, STRIDE, columns};
+use tables::{FLOWS, Held, PORTS, STRIDE, columns};
 
 // The port at a place of a route, 0 behind its end.
-fn port_at<'a>(routes: &'a columns::Routes, base: usize, hops: usize, i: usize) -> u8
+fn port_at(routes: &columns::Routes, base: usize, hops: usize, i: usize) -> u8
     requires { base + hops ≤ flow_slots * route_stride }
     ensures { result ≡ get_or (sublist routes.now base hops) i 0 }
 {
-    if i < hops {
-        return routes[base + i];
-    }
-    0
+    if i < hops { routes[base + i] } else { 0 }
 }
 
 // The port at which the burst of a flow is queued in cycle c, 0 for none.
-fn queued_port<'a>(
-    routes: &'a columns::Routes,
+fn queued_port(
+    routes: &columns::Routes,
     base: usize,
     hops: usize,
     q: usize,
@@ -44,7 +39,7 @@ fn queued_port<'a>(
     if hops <= at {
         return 0;
     }
-    let own = less(latest, at as u64);
+    let own = latest.saturating_sub(at as u64);
     if c <= own {
         return 0;
     }
@@ -66,49 +61,36 @@ fn flow_bits(period: u32, count: u16, bytes: u16, jitter: u32, extra: u8, widene
 }
 
 // The bits that each port must send in cycle c of the bad emission of the port in slot q: port n at position n - 1.
-pub(crate) fn cycle_bits<'a>(
-    guard: u32,
-    top: u32,
-    clock: Clock,
-    rates: &'a columns::Rates,
-    blockings: &'a columns::Blockings,
-    extras: &'a columns::Extras,
-    periods: &'a columns::Periods,
-    counts: &'a columns::Counts,
-    lengths: &'a columns::Lengths,
-    jitters: &'a columns::Jitters,
-    hops: &'a columns::Hops,
-    routes: &'a columns::Routes,
+pub(crate) fn cycle_bits(
+    held: Held,
     duration: u64,
     q: usize,
     latest: u64,
     c: u64,
     bits: &mut [u64; PORTS],
 )
-    requires { (valid_plan
-        (plan_by guard top (clock_of clock) rates.now blockings.now extras.now periods.now counts.now
-        lengths.now jitters.now hops.now routes.now)
-        ≡ true) × (duration ≤ top) × (q < port_slots) × (latest ≡ latest_hop
-        (plan_by guard top (clock_of clock) rates.now blockings.now extras.now periods.now counts.now
-        lengths.now jitters.now hops.now routes.now)
-        q) × (length bits.old ≡ port_slots) × ((r : ℕ) → r < port_slots → get_or bits.old r 0 ≡ 0) }
-    ensures { (r : ℕ) → r < port_slots → get_or bits.new r 0 ≡ burst_bits
-        (plan_by guard top (clock_of clock) rates.now blockings.now extras.now
-        periods.now counts.now lengths.now jitters.now
-        hops.now routes.now)
-        duration q c r }
+    requires { (duration ≤ held.lent.top)
+        × (q < port_slots)
+        × (latest ≡ latest_hop (plan_lent held.lent) q)
+        × (length bits.old ≡ port_slots)
+        × ((r : ℕ) → r < port_slots → get_or bits.old r 0 ≡ 0) }
+    ensures { (r : ℕ) → r < port_slots → get_or bits.new r 0 ≡ burst_bits (plan_lent held.entry.lent) duration q c r }
 {
-    let over = widened(clock, duration as u32) as u32;
-    let mut f: usize = 0;
-    while f < FLOWS {
-        let n = queued_port(routes, f * STRIDE, hops[f] as usize, q, latest, c) as usize;
+    let over = widened(held.lent.clock, duration as u32) as u32;
+    for f in 0..FLOWS {
+        let hops = usize::from(held.lent.hops[f]);
+        let n = queued_port(held.lent.routes, f * STRIDE, hops, q, latest, c) as usize;
         if n != 0 {
             let r = n - 1;
             let more = flow_bits(
-                periods[f], counts[f], lengths[f], jitters[f], extras[r], over,
+                held.lent.periods[f],
+                held.lent.counts[f],
+                held.lent.lengths[f],
+                held.lent.jitters[f],
+                held.lent.extras[r],
+                over,
             );
-            bits[r] = bits[r] + more;
+            bits[r] += more;
         }
-        f += 1;
     }
 }

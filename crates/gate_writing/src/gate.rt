@@ -38,18 +38,14 @@ pub(crate) fn put_gate(out: &mut [u8], states: u8, interval: u32)
 pub(crate) fn put_lasting(out: &mut [u8], states: u8, interval: u32)
     ensures { out.new ≡ laid (lasting_of states interval) out.old }
 {
-    if interval == 0 {
-        return;
+    if interval != 0 {
+        put_gate(out, states, interval);
     }
-    put_gate(out, states, interval);
 }
 
 // How many bytes it is.
 pub(crate) fn lasting_size(interval: u64) -> usize
     ensures { result ≡ lasting_size interval }
 {
-    if 0 < interval {
-        return FIELD_SIZE;
-    }
-    0
+    if interval == 0 { 0 } else { FIELD_SIZE }
 }

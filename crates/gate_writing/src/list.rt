@@ -17,7 +17,7 @@ fn cycle_size(guard: u64, window: u64) -> usize
 pub(crate) fn list_size(guard: u32, duration: u64) -> usize
     ensures { result ≡ list_size_by guard duration }
 {
-    2 * cycle_size(guard as u64, window(guard, duration))
+    2 * cycle_size(u64::from(guard), window(guard, duration))
 }
 
 // The guard band with both queues closed, the window with one open, the guard band again.

@@ -12,13 +12,7 @@ const ALL_OPEN: u8 = 255;
 pub(crate) fn queues_ok(even: u64, odd: u64) -> bool
     ensures { result ≡ queues_ok even odd }
 {
-    if LAST_QUEUE < even {
-        return false;
-    }
-    if LAST_QUEUE < odd {
-        return false;
-    }
-    even != odd
+    even <= LAST_QUEUE && odd <= LAST_QUEUE && even != odd
 }
 
 // The bit of a queue.

@@ -144,10 +144,10 @@ module _ (p : Plan) (T q : ℕ) where
       → slot ≡ unsent_slot p T q
       → bits ≡ burst_bits p T q cycle slot
       → most ≡ capacity_of (rate_of p slot) (window_of p.guard T) / ns_per_bit - blocking_bits_of (blocking_of p slot) (extra_of p slot)
-      → result (some (record { failing = q + 1; cycle = cycle; port = slot + 1; bits = bits; most = most })) ≡ result (some (unsent p T q))
+      → record { failing = q + 1; cycle = cycle; port = slot + 1; bits = bits; most = most } ≡ unsent p T q
   unfolding unsent sendable capacity window
   unsent_told cycle slot bits most e d b m =
       let number = ap (λ (n : ℕ). n + 1) d ∙ add-one (unsent_slot p T q) in
       let sent = b ∙ ap₂ (burst_bits p T q) e d in
       let fit = m ∙ ap (λ (r : ℕ). capacity_of (rate_of p r) (window_of p.guard T) / ns_per_bit - blocking_bits_of (blocking_of p r) (extra_of p r)) d in
-      λ i. result (some (record { failing = add-one q i; cycle = e i; port = number i; bits = sent i; most = fit i }))
+      λ i. record { failing = add-one q i; cycle = e i; port = number i; bits = sent i; most = fit i }

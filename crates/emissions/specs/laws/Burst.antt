@@ -23,7 +23,7 @@ use Rattle.cqf.proofs.laws.Demand.{frames_by_lem}
 use Rattle.cqf.proofs.laws.Ranges.{top_most, drift_most, timing_most}
 use Rattle.answers.specs.Answer.{result, refusal}
 use Rattle.answers.specs.Refusals.{bad_duration, no_plan_held, not_crossed, absent_flow}
-use Rattle.emissions.specs.Burst.{routes_only, burst, burst_answer}
+use Rattle.emissions.specs.Burst.{Burst, burst, burst_answer}
 use Rattle.emissions.specs.laws.Hops.{late, latest_of, hop_holds, hop_misses}
 
 pub nominal_most : (k count period : ℕ) → k ≤ max_count * most_begun → period ≤ max_period → k / count * period ≤ max_count * most_begun * max_period
@@ -70,16 +70,13 @@ module _ (p : Plan) (valid : valid_plan p ≡ true) where
       go true = omega (arith, lowest_le (length (route_of p f)) (λ i. lib.Dec.eqb (lib.ListN.get_or (route_of p f) i 0) (suc q)), sublist_length p.routes (f * route_stride) (hops_of p f), hops_within f l)
       go false = zero-le
 
-  pub latest_most : (q : ℕ) → latest_hop (routes_only p.hops p.routes) q ≤ max_hops
-  latest_most q = rw (latest_of (routes_only p.hops p.routes) q) (max_to-least flow_slots (late p q) max_hops (λ f l. late_most q f l))
-
-  pub latest_same : (q : ℕ) → latest_hop (routes_only p.hops p.routes) q ≡ latest_hop p q
-  latest_same q = latest_of (routes_only p.hops p.routes) q ∙ sym (latest_of p q)
+  pub latest_most : (q : ℕ) → latest_hop p q ≤ max_hops
+  latest_most q = rw (latest_of p q) (max_to-least flow_slots (late p q) max_hops (λ f l. late_most q f l))
 
   module _ (T q f : ℕ) where
-    pub cycle_is : {latest at cycle : ℕ} → latest ≡ latest_hop (routes_only p.hops p.routes) q → at ≡ hop_on (route_of p f) q → cycle ≡ latest - at → cycle ≡ burst_cycle p q f
+    pub cycle_is : {latest at cycle : ℕ} → latest ≡ latest_hop p q → at ≡ hop_on (route_of p f) q → cycle ≡ latest - at → cycle ≡ burst_cycle p q f
     unfolding burst_cycle hop
-    cycle_is {latest} {at} {cycle} e d is = is ∙ ap₂ (λ (a b : ℕ). a - b) (e ∙ latest_same q) d
+    cycle_is {latest} {at} {cycle} e d is = is ∙ ap₂ (λ (a b : ℕ). a - b) e d
 
     pub brought_is
         : {over brought : ℕ}
@@ -118,11 +115,12 @@ module _ (p : Plan) (valid : valid_plan p ≡ true) where
         → cycle ≡ burst_cycle p q f
         → many ≡ burst_frames p T q f
         → instant ≡ cond (ltb k many) (some (cycle * T + (k / count_of p f * period_of p f - jitter_of p f))) none
-        → result (record { cycle = cycle; frames = many; instant = instant }) ≡ result (burst p T q f k)
+        → record { cycle = cycle; frames = many; instant = instant } ≡ burst p T q f k
     unfolding burst burst_instant
     burst_is k {cycle} {many} c n i =
-        ap (λ (x : Option ℕ). result (record { cycle = cycle; frames = many; instant = x })) i
-        ∙ ap₂ (λ (a b : ℕ). result (record { cycle = a; frames = b; instant = cond (ltb k b) (some (a * T + (k / count_of p f * period_of p f - jitter_of p f))) none })) c n
+        let told : ℕ → ℕ → Option ℕ → Burst = λ a b x. record { cycle = a; frames = b; instant = x } in
+        ap (told cycle many) i
+        ∙ ap₂ (λ (a b : ℕ). told a b (cond (ltb k b) (some (a * T + (k / count_of p f * period_of p f - jitter_of p f))) none)) c n
 
 -- the answer case by case
 module _ (p : Plan) (T port flow k : ℕ) where

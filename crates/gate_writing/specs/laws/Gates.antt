@@ -87,7 +87,7 @@ module _ (p : Plan) (T even odd : ℕ) (buffer : List ℕ) where
           absurd (omega arith)
 
   module _ (accepts : check_answer p T ≡ result tt) where
-    gates_queues : queues_ok even odd ≡ false → gates_answer p T even odd buffer ≡ refusal bad_queue (0 ∷ [])
+    pub gates_queues : queues_ok even odd ≡ false → gates_answer p T even odd buffer ≡ refusal bad_queue (0 ∷ [])
     gates_queues e = gates_accepted accepts ∙ rw e
 
     pub gates_written : queues_ok even odd ≡ true → length list ≤ length buffer → gates_answer p T even odd buffer ≡ result (length list)

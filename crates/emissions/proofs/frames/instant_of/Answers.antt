@@ -11,6 +11,5 @@ overflow_mul-result c = omega (arith, start_most c.args.cycle c.args.duration c.
 
 pub overflow_add-result : goal.overflow_add-result
 overflow_add-result c =
-    let s = c.before in
-    omega
-    (arith, c.less.ensures, start_most s.args.cycle s.args.duration s.requires.0 s.requires.1, nominal_most s.args.k s.args.count s.args.period s.requires.4 s.requires.3)
+    let a = c.args in
+    omega (arith, c.saturating_sub.ensures, start_most a.cycle a.duration c.requires.0 c.requires.1, nominal_most a.k a.count a.period c.requires.4 c.requires.3)

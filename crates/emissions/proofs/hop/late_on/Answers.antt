@@ -16,8 +16,8 @@ returns-then-at-hops c =
     let long = sublist_length a.routes.now a.base a.hops in
     e ∙ late_holds (sublist a.routes.now a.base a.hops) a.q (omega (arith, e, long, c.if-at-hops.true))
 
-pub returns : goal.returns
-returns c =
+pub returns-else-at-hops : goal.returns-else-at-hops
+returns-else-at-hops c =
     let a = c.args in
     let e = c.hop_on-at.ensures in
     let long = sublist_length a.routes.now a.base a.hops in

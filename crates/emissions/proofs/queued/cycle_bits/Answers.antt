@@ -5,8 +5,7 @@ use Rattle.cqf.specs.Overflow.{most_widened}
 use Rattle.cqf.specs.Plan.{Plan, valid_plan, route_of}
 use Rattle.cqf.proofs.laws.Ranges.{extra_most}
 use Rattle.cqf.proofs.laws.Valid.{Held}
-use Rattle.numbers.specs.Clock.{clock_of}
-use Rattle.tables.specs.Columns.{plan_by}
+use Rattle.tables.specs.Lent.{plan_lent}
 use Rattle.emissions.specs.Queued.{queued_port}
 use Rattle.emissions.specs.laws.Burst.{hops_within, over_fits}
 use Rattle.emissions.specs.laws.Queued.{sums_none, sums_skip, sums_add, sums_all, port_held, port-within, next_most}
@@ -28,76 +27,76 @@ module _ (p : Plan) (valid : valid_plan p ≡ true) (q latest c f : ℕ) (l : f 
 pub overflow_cast-over : goal.overflow_cast-over
 overflow_cast-over c =
     let a = c.args in
-    let p = plan_by a.guard a.top (clock_of a.clock) a.rates.now a.blockings.now a.extras.now a.periods.now a.counts.now a.lengths.now a.jitters.now a.hops.now a.routes.now in
-    omega (arith, c.widened-over.ensures, over_fits p c.requires.0 a.duration c.requires.1)
+    let p = plan_lent a.held.lent in
+    omega (arith, c.widened-over.ensures, over_fits p a.held.valid a.duration c.requires.0)
 
 pub loop-f-init : goal.loop-f-init
 loop-f-init c =
     let a = c.args in
-    let p = plan_by a.guard a.top (clock_of a.clock) a.rates.now a.blockings.now a.extras.now a.periods.now a.counts.now a.lengths.now a.jitters.now a.hops.now a.routes.now in
-    (omega arith, c.requires.4, sums_none p c.widened-over.result a.q a.latest a.c a.bits.now c.requires.5)
+    let p = plan_lent a.held.lent in
+    (c.requires.3, sums_none p c.widened-over.result a.q a.latest a.c a.bits.now c.requires.4)
 
 pub queued_port-n-requires : goal.queued_port-n-requires
 queued_port-n-requires c =
     let a = c.args in
-    let p = plan_by a.guard a.top (clock_of a.clock) a.rates.now a.blockings.now a.extras.now a.periods.now a.counts.now a.lengths.now a.jitters.now a.hops.now a.routes.now in
-    (omega (arith, hops_within p c.requires.0 c.loop-f.f c.loop-f-test.true, c.loop-f-test.true), c.requires.2)
+    let p = plan_lent a.held.lent in
+    (omega (arith, hops_within p a.held.valid c.loop-f.f (omega arith), c.from-hops.ensures), c.requires.1)
 
-pub bounds-extras-r : goal.bounds-extras-r
-bounds-extras-r c =
+pub bounds-held-r : goal.bounds-held-r
+bounds-held-r c =
     let a = c.args in
-    let p = plan_by a.guard a.top (clock_of a.clock) a.rates.now a.blockings.now a.extras.now a.periods.now a.counts.now a.lengths.now a.jitters.now a.hops.now a.routes.now in
-    in_slots p c.requires.0 a.q a.latest a.c c.loop-f.f c.loop-f-test.true c.queued_port-n.result c.queued_port-n.ensures c.if-n-ne0.true
+    let p = plan_lent a.held.lent in
+    in_slots p a.held.valid a.q a.latest a.c c.loop-f.f (omega arith) c.queued_port-n.result (rw c.from-hops.ensures at c.queued_port-n.ensures) c.if-n-ne0.true
 
 pub flow_bits-more-requires : goal.flow_bits-more-requires
 flow_bits-more-requires c =
     let a = c.args in
-    let p = plan_by a.guard a.top (clock_of a.clock) a.rates.now a.blockings.now a.extras.now a.periods.now a.counts.now a.lengths.now a.jitters.now a.hops.now a.routes.now in
-    let h = held p c.requires.0 a.q a.latest a.c c.loop-f.f c.loop-f-test.true c.queued_port-n.result c.queued_port-n.ensures c.if-n-ne0.true in
-    let slot = in_slots p c.requires.0 a.q a.latest a.c c.loop-f.f c.loop-f-test.true c.queued_port-n.result c.queued_port-n.ensures c.if-n-ne0.true in
-    (h.period_least, h.period_most, h.count_most, h.bytes_most, h.jitter_most, extra_most p c.requires.0 _ slot, omega (arith, c.widened-over.ensures, over_fits p c.requires.0 a.duration c.requires.1))
+    let p = plan_lent a.held.lent in
+    let h = held p a.held.valid a.q a.latest a.c c.loop-f.f (omega arith) c.queued_port-n.result (rw c.from-hops.ensures at c.queued_port-n.ensures) c.if-n-ne0.true in
+    let slot = in_slots p a.held.valid a.q a.latest a.c c.loop-f.f (omega arith) c.queued_port-n.result (rw c.from-hops.ensures at c.queued_port-n.ensures) c.if-n-ne0.true in
+    (h.period_least, h.period_most, h.count_most, h.bytes_most, h.jitter_most, extra_most p a.held.valid _ slot, omega (arith, c.widened-over.ensures, over_fits p a.held.valid a.duration c.requires.0))
 
 pub bounds-bits-r : goal.bounds-bits-r
 bounds-bits-r c =
     let a = c.args in
-    let p = plan_by a.guard a.top (clock_of a.clock) a.rates.now a.blockings.now a.extras.now a.periods.now a.counts.now a.lengths.now a.jitters.now a.hops.now a.routes.now in
-    in_slots p c.requires.0 a.q a.latest a.c c.loop-f.f c.loop-f-test.true c.queued_port-n.result c.queued_port-n.ensures c.if-n-ne0.true
+    let p = plan_lent a.held.lent in
+    in_slots p a.held.valid a.q a.latest a.c c.loop-f.f (omega arith) c.queued_port-n.result (rw c.from-hops.ensures at c.queued_port-n.ensures) c.if-n-ne0.true
 
 pub overflow_add-bits : goal.overflow_add-bits
 overflow_add-bits c =
     let a = c.args in
-    let p = plan_by a.guard a.top (clock_of a.clock) a.rates.now a.blockings.now a.extras.now a.periods.now a.counts.now a.lengths.now a.jitters.now a.hops.now a.routes.now in
-    let slot = in_slots p c.requires.0 a.q a.latest a.c c.loop-f.f c.loop-f-test.true c.queued_port-n.result c.queued_port-n.ensures c.if-n-ne0.true in
-    let at = port_is p c.requires.0 a.q a.latest a.c c.loop-f.f c.loop-f-test.true c.queued_port-n.result c.queued_port-n.ensures c.if-n-ne0.true in
-    let most : c.widened-over.result ≤ most_widened = omega (arith, c.widened-over.ensures, over_fits p c.requires.0 a.duration c.requires.1) in
+    let p = plan_lent a.held.lent in
+    let slot = in_slots p a.held.valid a.q a.latest a.c c.loop-f.f (omega arith) c.queued_port-n.result (rw c.from-hops.ensures at c.queued_port-n.ensures) c.if-n-ne0.true in
+    let at = port_is p a.held.valid a.q a.latest a.c c.loop-f.f (omega arith) c.queued_port-n.result (rw c.from-hops.ensures at c.queued_port-n.ensures) c.if-n-ne0.true in
+    let most : c.widened-over.result ≤ most_widened = omega (arith, c.widened-over.ensures, over_fits p a.held.valid a.duration c.requires.0) in
     omega
-    (arith, c.loop-f.invariant.2 (c.queued_port-n.result - 1) slot, c.flow_bits-more.ensures, next_most p c.requires.0 a.q a.latest a.c c.widened-over.result most (c.queued_port-n.result - 1) slot c.loop-f.f c.loop-f-test.true at)
+    (arith, c.loop-f.invariant.1 (c.queued_port-n.result - 1) slot, c.flow_bits-more.ensures, next_most p a.held.valid a.q a.latest a.c c.widened-over.result most (c.queued_port-n.result - 1) slot c.loop-f.f (omega arith) at)
 
 pub bounds-bits-r-then-n-ne0 : goal.bounds-bits-r-then-n-ne0
 bounds-bits-r-then-n-ne0 c =
     let a = c.args in
-    let p = plan_by a.guard a.top (clock_of a.clock) a.rates.now a.blockings.now a.extras.now a.periods.now a.counts.now a.lengths.now a.jitters.now a.hops.now a.routes.now in
-    in_slots p c.requires.0 a.q a.latest a.c c.loop-f.f c.loop-f-test.true c.queued_port-n.result c.queued_port-n.ensures c.if-n-ne0.true
+    let p = plan_lent a.held.lent in
+    in_slots p a.held.valid a.q a.latest a.c c.loop-f.f (omega arith) c.queued_port-n.result (rw c.from-hops.ensures at c.queued_port-n.ensures) c.if-n-ne0.true
 
 pub loop-f-preserved : goal.loop-f-preserved
 loop-f-preserved c =
     let a = c.args in
-    let p = plan_by a.guard a.top (clock_of a.clock) a.rates.now a.blockings.now a.extras.now a.periods.now a.counts.now a.lengths.now a.jitters.now a.hops.now a.routes.now in
+    let p = plan_lent a.held.lent in
     let over = c.widened-over.result in
     let bits = c.loop-f.bits in
     let inv = c.loop-f.invariant in
     elim c.if-n-ne0.branch [
       | then-n-ne0 w ↦
-          let slot = in_slots p c.requires.0 a.q a.latest a.c c.loop-f.f c.loop-f-test.true c.queued_port-n.result c.queued_port-n.ensures w.if-n-ne0.true in
-          let at = port_is p c.requires.0 a.q a.latest a.c c.loop-f.f c.loop-f-test.true c.queued_port-n.result c.queued_port-n.ensures w.if-n-ne0.true in
-          (omega arith, rw w.bits-is (simp length-set inv.1), rw w.bits-is (sums_add p over a.q a.latest a.c c.loop-f.f bits (c.queued_port-n.result - 1) w.flow_bits-more.result (omega (arith, slot, inv.1)) slot at w.flow_bits-more.ensures inv.2))
+          let slot = in_slots p a.held.valid a.q a.latest a.c c.loop-f.f (omega arith) c.queued_port-n.result (rw c.from-hops.ensures at c.queued_port-n.ensures) w.if-n-ne0.true in
+          let at = port_is p a.held.valid a.q a.latest a.c c.loop-f.f (omega arith) c.queued_port-n.result (rw c.from-hops.ensures at c.queued_port-n.ensures) w.if-n-ne0.true in
+          (rw w.bits-is (simp length-set inv.0), rw w.bits-is (sums_add p over a.q a.latest a.c c.loop-f.f bits (c.queued_port-n.result - 1) w.flow_bits-more.result (omega (arith, slot, inv.0)) slot at w.flow_bits-more.ensures inv.1))
       | else-n-ne0 w ↦
-          (omega arith, rw w.bits-is inv.1, rw w.bits-is (sums_skip p over a.q a.latest a.c c.loop-f.f bits (sym c.queued_port-n.ensures ∙ w.if-n-ne0.false) inv.2))
+          (rw w.bits-is inv.0, rw w.bits-is (sums_skip p over a.q a.latest a.c c.loop-f.f bits (sym (rw c.from-hops.ensures at c.queued_port-n.ensures) ∙ w.if-n-ne0.false) inv.1))
     ]
 
 pub returns : goal.returns
 returns c =
     let a = c.args in
-    let p = plan_by a.guard a.top (clock_of a.clock) a.rates.now a.blockings.now a.extras.now a.periods.now a.counts.now a.lengths.now a.jitters.now a.hops.now a.routes.now in
+    let p = plan_lent a.held.lent in
     let all : c.loop-f.f ≡ flow_slots = omega arith in
-    sums_all p c.requires.0 a.duration a.q a.c c.loop-f.bits c.widened-over.ensures c.requires.3 (rw all at c.loop-f.invariant.2)
+    sums_all p a.held.valid a.duration a.q a.c c.loop-f.bits c.widened-over.ensures c.requires.2 (rw all at c.loop-f.invariant.1)

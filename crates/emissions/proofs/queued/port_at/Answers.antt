@@ -11,7 +11,7 @@ returns-then-i-hops c =
     let a = c.args in
     sym (sublist-at a.routes.now a.base a.hops a.i c.if-i-hops.true)
 
-pub returns : goal.returns
-returns c =
+pub returns-else-i-hops : goal.returns-else-i-hops
+returns-else-i-hops c =
     let a = c.args in
     sym (past_end (sublist a.routes.now a.base a.hops) a.i (omega (arith, sublist_length a.routes.now a.base a.hops, c.if-i-hops.false)))

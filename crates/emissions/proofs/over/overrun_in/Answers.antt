@@ -1,0 +1,46 @@
+-- `overrun_in` meets its contract: what each port must send is what the definition says.
+use mathlib.Core.Path.{refl, ap, ◌∙◌}
+use Prim.Native.Nat.{ℕ}
+use native.Mathlib.Omega.{arith}
+use Rattle.cqf.specs.Bounded.{lowest, tabulate}
+use Rattle.cqf.specs.Limits.{port_slots}
+use Rattle.cqf.proofs.laws.Tabulate.{tabulate-at}
+use Rattle.tables.specs.Lent.{plan_lent}
+use Rattle.questions.specs.Failing.{fails_in}
+use Rattle.emissions.specs.laws.Over.{window_most, over_is, each_most}
+use Rattle.emissions.proofs.over.overrun_in.Goals as goal
+
+pub cycle_bits-requires : goal.cycle_bits-requires
+unfolding tabulate
+cycle_bits-requires c = (c.requires.0, c.requires.1, c.requires.2, refl, tabulate-at port_slots (λ r. 0))
+
+pub lowest_over-slot-requires : goal.lowest_over-slot-requires
+lowest_over-slot-requires c =
+    let a = c.args in
+    let p = plan_lent a.held.lent in
+    let v = a.held.valid in (
+      omega (arith, c.window-available.ensures, window_most p v a.duration c.requires.0 a.q a.c),
+      each_most p v a.duration c.requires.0 a.q a.c c.cycle_bits.new.bits c.cycle_bits.ensures,
+    )
+
+pub returns-then-slot-lt-PORTS : goal.returns-then-slot-lt-PORTS
+returns-then-slot-lt-PORTS c =
+    let a = c.args in
+    let l = a.held.lent in
+    let bits = c.cycle_bits.new.bits in
+    let slot =
+    c.lowest_over-slot.ensures
+    ∙ ap (λ (w : ℕ). lowest port_slots (fails_in l.rates.now l.blockings.now l.extras.now w bits)) c.window-available.ensures
+    ∙ over_is (plan_lent l) a.held.valid a.duration c.requires.0 a.q a.c bits c.cycle_bits.ensures in
+    (slot, λ low. c.cycle_bits.ensures c.lowest_over-slot.result low)
+
+pub returns : goal.returns
+returns c =
+    let a = c.args in
+    let l = a.held.lent in
+    let bits = c.cycle_bits.new.bits in
+    let slot =
+    c.lowest_over-slot.ensures
+    ∙ ap (λ (w : ℕ). lowest port_slots (fails_in l.rates.now l.blockings.now l.extras.now w bits)) c.window-available.ensures
+    ∙ over_is (plan_lent l) a.held.valid a.duration c.requires.0 a.q a.c bits c.cycle_bits.ensures in
+    (slot, λ low. absurd (omega (arith, low, c.if-slot-lt-PORTS.false)))
