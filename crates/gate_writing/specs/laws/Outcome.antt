@@ -1,12 +1,12 @@
 -- Laws of the answer and of what is left, by the plain question's answer, the queues and the room, where the length needed is known.
 use Rattle.std.specs.Prelude.{ℕ, ◌≤◌, ◌<◌, ◌≡◌, true, false, List, [], ◌∷◌, length}
-use Rattle.std.proofs.Common.{sym, ap, ◌∙◌, arith, le-leb}
+use Rattle.std.proofs.Common.{sym, ap, ◌∙◌, arith}
 use Rattle.std.proofs.lemmas.Bool.{lt-leb}
 use Rattle.cqf.specs.Plan.{Plan}
 use Rattle.cqf.proofs.laws.Ranges.{top_most}
 use Rattle.plan_reading.specs.laws.fields.Within.{within_high}
 use Rattle.gate_lists.specs.GateList.{gate_list_bytes}
-use Rattle.answers.specs.Answer.{Answer, result, refusal}
+use Rattle.answers.specs.Answer.{result, refusal}
 use Rattle.answers.specs.Refusals.{short_buffer, bad_queue}
 use Rattle.writing.specs.Laid.{laid}
 use Rattle.writing.specs.laws.Laid.{laid-over}

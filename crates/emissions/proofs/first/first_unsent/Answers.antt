@@ -1,8 +1,7 @@
 use mathlib.Core.Path.{◌≡◌, ◌∙◌}
-use Prim.Native.Nat.{◌+◌, ◌≤◌}
+use Prim.Native.Nat.{◌+◌}
 use native.Mathlib.Omega.{arith}
 use borrow.Author.Count.{below_more}
-use Rattle.cqf.specs.Limits.{max_hops}
 use Rattle.tables.specs.Lent.{plan_lent}
 use Rattle.emissions.specs.laws.Burst.{latest_most}
 use Rattle.emissions.specs.laws.Over.{none_yet, none_in, first_is, first_last}

@@ -2,7 +2,6 @@
 use mathlib.Core.Path.{refl, sym, ◌∙◌}
 use mathlib.Core.List.{◌++◌}
 use native.Mathlib.Omega.{arith}
-use borrow.Author.Rules.{rules}
 use Rattle.gate_lists.specs.GateList.{gate_tag, gate_size}
 use Rattle.plan_reading.specs.FieldBytes.{bytes4}
 use Rattle.writing.specs.Laid.{bytes1}

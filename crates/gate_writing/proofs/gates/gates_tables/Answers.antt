@@ -1,7 +1,7 @@
 -- `gates_tables` meets its contract: the refusals in their order, and the list where there is room for it.
 use Prim.Native.Nat.{ℕ, ◌≤◌, ◌<◌}
-use mathlib.Core.Path.{◌≡◌, refl, sym, ap, ◌∙◌}
-use mathlib.Core.Bool.{true, false}
+use mathlib.Core.Path.{◌≡◌, sym, ◌∙◌}
+use mathlib.Core.Bool.{true}
 use mathlib.Core.List.{List}
 use Rattle.std.specs.Prelude.{Result, Ok, Err}
 use Rattle.std.specs.Result.{IsErrAnd}
@@ -9,7 +9,7 @@ use borrow.Author.Tests.{leb-true, leb-false}
 use lib.ListN.{length}
 use Rattle.cqf.specs.Plan.{Plan}
 use Rattle.tables.specs.Lent.{plan_lent}
-use Rattle.answers.specs.Answer.{Answer, result}
+use Rattle.answers.specs.Answer.{result}
 use Rattle.questions.specs.declared.check.CheckRefusal.{CheckRefusal}
 use Rattle.questions.specs.Outcome.{check_answer}
 use Rattle.questions.specs.Answer.{check_of}

@@ -1,6 +1,5 @@
 -- `cycle_size` meets its contract: three fields are few bytes.
 use native.Mathlib.Omega.{arith}
-use borrow.Author.Rules.{rules}
 use Rattle.gate_writing.specs.laws.List.{size_most}
 use Rattle.gate_writing.proofs.list.cycle_size.Goals as goal
 

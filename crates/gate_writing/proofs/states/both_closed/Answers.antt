@@ -1,6 +1,5 @@
 -- `both_closed` meets its contract: the bits of two different queues are no more than the eight.
 use native.Mathlib.Omega.{arith}
-use borrow.Author.Rules.{rules}
 use Rattle.gate_lists.specs.GateList.{both_closed}
 use Rattle.gate_writing.specs.laws.Gates.{even_below, odd_below}
 use Rattle.gate_writing.specs.laws.States.{bits_fit}

@@ -1,10 +1,8 @@
 -- `queue_bit` meets its contract, queue by queue.
-use Prim.Native.Nat.{◌≤◌}
 use native.Mathlib.Omega.{arith}
 use borrow.Author.Rules.{rules}
 use mathlib.Core.Path.{◌≡◌, sym, ap}
 use Rattle.gate_lists.specs.GateList.{bit}
-use Rattle.gate_writing.specs.laws.States.{last_queue_lem}
 use Rattle.gate_writing.proofs.states.queue_bit.Goals as goal
 
 pub returns-in-0 : goal.returns-in-0
