@@ -1,3 +1,4 @@
 -- Laws of the code's slots.
 pub mod Slots
 pub mod Calls
+pub mod Held

@@ -3,24 +3,30 @@ ghost use Rattle.std.specs.Prelude.{◌≡◌, true};
 ghost use Rattle.batching.specs.Slots.{batch_of, answered_by};
 ghost use Rattle.batching.specs.Answer.{collect_of, final_by, Collects};
 
-use super::slots::{is_answered, vacant};
-use super::{Batch, CollectAnswer, CollectOutcome, FOUND, INVALID, NONE, SLOTS};
+use super::slots::vacant;
+use super::{Batch, CollectOutcome, CollectRefusal, FOUND, INVALID, NONE, SLOTS, Slot};
+use questions::FixedPoint;
 
-// The final answer of a slot of these numbers.
-fn final_answer(state: u32, duration: u64, port: u32, count: u32, steps: u64) -> CollectAnswer
-    requires { answered_by state ≡ true }
-    ensures { collect_of result ≡ final_by state duration port count steps }
-{
-    if state == FOUND {
-        return CollectAnswer::Duration { duration, steps };
+impl Slot {
+    // The final answer that a slot has.
+    fn final_answer(&self) -> Result<FixedPoint, CollectRefusal>
+        requires { answered_by self.now.state ≡ true }
+        ensures { collect_of result ≡ final_by self.now.state self.now.duration self.now.port self.now.count self.now.steps }
+    {
+        let Slot {
+            duration,
+            steps,
+            port,
+            count,
+            ..
+        } = *self;
+        match self.state {
+            FOUND => Ok(FixedPoint { duration, steps }),
+            NONE => Err(CollectRefusal::Failing { port, count, steps }),
+            INVALID => Err(CollectRefusal::NoPlan),
+            _ => Err(CollectRefusal::BadStart),
+        }
     }
-    if state == NONE {
-        return CollectAnswer::Failing { port, count, steps };
-    }
-    if state == INVALID {
-        return CollectAnswer::NoPlan;
-    }
-    CollectAnswer::BadStart
 }
 
 // The final answer in a slot, which has no plan then: 15, then 28.
@@ -30,21 +36,21 @@ pub fn collect(batch: Batch, slot: u64) -> CollectOutcome
     if SLOTS <= slot {
         return CollectOutcome {
             batch,
-            answer: CollectAnswer::NoSlot,
+            answer: Err(CollectRefusal::NoSlot),
         };
     }
     let at = slot as usize;
     let held = batch.slots[at];
-    if !is_answered(held.state) {
+    if !held.is_answered() {
         return CollectOutcome {
             batch,
-            answer: CollectAnswer::Unanswered,
+            answer: Err(CollectRefusal::Unanswered),
         };
     }
     let mut left = batch;
     left.slots[at] = vacant(held.planner);
     CollectOutcome {
         batch: left,
-        answer: final_answer(held.state, held.duration, held.port, held.count, held.steps),
+        answer: held.final_answer(),
     }
 }

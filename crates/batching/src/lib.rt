@@ -5,7 +5,9 @@ ghost use Rattle.std.specs.Prelude.{◌≡◌};
 ghost use Rattle.batches.specs.Batch.{empty_batch};
 ghost use Rattle.batching.specs.Slots.{batch_of};
 
-use plan::Fault;
+use loading::Loaded;
+use plan::Refusal;
+use questions::FixedPoint;
 use tables::Planner;
 
 mod collecting; // collecting.rt: the final answer of a slot
@@ -20,7 +22,7 @@ pub use serving::serve;
 // Document 02: places 0 to 7.
 pub const SLOTS: u64 = 8;
 
-// What a slot holds, by its state. Any other state is a slot with no plan.
+// What a slot holds, by its state, a number since C holds the slots. Any other state is a slot with no plan.
 pub const VACANT: u32 = 0;
 
 pub const PENDING: u32 = 1;
@@ -54,35 +56,31 @@ pub struct Batch {
     pub next: u64,
 }
 
+// Why a plan is not placed.
 #[derive(Clone, Copy)]
-pub enum PlaceAnswer {
-    Placed { ports: u16, flows: u16 },
+pub enum PlaceRefusal {
     NoSlot,
     Occupied,
-    Refused { fault: Fault, offset: usize },
+    // What its load answers.
+    Refused(Refusal),
 }
 
 #[derive(Clone, Copy)]
 pub struct PlaceOutcome {
     pub batch: Batch,
-    pub answer: PlaceAnswer,
+    pub answer: Result<Loaded, PlaceRefusal>,
 }
 
-#[derive(Clone, Copy)]
-pub enum ServeAnswer {
-    Served(u64),
-    Idle,
-}
-
+// The slot that was served, if any.
 #[derive(Clone, Copy)]
 pub struct ServeOutcome {
     pub batch: Batch,
-    pub answer: ServeAnswer,
+    pub answer: Option<u64>,
 }
 
+// Why no duration is collected: there is none, with the ports that fail at top, or the slot has no final answer.
 #[derive(Clone, Copy)]
-pub enum CollectAnswer {
-    Duration { duration: u64, steps: u64 },
+pub enum CollectRefusal {
     Failing { port: u32, count: u32, steps: u64 },
     NoPlan,
     BadStart,
@@ -93,7 +91,7 @@ pub enum CollectAnswer {
 #[derive(Clone, Copy)]
 pub struct CollectOutcome {
     pub batch: Batch,
-    pub answer: CollectAnswer,
+    pub answer: Result<FixedPoint, CollectRefusal>,
 }
 
 // The batch with no plan.

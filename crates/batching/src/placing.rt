@@ -3,9 +3,9 @@ ghost use Rattle.std.specs.Prelude.{◌≡◌};
 ghost use Rattle.batching.specs.Slots.{batch_of};
 ghost use Rattle.batching.specs.Answer.{Places};
 
-use super::slots::{is_answered, is_pending, placed};
-use super::{Batch, PlaceAnswer, PlaceOutcome, SLOTS};
-use loading::{LoadAnswer, load};
+use super::slots::placed;
+use super::{Batch, PlaceOutcome, PlaceRefusal, SLOTS};
+use loading::load;
 
 // The plan in these bytes is read loosely into a slot that has none: 15, then 27, then what a load answers.
 pub fn place(batch: Batch, slot: u64, plan: &[u8]) -> PlaceOutcome
@@ -14,37 +14,30 @@ pub fn place(batch: Batch, slot: u64, plan: &[u8]) -> PlaceOutcome
     if SLOTS <= slot {
         return PlaceOutcome {
             batch,
-            answer: PlaceAnswer::NoSlot,
+            answer: Err(PlaceRefusal::NoSlot),
         };
     }
     let at = slot as usize;
     let held = batch.slots[at];
-    if is_pending(held.state, held.duration, held.steps) {
+    if held.is_pending() || held.is_answered() {
         return PlaceOutcome {
             batch,
-            answer: PlaceAnswer::Occupied,
-        };
-    }
-    if is_answered(held.state) {
-        return PlaceOutcome {
-            batch,
-            answer: PlaceAnswer::Occupied,
+            answer: Err(PlaceRefusal::Occupied),
         };
     }
     let outcome = load(held.planner, plan);
-    let answer = outcome.answer;
-    match answer {
-        LoadAnswer::Held { ports, flows } => {
+    match outcome.answer {
+        Ok(loaded) => {
             let mut left = batch;
             left.slots[at] = placed(outcome.planner);
             PlaceOutcome {
                 batch: left,
-                answer: PlaceAnswer::Placed { ports, flows },
+                answer: Ok(loaded),
             }
         }
-        LoadAnswer::Refused { fault, offset } => PlaceOutcome {
+        Err(refusal) => PlaceOutcome {
             batch,
-            answer: PlaceAnswer::Refused { fault, offset },
+            answer: Err(PlaceRefusal::Refused(refusal)),
         },
     }
 }

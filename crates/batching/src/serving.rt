@@ -3,32 +3,29 @@ ghost use Rattle.std.specs.Prelude.{◌≡◌};
 ghost use Rattle.batching.specs.Slots.{batch_of};
 ghost use Rattle.batching.specs.Answer.{ServesTurn};
 
-use super::slots::{is_pending, turned};
-use super::{Batch, SLOTS, ServeAnswer, ServeOutcome};
+use super::{Batch, SLOTS, ServeOutcome};
 
 // Sixteen steps for the first plan that is pending, from the next slot on, going round.
 pub fn serve(batch: Batch) -> ServeOutcome
     ensures { ServesTurn (batch_of batch) result }
 {
     let from = batch.next % SLOTS;
-    let mut i: u64 = 0;
-    while i < SLOTS {
+    for i in 0..SLOTS {
         let slot = (from + i) % SLOTS;
         let at = slot as usize;
         let held = batch.slots[at];
-        if is_pending(held.state, held.duration, held.steps) {
+        if held.is_pending() {
             let mut left = batch;
-            left.slots[at] = turned(held.planner, held.duration, held.steps);
+            left.slots[at] = held.turned();
             left.next = (slot + 1) % SLOTS;
             return ServeOutcome {
                 batch: left,
-                answer: ServeAnswer::Served(slot),
+                answer: Some(slot),
             };
         }
-        i += 1;
     }
     ServeOutcome {
         batch,
-        answer: ServeAnswer::Idle,
+        answer: None,
     }
 }

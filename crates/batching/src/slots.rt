@@ -5,13 +5,13 @@ ghost use Rattle.tables.specs.Tables.{plan_of};
 ghost use Rattle.batching.specs.Slots.{slot_by, slot_of, pends_by, answered_by};
 
 use super::{FOUND, INVALID, NONE, OUTSIDE, PENDING, Slot, VACANT};
-use questions::{FixedPointAnswer, fixed_point_tables};
+use questions::{FixedPoint, FixedPointRefusal, fixed_point_tables};
 use tables::{Planner, held_top};
 
 // Document 02: a turn gives sixteen rounds.
 const TURN: u64 = 16;
 
-// A slot of this state and these numbers.
+// A slot of this state and these numbers; the contract is of all of them at once, so that they are parameters.
 fn with_numbers(
     planner: Planner,
     state: u32,
@@ -46,63 +46,51 @@ pub(crate) fn placed(planner: Planner) -> Slot
     with_numbers(planner, PENDING, 1, 0, 0, 0)
 }
 
-// Whether a slot of these numbers has a plan that is pending.
-pub(crate) fn is_pending(state: u32, duration: u64, steps: u64) -> bool
-    ensures { result ≡ pends_by state duration steps }
-{
-    if state != PENDING {
-        return false;
+impl Slot {
+    // Whether it has a plan that is pending.
+    pub(crate) fn is_pending(&self) -> bool
+        ensures { result ≡ pends_by self.now.state self.now.duration self.now.steps }
+    {
+        self.state == PENDING && self.steps < self.duration
     }
-    steps < duration
-}
 
-// Whether a slot of this state has a final answer.
-pub(crate) fn is_answered(state: u32) -> bool
-    ensures { result ≡ answered_by state }
-{
-    if state < FOUND {
-        return false;
+    // Whether it has a final answer.
+    pub(crate) fn is_answered(&self) -> bool
+        ensures { result ≡ answered_by self.now.state }
+    {
+        FOUND <= self.state && self.state <= OUTSIDE
     }
-    state <= OUTSIDE
-}
 
-// A turn of a plan that came to this duration in so many steps.
-pub(crate) fn turned(planner: Planner, duration: u64, steps: u64) -> Slot
-    requires { steps < duration }
-    ensures { slot_of result ≡ turned (plan_of planner) duration steps }
-{
-    let top = held_top(planner.form, &planner.hops, planner.top);
-    let answer = fixed_point_tables(
-        planner.guard,
-        top,
-        planner.clock,
-        &planner.rates,
-        &planner.blockings,
-        &planner.extras,
-        &planner.periods,
-        &planner.counts,
-        &planner.lengths,
-        &planner.jitters,
-        &planner.hops,
-        &planner.routes,
-        duration,
-        TURN,
-    );
-    match answer {
-        FixedPointAnswer::Duration {
-            duration: found,
-            steps: used,
-        } => with_numbers(planner, FOUND, found, 0, 0, steps + used),
-        FixedPointAnswer::NoPlan => with_numbers(planner, INVALID, 0, 0, 0, 0),
-        FixedPointAnswer::BadStart => with_numbers(planner, OUTSIDE, 0, 0, 0, 0),
-        FixedPointAnswer::Failing {
-            port,
-            count,
-            steps: used,
-        } => with_numbers(planner, NONE, 0, port, count, steps + used),
-        FixedPointAnswer::Unfinished {
-            duration: reached,
-            steps: used,
-        } => with_numbers(planner, PENDING, reached, 0, 0, steps + used),
+    // A turn of its plan, which came to its duration in so many steps.
+    pub(crate) fn turned(&self) -> Slot
+        requires { self.now.steps < self.now.duration }
+        ensures { slot_of result ≡ turned (plan_of self.now.planner) self.now.duration self.now.steps }
+    {
+        let planner = self.planner;
+        let steps = self.steps;
+        let top = held_top(planner.form, &planner.hops, planner.top);
+        match fixed_point_tables(planner.lend().upto(top), self.duration, TURN) {
+            Ok(
+                FixedPoint {
+                    duration: found,
+                    steps: used,
+                },
+            ) => with_numbers(planner, FOUND, found, 0, 0, steps + used),
+            Err(FixedPointRefusal::NoPlan) => with_numbers(planner, INVALID, 0, 0, 0, 0),
+            Err(FixedPointRefusal::BadStart) => with_numbers(planner, OUTSIDE, 0, 0, 0, 0),
+            Err(
+                FixedPointRefusal::Failing {
+                    port,
+                    count,
+                    steps: used,
+                },
+            ) => with_numbers(planner, NONE, 0, port, count, steps + used),
+            Err(
+                FixedPointRefusal::Unfinished {
+                    duration: reached,
+                    steps: used,
+                },
+            ) => with_numbers(planner, PENDING, reached, 0, 0, steps + used),
+        }
     }
 }

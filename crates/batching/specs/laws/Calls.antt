@@ -1,33 +1,32 @@
 -- What each call gives back is what its definition says, case by case.
-use Rattle.std.specs.Prelude.{◌≡◌, List, [], ◌∷◌, map, Bool, true, false, cond, ◌&&◌, ℕ, suc, ◌+◌, ◌%◌, ◌≤◌, ◌<◌, ltb, get_or, set}
+use Rattle.std.specs.Prelude.{◌≡◌, List, [], ◌∷◌, map, Bool, true, false, ℕ, ◌+◌, ◌%◌, ◌≤◌, ◌<◌, get_or, set, Some, None, Result, Ok, Err}
 use Rattle.std.proofs.Math.Path.{refl, sym, ap, ap₂}
-use Rattle.std.proofs.Common.{◌∙◌, add-one, arith, lt-ltb, le-ltb}
-use Rattle.std.proofs.Math.Option.{none, some}
+use Rattle.std.proofs.Common.{◌∙◌, add-one, lt-ltb, le-ltb}
+use Rattle.std.proofs.Math.Option.{some}
 use Rattle.std.proofs.lemmas.Bool.{false≢true}
 use Rattle.std.proofs.Math.ListN.{get_or-map}
 use Rattle.cqf.specs.Plan.{Plan}
 use Rattle.tables.specs.Tables.{plan_of}
 use Rattle.plan_reading.specs.Reading.{PlanRead, accepted, rejected, loose, read_as_of}
 use Rattle.answers.specs.Answer.{Answer, result, refusal}
-use Rattle.loading.specs.Outcome.{Fields, reading_answer, reading_leaves, load_answer, load_leaves}
+use Rattle.loading.specs.Outcome.{reading_answer, reading_leaves, load_answer, load_leaves}
 use Rattle.loading.specs.Answer.{load_of, Loads}
-use Rattle.loading.specs.declared.LoadAnswer.{LoadAnswer}
+use Rattle.loading.specs.declared.Loaded.{Loaded}
 use Rattle.loading.specs.declared.LoadOutcome.{LoadOutcome}
-use Rattle.plan.specs.declared.Fault.{Fault}
+use Rattle.plan.specs.declared.Refusal.{Refusal}
 use Rattle.plan.specs.Answer.{fault_number}
-use Rattle.questions.specs.FixedPoint.{FixedPoint}
-use Rattle.batches.specs.Slot.{vacant, pending, answered, is_vacant, is_pending, is_answered, turned, advanced}
+use Rattle.batches.specs.Slot.{vacant, pending, is_vacant, is_pending, is_answered, turned, advanced}
 use Rattle.batches.specs.Batch as batches
 use Rattle.batches.specs.Batch.{slot_count, slot_at, with_read, slot_after, place_answer, place_leaves, serve_answer, served, serve_leaves, collect_answer, collect_leaves}
 use Rattle.batches.specs.laws.Turns.{serves_first, serves_idle}
 use Rattle.batching.specs.Slots.{slot_by, pends_by, answered_by, slot_of, batch_of}
-use Rattle.batching.specs.Answer.{place_of, serve_of, collect_of, final_by, Places, ServesTurn, Collects}
+use Rattle.batching.specs.Answer.{place_of, collect_of, final_by, Places, ServesTurn, Collects}
 use Rattle.batching.specs.laws.Slots.{vacant_neither, not_vacant_pending, not_vacant_answered, not_answered, pends_by_lem, answered_by_lem, final_by_lem, pending_by, map_set}
 use Rattle.batching.specs.declared.Slot.{Slot}
 use Rattle.batching.specs.declared.Batch.{Batch}
-use Rattle.batching.specs.declared.PlaceAnswer.{PlaceAnswer}
-use Rattle.batching.specs.declared.ServeAnswer.{ServeAnswer}
-use Rattle.batching.specs.declared.CollectAnswer.{CollectAnswer}
+use Rattle.batching.specs.declared.PlaceRefusal.{PlaceRefusal}
+use Rattle.batching.specs.declared.CollectRefusal.{CollectRefusal}
+use Rattle.questions.specs.declared.iteration.FixedPoint.{FixedPoint as Reached}
 
 is_refusal : {A : Type 0} → Answer A → Bool
 is_refusal (result a) = false
@@ -78,11 +77,11 @@ with_held b s x = record { slots = set b.slots s x; next = b.next }
 
 -- no slot s
 module _ (b : Batch) (s : ℕ) (over : slot_count ≤ s) where
-  pub collect_15 : Collects (batch_of b) s (record { batch = b; answer = CollectAnswer.NoSlot })
+  pub collect_15 : Collects (batch_of b) s (record { batch = b; answer = Err CollectRefusal.NoSlot })
   unfolding collect_answer collect_leaves
   collect_15 = record { answers = rw (le-ltb s slot_count over); leaves = rw (le-ltb s slot_count over) }
 
-  pub place_15 : (bytes : List ℕ) → Places (batch_of b) s bytes (record { batch = b; answer = PlaceAnswer.NoSlot })
+  pub place_15 : (bytes : List ℕ) → Places (batch_of b) s bytes (record { batch = b; answer = Err PlaceRefusal.NoSlot })
   unfolding place_answer place_leaves
   place_15 bytes = record { answers = rw (le-ltb s slot_count over); leaves = rw (le-ltb s slot_count over) }
 
@@ -98,7 +97,7 @@ module _ (b : Batch) (s : ℕ) (x : Slot) (there : slot_at (batch_of b) s ≡ sl
   held_answered = ap is_answered there ∙ answered_by_lem (plan_of x.planner) x.state x.duration x.port x.count x.steps
 
   module _ (l : s < slot_count) where
-    pub collect_28 : answered_by x.state ≡ false → Collects (batch_of b) s (record { batch = b; answer = CollectAnswer.Unanswered })
+    pub collect_28 : answered_by x.state ≡ false → Collects (batch_of b) s (record { batch = b; answer = Err CollectRefusal.Unanswered })
     unfolding collect_answer collect_leaves
     collect_28 e =
         let none-there = held_answered ∙ e in
@@ -108,7 +107,7 @@ module _ (b : Batch) (s : ℕ) (x : Slot) (there : slot_at (batch_of b) s ≡ sl
         }
 
     pub collect_final
-        : (y : Slot) (a : CollectAnswer)
+        : (y : Slot) (a : Result Reached CollectRefusal)
         → answered_by x.state ≡ true
         → slot_of y ≡ vacant
         → collect_of a ≡ final_by x.state x.duration x.port x.count x.steps
@@ -123,14 +122,14 @@ module _ (b : Batch) (s : ℕ) (x : Slot) (there : slot_at (batch_of b) s ≡ sl
         }
 
     module _ (bytes : List ℕ) where
-      place_27 : is_vacant (slot_at (batch_of b) s) ≡ false → Places (batch_of b) s bytes (record { batch = b; answer = PlaceAnswer.Occupied })
+      place_27 : is_vacant (slot_at (batch_of b) s) ≡ false → Places (batch_of b) s bytes (record { batch = b; answer = Err PlaceRefusal.Occupied })
       unfolding place_answer place_leaves
       place_27 e = record { answers = rw (lt-ltb s slot_count l, e); leaves = rw (lt-ltb s slot_count l, e) }
 
-      pub place_pending : pends ≡ true → Places (batch_of b) s bytes (record { batch = b; answer = PlaceAnswer.Occupied })
+      pub place_pending : pends ≡ true → Places (batch_of b) s bytes (record { batch = b; answer = Err PlaceRefusal.Occupied })
       place_pending e = place_27 (not_vacant_pending (slot_at (batch_of b) s) (held_pends ∙ e))
 
-      pub place_answered : answered_by x.state ≡ true → Places (batch_of b) s bytes (record { batch = b; answer = PlaceAnswer.Occupied })
+      pub place_answered : answered_by x.state ≡ true → Places (batch_of b) s bytes (record { batch = b; answer = Err PlaceRefusal.Occupied })
       place_answered e = place_27 (not_vacant_answered (slot_at (batch_of b) s) (held_answered ∙ e))
 
       module _ (none-pending : pends ≡ false) (none-answered : answered_by x.state ≡ false) where
@@ -138,7 +137,7 @@ module _ (b : Batch) (s : ℕ) (x : Slot) (there : slot_at (batch_of b) s ≡ sl
         free = vacant_neither (slot_at (batch_of b) s) (held_pends ∙ none-pending) (held_answered ∙ none-answered)
 
         places
-            : (c : Batch) (a : PlaceAnswer)
+            : (c : Batch) (a : Result Loaded PlaceRefusal)
             → place_of a ≡ load_answer loose bytes
             → batch_of c ≡ with_read (batch_of b) s (read_as_of loose bytes)
             → Places (batch_of b) s bytes (record { batch = c; answer = a })
@@ -156,20 +155,20 @@ module _ (b : Batch) (s : ℕ) (x : Slot) (there : slot_at (batch_of b) s ≡ sl
 
         module _ (held : Plan) {form : ℕ} (outcome : LoadOutcome) (loads : Loads loose held form bytes outcome) where
           pub place_held
-              : (ports flows : ℕ) (y : Slot)
-              → outcome.answer ≡ LoadAnswer.Held ports flows
+              : (loaded : Loaded) (y : Slot)
+              → outcome.answer ≡ Ok loaded
               → slot_of y ≡ pending (plan_of outcome.planner) 1 0
-              → Places (batch_of b) s bytes (record { batch = with_held b s y; answer = PlaceAnswer.Placed ports flows })
-          place_held ports flows y e starts =
+              → Places (batch_of b) s bytes (record { batch = with_held b s y; answer = Ok loaded })
+          place_held loaded y e starts =
               places
               (with_held b s y)
-              (PlaceAnswer.Placed ports flows)
+              (Ok loaded)
               (sym (ap load_of e) ∙ loads.answers)
               (go (read_as_of loose bytes) (sym (ap load_of e) ∙ loads.answers ∙ is_answer) (loads.leaves ∙ is_left held))
             where
               go
                   : (r : PlanRead)
-                  → result (record { ports = ports; flows = flows }) ≡ reading_answer r
+                  → result (record { ports = loaded.ports; flows = loaded.flows }) ≡ reading_answer r
                   → plan_of outcome.planner ≡ reading_leaves held r
                   → batch_of (with_held b s y) ≡ with_read (batch_of b) s r
               go (accepted p n m) q left =
@@ -178,21 +177,21 @@ module _ (b : Batch) (s : ℕ) (x : Slot) (there : slot_at (batch_of b) s ≡ sl
               go (rejected number offset) q left = absurd (result_refusal _ number (offset ∷ []) q)
 
           pub place_refused
-              : (fault : Fault) (offset : ℕ)
-              → outcome.answer ≡ LoadAnswer.Refused fault offset
-              → Places (batch_of b) s bytes (record { batch = b; answer = PlaceAnswer.Refused fault offset })
-          place_refused fault offset e =
-              places b (PlaceAnswer.Refused fault offset) (sym (ap load_of e) ∙ loads.answers) (go (read_as_of loose bytes) (sym (ap load_of e) ∙ loads.answers ∙ is_answer))
+              : (refused : Refusal)
+              → outcome.answer ≡ Err refused
+              → Places (batch_of b) s bytes (record { batch = b; answer = Err (PlaceRefusal.Refused refused) })
+          place_refused refused e =
+              places b (Err (PlaceRefusal.Refused refused)) (sym (ap load_of e) ∙ loads.answers) (go (read_as_of loose bytes) (sym (ap load_of e) ∙ loads.answers ∙ is_answer))
             where
-              go : (r : PlanRead) → refusal (fault_number fault) (offset ∷ []) ≡ reading_answer r → batch_of b ≡ with_read (batch_of b) s r
-              go (accepted p n m) q = absurd (result_refusal _ (fault_number fault) (offset ∷ []) (sym q))
+              go : (r : PlanRead) → refusal (fault_number refused.fault) (refused.offset ∷ []) ≡ reading_answer r → batch_of b ≡ with_read (batch_of b) s r
+              go (accepted p n m) q = absurd (result_refusal _ (fault_number refused.fault) (refused.offset ∷ []) (sym q))
               go (rejected number place) q = refl
 
 -- a turn: none before slot i of the round is pending, and slot i is
 module _ (b : Batch) where
   pub serve_idle
       : ((k : ℕ) → k < slot_count → is_pending (slot_at (batch_of b) (slot_after (batch_of b) k)) ≡ false)
-      → ServesTurn (batch_of b) (record { batch = b; answer = ServeAnswer.Idle })
+      → ServesTurn (batch_of b) (record { batch = b; answer = None })
   unfolding serve_leaves
   serve_idle before =
       let idle = serves_idle (batch_of b) before in record { answers = sym idle; leaves = ap (served (batch_of b)) (sym idle) }
@@ -207,7 +206,7 @@ module _ (b : Batch) where
       → slot_of y ≡ turned (plan_of x.planner) x.duration x.steps
       → ServesTurn
       (batch_of b)
-      (record { batch = record { slots = set b.slots s y; next = (s + 1) % slot_count }; answer = ServeAnswer.Served s })
+      (record { batch = record { slots = set b.slots s y; next = (s + 1) % slot_count }; answer = Some s })
   unfolding serve_leaves
   serve_first i s x y is h before there e turns =
       let now-pending = (pending_by (plan_of x.planner) x.state x.duration x.port x.count x.steps e).0 in

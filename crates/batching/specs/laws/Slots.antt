@@ -1,13 +1,12 @@
 -- What a slot's numbers say, and a batch with another slot.
-use Rattle.std.specs.Prelude.{◌≡◌, List, [], ◌∷◌, map, Bool, cond, ◌&&◌, ℕ, zero, suc, ◌≤◌, ◌<◌, eqb, leb, length, get_or, set}
+use Rattle.std.specs.Prelude.{◌≡◌, List, [], ◌∷◌, map, Bool, cond, ◌&&◌, ℕ, zero, suc, ◌<◌, eqb, length, get_or, set}
 use Rattle.std.proofs.Math.Path.{refl}
-use Rattle.std.proofs.Common.{sym, ap, subst, ◌∙◌, true≢false, arith}
+use Rattle.std.proofs.Common.{sym, ap, subst, true≢false, arith}
 use Rattle.std.proofs.Math.Bool.{true, false}
 use Rattle.std.proofs.lemmas.Bool.{false≢true}
 use Rattle.std.proofs.Math.Decide.{ℕ_discrete, dec_lt}
 use Rattle.std.proofs.Math.Dec.{ltb}
-use borrow.Author.Tests.{eq-eqb, ne_eqb, eqb-true, ltb-true, leb-true, le-leb, lt-leb, lt-ltb}
-use Rattle.cqf.specs.Bounded.{within}
+use borrow.Author.Tests.{ne_eqb, ltb-true, le-leb, lt-leb}
 use Rattle.cqf.specs.Plan.{Plan}
 use Rattle.answers.specs.Answer.{Answer, result, refusal}
 use Rattle.questions.specs.FixedPoint.{FixedPoint}

@@ -30,7 +30,7 @@ one_more b i before here k m = go (ℕ_discrete k i)
     go (no e) = before k (omega arith)
 
 pub loop-i-init : goal.loop-i-init
-loop-i-init c = (omega arith, λ k l. absurd (omega arith))
+loop-i-init c = λ k l. absurd (omega arith)
 
 pub turned-requires : goal.turned-requires
 turned-requires c =
@@ -41,7 +41,7 @@ pub returns-then-is_pending : goal.returns-then-is_pending
 returns-then-is_pending c =
     let b = c.args.batch in
     let i = c.loop-i.i in
-    serve_first b i (slot b i) (held_at b (slot b i)) c.turned.result (is_after b i) c.loop-i-test.true c.loop-i.invariant.1
+    serve_first b i (slot b i) (held_at b (slot b i)) c.turned.result (is_after b i) (omega arith) c.loop-i.invariant
     (slot_at_of b (slot b i)) (sym c.is_pending.ensures ∙ c.if-is_pending.true) c.turned.ensures
 
 pub loop-i-preserved : goal.loop-i-preserved
@@ -50,7 +50,7 @@ loop-i-preserved c =
     let i = c.loop-i.i in
     let here : is_pending (slot_at (batch_of b) (slot_after (batch_of b) i)) ≡ false
     = rw (is_after b i) at (held_pends b (slot b i) (held_at b (slot b i)) (slot_at_of b (slot b i)) ∙ sym c.is_pending.ensures ∙ c.if-is_pending.false) in
-    (omega arith, one_more b i c.loop-i.invariant.1 here)
+    one_more b i c.loop-i.invariant here
 
 pub returns : goal.returns
-returns c = serve_idle c.args.batch (λ k l. c.loop-i.invariant.1 k (omega arith))
+returns c = serve_idle c.args.batch (λ k l. c.loop-i.invariant k (omega arith))
