@@ -4,8 +4,9 @@ ghost use Rattle.cqf.specs.Bounded.{any_to};
 ghost use Rattle.cqf.specs.Limits.{port_slots, max_top};
 ghost use Rattle.cqf.specs.Port.{workload_of, fails_by_of};
 ghost use Rattle.cqf.specs.Overflow.{most_demand};
+ghost use Rattle.cqf.specs.Condition.{demand, failing, lowest_failing};
 ghost use Rattle.tables.specs.Lent.{plan_lent};
-ghost use Rattle.questions.specs.Failing.{set_to, fails_in, FailingAt};
+ghost use Rattle.questions.specs.Failing.{fails_in, FailingAt};
 
 use super::demand::demands;
 use numbers::frame::blocking_bits;
@@ -31,29 +32,6 @@ pub(crate) fn port_fails(rate: u32, blocking: u16, extra: u8, window: u64, bits:
     bits != 0 && (rate as u64) * window < workload(blocking, extra, bits)
 }
 
-// The failing ports: bit q for the port in slot q.
-fn failing_set(lent: Lent, window: u64, demands: &[u64]) -> u64
-    requires { (length demands.now ≡ port_slots)
-        × (window ≤ max_top)
-        × ((q : ℕ) → q < port_slots → get_or demands.now q 0 ≤ most_demand) }
-    ensures { result ≡ set_to port_slots
-        (fails_in lent.entry.rates.now lent.entry.blockings.now lent.entry.extras.now window demands.now) }
-{
-    let mut set: u64 = 0;
-    for q in 0..PORTS {
-        if port_fails(
-            lent.rates[q],
-            lent.blockings[q],
-            lent.extras[q],
-            window,
-            demands[q],
-        ) {
-            set |= 1u64 << q;
-        }
-    }
-    set
-}
-
 // Whether some port fails.
 pub(crate) fn some_fails(lent: Lent, window: u64, demands: &[u64]) -> bool
     requires { (length demands.now ≡ port_slots)
@@ -76,13 +54,42 @@ pub(crate) fn some_fails(lent: Lent, window: u64, demands: &[u64]) -> bool
     false
 }
 
-// The ports that fail at a duration: the lowest, and how many. Each port's demand is left in out.
+// The ports that fail at a duration, by each port's demand there: the lowest, and how many.
+pub(crate) fn failing_by<F: Fn(usize) -> u64>(
+    held: Held,
+    duration: u64,
+    demand_of: F,
+) -> FailingPorts
+    requires range { (1 ≤ duration) × (duration ≤ held.lent.top) }
+    requires callable { (q : ℕ) → q < port_slots → F.pre demand_of q }
+    requires demands { (q bits : ℕ) → q < port_slots → F.post demand_of q bits → bits ≡ demand (plan_lent held.lent) q duration }
+    ensures { (result.port ≡ lowest_failing (plan_lent held.entry.lent) duration)
+        × (result.count ≡ failing (plan_lent held.entry.lent) duration) }
+{
+    let lent = held.lent;
+    let available = window(lent.guard, duration);
+    let mut set: u64 = 0;
+    for q in 0..PORTS {
+        let bits = demand_of(q);
+        if port_fails(
+            lent.rates[q],
+            lent.blockings[q],
+            lent.extras[q],
+            available,
+            bits,
+        ) {
+            set |= 1u64 << q;
+        }
+    }
+    failing_ports(set)
+}
+
+// Those ports by a table of the demands, which is left in out.
 pub(crate) fn failing_at(held: Held, duration: u64, out: &mut [u64]) -> FailingPorts
     requires { (1 ≤ duration) × (duration ≤ held.lent.top) × (length out.old ≡ port_slots) }
     ensures { FailingAt (plan_lent held.entry.lent) duration result.port result.count out.new }
 {
     demands(held, duration, out);
-    let available = window(held.lent.guard, duration);
-    let set = failing_set(held.lent, available, &out[..]);
-    failing_ports(set)
+    let table = &out[..];
+    failing_by(held, duration, |q| table[q])
 }

@@ -1,43 +1,17 @@
 // A search over a scratch of one number, whatever its goal.
-ghost use Rattle.std.specs.Prelude.{◌≡◌, ◌≤◌};
-ghost use Rattle.cqf.specs.Condition.{failing, lowest_failing};
+ghost use Rattle.std.specs.Prelude.{◌≡◌};
 ghost use Rattle.tables.specs.Lent.{plan_lent};
 ghost use Rattle.questions.specs.Answer.{search_of};
 ghost use Rattle.questions.specs.Search.{wanted, none_number};
 ghost use Rattle.questions.specs.Lean.{LeanEnds};
 
-use super::failing::port_fails;
+use super::failing::failing_by;
 use super::highest::highest_slot;
 use super::lean_seek::lean_seek;
 use super::port_demand::port_demand;
 use super::search::SearchRefusal;
 use super::seek::Goal;
-use numbers::port::{FailingPorts, failing_ports, window};
-use tables::{Held, Lent, PORTS, hold};
-
-// The ports that fail at a duration, port by port: the lowest, and how many.
-fn lean_failing(held: Held, duration: u64) -> FailingPorts
-    requires { (1 ≤ duration) × (duration ≤ held.lent.top) }
-    ensures { (result.port ≡ lowest_failing (plan_lent held.entry.lent) duration)
-        × (result.count ≡ failing (plan_lent held.entry.lent) duration) }
-{
-    let lent = held.lent;
-    let available = window(lent.guard, duration);
-    let mut set: u64 = 0;
-    for q in 0..PORTS {
-        let bits = port_demand(held, duration, q);
-        if port_fails(
-            lent.rates[q],
-            lent.blockings[q],
-            lent.extras[q],
-            available,
-            bits,
-        ) {
-            set |= 1u64 << q;
-        }
-    }
-    failing_ports(set)
-}
+use tables::{Lent, hold};
 
 // A search over the first number of a scratch, which is left with the demand of the highest-numbered crossed port.
 pub fn lean_tables(goal: Goal, lent: Lent, scratch: &mut [u64]) -> Result<u64, SearchRefusal>
@@ -57,7 +31,7 @@ pub fn lean_tables(goal: Goal, lent: Lent, scratch: &mut [u64]) -> Result<u64, S
     let q = highest_slot(held);
     scratch[0] = port_demand(held, at, q);
     if limit < found {
-        let ports = lean_failing(held, limit);
+        let ports = failing_by(held, limit, |q| port_demand(held, limit, q));
         return Err(SearchRefusal::Failing {
             port: ports.port,
             count: ports.count,

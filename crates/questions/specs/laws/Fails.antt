@@ -12,8 +12,8 @@ use Rattle.cqf.specs.Port.{workload_of, fails_by_of, capacity, workload}
 use Rattle.cqf.specs.Condition.{demand, crossed, slack, fails, failing, lowest_failing}
 use Rattle.cqf.proofs.laws.Condition.{demand_pos, demand-crossed}
 use Rattle.cqf.proofs.laws.Tabulate.{tabulate-at}
-use Rattle.questions.specs.Failing.{set_to, fails_in}
-use Rattle.questions.specs.laws.Sets.{set_same, set_lowest, set_ones}
+use Rattle.questions.specs.Failing.{set_to}
+use Rattle.questions.specs.laws.Sets.{set_lowest, set_ones}
 
 -- what a port can send and must be able to send, by its numbers
 capacity_is : (p : Plan) (q T : ℕ) → capacity p q T ≡ rate_of p q * (T - 2 * p.guard)
@@ -48,20 +48,6 @@ module _ (p : Plan) (valid : valid_plan p ≡ true) (T : ℕ) (long : 0 < T) whe
       fails_is p T q
       ∙ ap₂ (λ (x y : Bool). x && y) (crossed-demand q)
       (ap₂ ltb (capacity_is p q T) (workload_is p q (demand p q T)))
-
-  -- the set of the ports that fail by the window and the table of demands
-  pub failing_set
-      : {window set : ℕ} {out : List ℕ}
-      → window ≡ T - 2 * p.guard
-      → out ≡ tabulate port_slots (λ q. demand p q T)
-      → set ≡ set_to port_slots (fails_in p.rates p.blockings p.extras window out)
-      → set ≡ set_to port_slots (fails p T)
-  failing_set w d e =
-      e
-      ∙ ap₂ (λ (w : ℕ) (l : List ℕ). set_to port_slots (fails_in p.rates p.blockings p.extras w l)) w d
-      ∙ set_same port_slots _ (fails p T)
-      (λ q l.
-      ap (fails_by_of (rate_of p q) (blocking_of p q) (extra_of p q) (T - 2 * p.guard)) (tabulate-at port_slots (λ q. demand p q T) q l) ∙ sym (fails_by q))
 
 -- the lowest port of the set, and how many it has
 module _ (p : Plan) (T : ℕ) {s : ℕ} (is : s ≡ set_to port_slots (fails p T)) where

@@ -27,12 +27,6 @@ set_lt (suc n) b = go (b n) (set_lt n b)
     go true h = omega (arith, pow-suc 2 n)
     go false h = omega (arith, pow-suc 2 n)
 
--- sets of the same numbers
-pub set_same : (n : ℕ) (b d : ℕ → Bool) → ((i : ℕ) → i < n → b i ≡ d i) → set_to n b ≡ set_to n d
-unfolding set_to
-set_same zero b d h = refl
-set_same (suc n) b d h = rw (h n (omega arith), set_same n b d (λ i l. h i (omega arith)))
-
 -- its lowest bit, and the bits above it
 pub shift : (n : ℕ) (b : ℕ → Bool) → set_to (suc n) b ≡ cond (b zero) 1 0 + 2 * set_to n (λ i. b (suc i))
 unfolding set_to

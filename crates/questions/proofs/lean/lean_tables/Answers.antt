@@ -29,8 +29,8 @@ port_demand-requires c =
 pub bounds-scratch-0 : goal.bounds-scratch-0
 bounds-scratch-0 c = omega (arith, c.if-size-eq0.false)
 
-pub lean_failing-ports-requires : goal.lean_failing-ports-requires
-lean_failing-ports-requires c = (top_positive _ c.in-Some.held.valid, le_refl _)
+pub failing_by-ports-requires-clause-range : goal.failing_by-ports-requires-clause-range
+failing_by-ports-requires-clause-range c = (top_positive _ c.in-Some.held.valid, le_refl _)
 
 pub returns-then-limit-found : goal.returns-then-limit-found
 returns-then-limit-found c =
@@ -39,7 +39,7 @@ returns-then-limit-found c =
     let some : 1 ≤ length c.args.scratch.now = omega (arith, c.if-size-eq0.false) in
     let left : c.port_demand.result ≡ demand p (highest_crossed p - 1) p.top =
     c.port_demand.ensures ∙ ap₂ (demand p) c.highest_slot-q.ensures (omega (arith, c.min-at.ensures, c.if-limit-found.true)) in
-    let f = c.lean_failing-ports.ensures in
+    let f = c.failing_by-ports.ensures in
     rw (sym c.in-Some.ensures) (lean_above (none_number c.args.goal) (wanted c.args.goal) p c.args.scratch.now held.valid some c.lean_seek-found.ensures (omega (arith, c.if-limit-found.true)) left f.0 f.1)
 
 pub returns : goal.returns

@@ -5,33 +5,39 @@ use borrow.Author.Rules.{rules}
 use Rattle.cqf.specs.Limits.{port_slots}
 use Rattle.cqf.specs.Plan.{rate_of, blocking_of, extra_of}
 use Rattle.cqf.specs.Port.{fails_by_of}
-use Rattle.cqf.specs.Condition.{fails}
+use Rattle.cqf.specs.Condition.{demand, fails}
 use Rattle.cqf.proofs.laws.Ranges.{top_most}
 use Rattle.tables.specs.Lent.{plan_lent}
 use Rattle.questions.specs.Failing.{set_to}
 use Rattle.questions.specs.laws.Fails.{fails_by, set_lowest_failing, set_failing}
 use Rattle.questions.specs.laws.Sets.{set_or, set_skip}
 use Rattle.questions.specs.laws.Widened.{demand_fits}
-use Rattle.questions.proofs.lean.lean_failing.Goals as goal
-use Rattle.questions.proofs.lean.lean_failing.Goals.{then-port_fails, else-port_fails}
+use Rattle.questions.proofs.failing.failing_by.Goals as goal
+use Rattle.questions.proofs.failing.failing_by.Goals.{then-port_fails, else-port_fails}
 
 pub loop-q-init : goal.loop-q-init
 unfolding set_to
-loop-q-init c = search rules
+loop-q-init g c = search rules
 
 pub port_fails-requires : goal.port_fails-requires
-port_fails-requires c =
+port_fails-requires g c =
     let valid = c.args.held.valid in
-    (omega (arith, c.window-available.ensures, top_most _ valid, c.requires.1), le_trans (le_of_eq c.port_demand-bits.ensures) (demand_fits _ valid c.args.duration c.requires.1 c.loop-q.q c.loop-q-test.true))
-
-pub loop-q-preserved : goal.loop-q-preserved
-loop-q-preserved c =
     let p = plan_lent c.args.held.lent in
     let q = c.loop-q.q in
-    let tested : c.port_fails.result ≡ fails p c.args.duration q =
+    let T = c.args.duration in
+    let bits : c.demand_of-bits.result ≡ demand p q T = c.requires.demands q _ c.loop-q-test.true c.demand_of-bits.ensures in
+    (omega (arith, c.window-available.ensures, top_most p valid, c.requires.range.1), le_trans (le_of_eq bits) (demand_fits p valid T c.requires.range.1 q c.loop-q-test.true))
+
+pub loop-q-preserved : goal.loop-q-preserved
+loop-q-preserved g c =
+    let p = plan_lent c.args.held.lent in
+    let q = c.loop-q.q in
+    let T = c.args.duration in
+    let bits : c.demand_of-bits.result ≡ demand p q T = c.requires.demands q _ c.loop-q-test.true c.demand_of-bits.ensures in
+    let tested : c.port_fails.result ≡ fails p T q =
     c.port_fails.ensures
-    ∙ ap₂ (fails_by_of (rate_of p q) (blocking_of p q) (extra_of p q)) c.window-available.ensures c.port_demand-bits.ensures
-    ∙ sym (fails_by p c.args.held.valid c.args.duration c.requires.0 q)
+    ∙ ap₂ (fails_by_of (rate_of p q) (blocking_of p q) (extra_of p q)) c.window-available.ensures bits
+    ∙ sym (fails_by p c.args.held.valid T c.requires.range.0 q)
     in
     elim c.if-port_fails.branch [
       | then-port_fails w ↦ w.set-is ∙ set_or q _ c.loop-q-test.true c.loop-q.invariant (sym tested ∙ w.if-port_fails.true)
@@ -39,7 +45,7 @@ loop-q-preserved c =
     ]
 
 pub returns : goal.returns
-returns c =
+returns g c =
     let p = plan_lent c.args.held.lent in
     let all : c.loop-q.q ≡ port_slots = omega arith in
     let is = rw all at c.loop-q.invariant in
