@@ -15,12 +15,3 @@ pub use planned::{write_columns, write_plan};
 
 // The most bytes of a text.
 pub const MAX_TEXT: usize = 65_536;
-
-#[derive(Clone, Copy)]
-pub enum TextAnswer {
-    // The length written.
-    Written(usize),
-    NoPlan,
-    // The length needed.
-    ShortBuffer(usize),
-}

@@ -9,10 +9,9 @@ pub(crate) fn put_byte(out: &mut [u8], at: usize, byte: u8) -> usize
     requires { at ≤ farthest }
     ensures { Puts 1 (byte ∷ []) out.old at result out.new }
 {
-    if out.len() <= at {
-        return at + 1;
+    if at < out.len() {
+        out[at] = byte;
     }
-    out[at] = byte;
     at + 1
 }
 
@@ -21,10 +20,8 @@ pub(crate) fn put_bytes(out: &mut [u8], at: usize, bytes: &[u8]) -> usize
     ensures { Puts (length bytes.now) bytes.now out.old at result out.new }
 {
     let mut next = at;
-    let mut i: usize = 0;
-    while i < bytes.len() {
-        next = put_byte(out, next, bytes[i]);
-        i += 1;
+    for byte in bytes {
+        next = put_byte(out, next, *byte);
     }
     next
 }
@@ -58,11 +55,9 @@ pub(crate) fn put_decimal(out: &mut [u8], at: usize, most: usize, n: u32) -> usi
     requires { (at + most ≤ farthest) × (2 ≤ most) }
     ensures { Puts most (digits_by most n) out.old at result out.new }
 {
-    if n < 10 {
-        return put_digits(out, at, most, n);
+    if 10 <= n && n < 100 {
+        put_two(out, at, most, n)
+    } else {
+        put_digits(out, at, most, n)
     }
-    if n < 100 {
-        return put_two(out, at, most, n);
-    }
-    put_digits(out, at, most, n)
 }

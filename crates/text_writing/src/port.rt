@@ -1,26 +1,13 @@
 // The lines of the ports, by rising number.
-ghost use Rattle.std.specs.Prelude.{◌≡◌, [], ◌+◌, ◌*◌, ◌≤◌, ◌<◌};
+ghost use Rattle.std.specs.Prelude.{◌+◌, ◌*◌, ◌≤◌, ◌<◌};
 ghost use Rattle.cqf.specs.Limits.{port_slots};
-ghost use Rattle.cqf.specs.Plan.{equal_clocks};
 ghost use Rattle.plan_text.specs.Print.{lines_bytes, lines_to};
-ghost use Rattle.tables.specs.Columns.{columns};
+ghost use Rattle.tables.specs.Lent.{plan_lent};
 ghost use Rattle.text_writing.specs.Puts.{Puts, far_text};
 ghost use Rattle.text_writing.specs.Bytes.{port_bytes, most_port, port_at};
 
 use crate::word::{put_end, put_first, put_pair, put_unless};
-use tables::{PORTS, columns};
-
-pub(crate) fn wide1(n: u8) -> u32
-    ensures { result ≡ n }
-{
-    n as u32
-}
-
-pub(crate) fn wide2(n: u16) -> u32
-    ensures { result ≡ n }
-{
-    n as u32
-}
+use tables::{Held, PORTS};
 
 // The line of a port with these numbers.
 fn put_port(out: &mut [u8], at: usize, number: u32, rate: u32, blocking: u32, extra: u32) -> usize
@@ -35,41 +22,27 @@ fn put_port(out: &mut [u8], at: usize, number: u32, rate: u32, blocking: u32, ex
 }
 
 // The line of a slot, if it holds a port.
-fn put_port_slot<'a>(
-    slot: usize,
-    rates: &'a columns::Rates,
-    blockings: &'a columns::Blockings,
-    extras: &'a columns::Extras,
-    out: &mut [u8],
-    at: usize,
-) -> usize
+fn put_port_slot(held: Held, slot: usize, out: &mut [u8], at: usize) -> usize
     requires { (slot < port_slots) × (at ≤ far_text) }
-    ensures { Puts most_port (lines_bytes (port_at (columns equal_clocks rates.now blockings.now extras.now [] [] [] [] [] []) slot)) out.old at result out.new }
+    ensures { Puts most_port (lines_bytes (port_at (plan_lent held.entry.lent) slot)) out.old at result out.new }
 {
-    let rate = rates[slot];
+    let lent = held.lent;
+    let rate = lent.rates[slot];
     if rate == 0 {
         return at;
     }
-    let blocking = wide2(blockings[slot]);
-    let extra = wide1(extras[slot]);
+    let blocking = u32::from(lent.blockings[slot]);
+    let extra = u32::from(lent.extras[slot]);
     put_port(out, at, (slot + 1) as u32, rate, blocking, extra)
 }
 
-pub(crate) fn put_ports<'a>(
-    rates: &'a columns::Rates,
-    blockings: &'a columns::Blockings,
-    extras: &'a columns::Extras,
-    out: &mut [u8],
-    at: usize,
-) -> usize
+pub(crate) fn put_ports(held: Held, out: &mut [u8], at: usize) -> usize
     requires { at + port_slots * most_port ≤ far_text }
-    ensures { Puts (port_slots * most_port) (lines_bytes (lines_to port_slots (port_at (columns equal_clocks rates.now blockings.now extras.now [] [] [] [] [] [])))) out.old at result out.new }
+    ensures { Puts (port_slots * most_port) (lines_bytes (lines_to port_slots (port_at (plan_lent held.entry.lent)))) out.old at result out.new }
 {
     let mut next = at;
-    let mut slot: usize = 0;
-    while slot < PORTS {
-        next = put_port_slot(slot, rates, blockings, extras, out, next);
-        slot += 1;
+    for slot in 0..PORTS {
+        next = put_port_slot(held, slot, out, next);
     }
     next
 }

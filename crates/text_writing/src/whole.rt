@@ -4,9 +4,10 @@ ghost use Rattle.cqf.specs.Plan.{clocks_equal};
 ghost use Rattle.numbers.specs.Clock.{clock_of};
 ghost use Rattle.plan.specs.Answer.{form_of};
 ghost use Rattle.plan_text.specs.Print.{form_line, lines_bytes, text_of};
-ghost use Rattle.tables.specs.Columns.{columns, plan_by};
+ghost use Rattle.tables.specs.Columns.{columns};
+ghost use Rattle.tables.specs.Lent.{plan_lent};
 ghost use Rattle.text_writing.specs.Puts.{Puts, far_text};
-ghost use Rattle.text_writing.specs.Bytes.{clocks_bytes, clocks_at, most_form, most_clocks, most_text, HopsFit};
+ghost use Rattle.text_writing.specs.Bytes.{clocks_bytes, clocks_at, most_form, most_clocks, most_text};
 
 use crate::flow::put_flows;
 use crate::number::put_bytes;
@@ -14,7 +15,7 @@ use crate::port::put_ports;
 use crate::word::{put_end, put_line, put_pair};
 use numbers::clock::Clock;
 use plan::Form;
-use tables::columns;
+use tables::Held;
 
 // The line of the form; the older one has none.
 fn put_form(form: Form, out: &mut [u8]) -> usize
@@ -30,13 +31,7 @@ fn put_form(form: Form, out: &mut [u8]) -> usize
 fn clocks_equal(clock: Clock) -> bool
     ensures { result ≡ clocks_equal (columns (clock_of clock) [] [] [] [] [] [] [] [] []) }
 {
-    if clock.drift != 0 {
-        return false;
-    }
-    if clock.timing_jitter != 0 {
-        return false;
-    }
-    clock.sync_error == 0
+    clock.drift == 0 && clock.timing_jitter == 0 && clock.sync_error == 0
 }
 
 fn put_clock_numbers(clock: Clock, out: &mut [u8], at: usize) -> usize
@@ -56,35 +51,21 @@ fn put_clocks(clock: Clock, out: &mut [u8], at: usize) -> usize
     ensures { Puts most_clocks (lines_bytes (clocks_at (columns (clock_of clock) [] [] [] [] [] [] [] [] []))) out.old at result out.new }
 {
     if clocks_equal(clock) {
-        return at;
+        at
+    } else {
+        put_clock_numbers(clock, out, at)
     }
-    put_clock_numbers(clock, out, at)
 }
 
 // Each line behind those before it; the answer is how many bytes they are.
-pub(crate) fn put_text<'a>(
-    form: Form,
-    guard: u32,
-    top: u32,
-    clock: Clock,
-    rates: &'a columns::Rates,
-    blockings: &'a columns::Blockings,
-    extras: &'a columns::Extras,
-    periods: &'a columns::Periods,
-    counts: &'a columns::Counts,
-    lengths: &'a columns::Lengths,
-    jitters: &'a columns::Jitters,
-    hops: &'a columns::Hops,
-    routes: &'a columns::Routes,
-    out: &mut [u8],
-) -> usize
-    requires { HopsFit hops.now }
-    ensures { Puts most_text (text_of (form_of form) (plan_by guard top (clock_of clock) rates.now blockings.now extras.now periods.now counts.now lengths.now jitters.now hops.now routes.now)) out.old 0 result out.new }
+pub(crate) fn put_text(form: Form, held: Held, out: &mut [u8]) -> usize
+    ensures { Puts most_text (text_of (form_of form) (plan_lent held.entry.lent)) out.old 0 result out.new }
 {
+    let lent = held.lent;
     let formed = put_form(form, out);
-    let guarded = put_line(out, formed, b"guard", guard);
-    let topped = put_line(out, guarded, b"top", top);
-    let ported = put_ports(rates, blockings, extras, out, topped);
-    let flowing = put_flows(periods, counts, lengths, jitters, hops, routes, out, ported);
-    put_clocks(clock, out, flowing)
+    let guarded = put_line(out, formed, b"guard", lent.guard);
+    let topped = put_line(out, guarded, b"top", lent.top);
+    let ported = put_ports(held, out, topped);
+    let flowing = put_flows(held, out, ported);
+    put_clocks(lent.clock, out, flowing)
 }

@@ -52,9 +52,10 @@ pub(crate) fn put_unless(out: &mut [u8], at: usize, word: &[u8], n: u32, absent:
     ensures { Puts (1 + (length word.now + 10)) (unless_bytes word.now n absent) out.old at result out.new }
 {
     if n == absent {
-        return at;
+        at
+    } else {
+        put_pair(out, at, word, n)
     }
-    put_pair(out, at, word, n)
 }
 
 // A line of a word and a number.

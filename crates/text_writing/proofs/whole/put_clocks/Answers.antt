@@ -1,6 +1,5 @@
 -- `put_clocks` meets its contract, by whether the clocks are equal.
-use Rattle.std.proofs.Common.{[], not}
-use mathlib.Core.Path.{sym, ap, ◌∙◌}
+use Rattle.std.proofs.Common.{[], not, sym, ap, ◌∙◌}
 use Rattle.cqf.specs.Plan.{clocks_equal}
 use Rattle.numbers.specs.Clock.{clock_of}
 use Rattle.plan_text.specs.Print.{clocks_line}
@@ -15,7 +14,7 @@ returns-then-clocks_equal c =
     let p = columns (clock_of c.args.clock) [] [] [] [] [] [] [] [] [] in
     puts_no_line (clocks_line p) (not (clocks_equal p)) (ap not (sym c.clocks_equal.ensures ∙ c.if-clocks_equal.true))
 
-pub returns : goal.returns
-returns c =
+pub returns-else-clocks_equal : goal.returns-else-clocks_equal
+returns-else-clocks_equal c =
     let p = columns (clock_of c.args.clock) [] [] [] [] [] [] [] [] [] in
     puts_line (clocks_line p) (not (clocks_equal p)) (ap not (sym c.clocks_equal.ensures ∙ c.if-clocks_equal.false)) (puts_as (sym (clocks_bytes_lem p)) c.put_clock_numbers.ensures)

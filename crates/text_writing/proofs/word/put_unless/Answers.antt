@@ -1,5 +1,5 @@
 -- `put_unless` meets its contract, by the number.
-use borrow.Author.Tests.{eq-eqb}
+use Rattle.std.proofs.Common.{eq-eqb}
 use Rattle.text_writing.specs.laws.Puts.{puts_none}
 use Rattle.text_writing.proofs.word.put_unless.Goals as goal
 
