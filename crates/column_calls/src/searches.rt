@@ -1,105 +1,25 @@
-// The searches over tables that are lent column by column.
+// The searches over tables that are lent column by column: each goal has a call of its own, in the documents and for C.
 ghost use Rattle.std.specs.Prelude.{◌≡◌};
-ghost use Rattle.cqf.specs.Form.{held_top};
-ghost use Rattle.numbers.specs.Clock.{clock_of};
-ghost use Rattle.tables.specs.Columns.{plan_by};
 ghost use Rattle.questions.specs.Answer.{least_of, margin_safe_of};
 ghost use Rattle.questions.specs.Outcome.{least_answer, least_leaves, margin_safe_answer, margin_safe_leaves};
+ghost use Rattle.column_calls.specs.Formed.{plan_formed};
 
-use numbers::clock::Clock;
-use questions::{Goal, SearchAnswer, search_tables};
-use tables::{columns, held_top};
+use crate::forms::formed;
+use questions::{Goal, SearchRefusal, search_tables};
+use tables::Lent;
 
 // The least admissible duration; 22 where there is none.
-pub fn least_columns<'a>(
-    form: u32,
-    guard: u32,
-    top: u32,
-    clock: Clock,
-    rates: &'a columns::Rates,
-    blockings: &'a columns::Blockings,
-    extras: &'a columns::Extras,
-    periods: &'a columns::Periods,
-    counts: &'a columns::Counts,
-    lengths: &'a columns::Lengths,
-    jitters: &'a columns::Jitters,
-    hops: &'a columns::Hops,
-    routes: &'a columns::Routes,
-    scratch: &mut [u64],
-) -> SearchAnswer
-    ensures { (least_of result ≡ least_answer
-        (plan_by guard (held_top form hops.now top) (clock_of clock) rates.now blockings.now
-        extras.now periods.now counts.now lengths.now jitters.now
-        hops.now routes.now)
-        scratch.old)
-        × (scratch.new ≡ least_leaves
-        (plan_by guard (held_top form hops.now top) (clock_of clock) rates.now blockings.now
-        extras.now periods.now counts.now lengths.now jitters.now
-        hops.now routes.now)
-        scratch.old) }
+pub fn least_columns(form: u32, lent: Lent, scratch: &mut [u64]) -> Result<u64, SearchRefusal>
+    ensures { (least_of result ≡ least_answer (plan_formed form lent.entry) scratch.old)
+        × (scratch.new ≡ least_leaves (plan_formed form lent.entry) scratch.old) }
 {
-    let held = held_top(form, hops, top);
-    search_tables(
-        Goal::Least,
-        guard,
-        held,
-        clock,
-        rates,
-        blockings,
-        extras,
-        periods,
-        counts,
-        lengths,
-        jitters,
-        hops,
-        routes,
-        scratch,
-    )
+    search_tables(Goal::Least, formed(form, lent), scratch)
 }
 
 // The margin-safe duration; 23 where there is none.
-pub fn margin_safe_columns<'a>(
-    form: u32,
-    guard: u32,
-    top: u32,
-    clock: Clock,
-    rates: &'a columns::Rates,
-    blockings: &'a columns::Blockings,
-    extras: &'a columns::Extras,
-    periods: &'a columns::Periods,
-    counts: &'a columns::Counts,
-    lengths: &'a columns::Lengths,
-    jitters: &'a columns::Jitters,
-    hops: &'a columns::Hops,
-    routes: &'a columns::Routes,
-    scratch: &mut [u64],
-) -> SearchAnswer
-    ensures { (margin_safe_of result ≡ margin_safe_answer
-        (plan_by guard (held_top form hops.now top) (clock_of clock) rates.now blockings.now
-        extras.now periods.now counts.now lengths.now jitters.now
-        hops.now routes.now)
-        scratch.old)
-        × (scratch.new ≡ margin_safe_leaves
-        (plan_by guard (held_top form hops.now top) (clock_of clock) rates.now blockings.now
-        extras.now periods.now counts.now lengths.now jitters.now
-        hops.now routes.now)
-        scratch.old) }
+pub fn margin_safe_columns(form: u32, lent: Lent, scratch: &mut [u64]) -> Result<u64, SearchRefusal>
+    ensures { (margin_safe_of result ≡ margin_safe_answer (plan_formed form lent.entry) scratch.old)
+        × (scratch.new ≡ margin_safe_leaves (plan_formed form lent.entry) scratch.old) }
 {
-    let held = held_top(form, hops, top);
-    search_tables(
-        Goal::MarginSafe,
-        guard,
-        held,
-        clock,
-        rates,
-        blockings,
-        extras,
-        periods,
-        counts,
-        lengths,
-        jitters,
-        hops,
-        routes,
-        scratch,
-    )
+    search_tables(Goal::MarginSafe, formed(form, lent), scratch)
 }

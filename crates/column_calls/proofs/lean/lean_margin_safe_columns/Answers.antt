@@ -1,13 +1,7 @@
--- `column_calls::lean::lean_margin_safe_columns` meets its contract: the columns are lent on.
-use borrow.Author.Rules.{rules}
+-- `column_calls::lean::lean_margin_safe_columns` meets its contract: the search ends as it says at this goal.
+use Rattle.tables.specs.Lent.{plan_lent}
 use Rattle.questions.specs.laws.Leanly.{lean_margin_safe_ends}
 use Rattle.column_calls.proofs.lean.lean_margin_safe_columns.Goals as goal
 
 pub returns : goal.returns
-returns c = lean_margin_safe_ends _ _ (rw c.held_top-held.ensures at c.lean_tables.ensures)
-
-pub held_top-held-requires : goal.held_top-held-requires
-held_top-held-requires = (λ c. tt)
-
-pub lean_tables-requires : goal.lean_tables-requires
-lean_tables-requires = (λ c. tt)
+returns c = rw c.formed.ensures at (lean_margin_safe_ends (plan_lent c.formed.result) c.args.scratch.now c.lean_tables.ensures)

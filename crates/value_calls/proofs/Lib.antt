@@ -1,0 +1,2 @@
+-- What the calls by value say of the tables that they lend.
+pub mod Lending

@@ -1,0 +1,6 @@
+-- `value_calls::usable::span` meets its contract: the plan lent is the planner's.
+use Rattle.value_calls.proofs.Lending.{lent_formed}
+use Rattle.value_calls.proofs.usable.span.Goals as goal
+
+pub returns-clause-means : goal.returns-clause-means
+returns-clause-means c = rw (lent_formed c.lend.ensures) at c.span_columns.ensures.means
