@@ -8,68 +8,39 @@ ghost use Rattle.tables.specs.Tables.{plan_of};
 ghost use Rattle.text_coding.specs.Encode.{EncodesReading, Encodes};
 ghost use Rattle.text_coding.specs.Answer.{encoded_of};
 
-use crate::EncodeAnswer;
+use crate::EncodeRefusal;
 use plan::Form;
-use plan_text::{TextAnswer, read_text};
-use saving::{SaveAnswer, save_tables};
+use plan_text::read_text;
+use saving::save_tables;
 use tables::{Planner, held_top};
+use writing::SaveRefusal;
 
 fn form_of(newer: bool) -> Form
     ensures { form_of result ≡ form_by newer }
 {
-    if newer {
-        return Form::Newer;
-    }
-    Form::Older
+    if newer { Form::Newer } else { Form::Older }
 }
 
 // The plan of a planner, written in this form.
-fn write_plan(form: Form, planner: Planner, out: &mut [u8]) -> EncodeAnswer
-    requires { valid_plan (plan_of planner) ≡ true }
-    ensures { EncodesReading (reads (form_of form) (plan_of planner)) out.old (encoded_of result) out.new }
+fn write_plan(form: Form, planner: &Planner, out: &mut [u8]) -> Result<usize, EncodeRefusal>
+    requires { valid_plan (plan_of planner.now) ≡ true }
+    ensures { EncodesReading (reads (form_of form) (plan_of planner.now)) out.old (encoded_of result) out.new }
 {
     let top = held_top(planner.form, &planner.hops, planner.top);
-    match save_tables(
-        form,
-        planner.guard,
-        top,
-        planner.clock,
-        &planner.rates,
-        &planner.blockings,
-        &planner.extras,
-        &planner.periods,
-        &planner.counts,
-        &planner.lengths,
-        &planner.jitters,
-        &planner.hops,
-        &planner.routes,
-        out,
-    ) {
-        SaveAnswer::Written(size) => EncodeAnswer::Written(size),
-        SaveAnswer::ShortBuffer(size) => EncodeAnswer::Short(size),
-        SaveAnswer::NoPlan => EncodeAnswer::Short(0),
+    match save_tables(form, planner.lend().upto(top), out) {
+        Ok(size) => Ok(size),
+        Err(SaveRefusal::ShortBuffer(size)) => Err(EncodeRefusal::Short(size)),
+        Err(SaveRefusal::NoPlan) => Err(EncodeRefusal::Short(0)),
     }
 }
 
 // The strict bytes of the plan that a text says, in the form that the text asks for.
-pub fn encode_text(text: &[u8], out: &mut [u8]) -> EncodeAnswer
+pub fn encode_text(text: &[u8], out: &mut [u8]) -> Result<usize, EncodeRefusal>
     ensures { Encodes text.now out.old (encoded_of result) out.new }
 {
     let outcome = read_text(text);
-    let held = outcome.planner;
-    let answer = outcome.answer;
-    match answer {
-        TextAnswer::Plan { newer } => write_plan(form_of(newer), held, out),
-        TextAnswer::Refused {
-            line,
-            fault,
-            item,
-            value,
-        } => EncodeAnswer::Refused {
-            line,
-            fault,
-            item,
-            value,
-        },
+    match outcome.answer {
+        Ok(plan) => write_plan(form_of(plan.newer), &outcome.planner, out),
+        Err(refusal) => Err(EncodeRefusal::Refused(refusal)),
     }
 }

@@ -1,12 +1,16 @@
 -- Laws of the encoding of a text, by what was read.
-use Rattle.std.specs.Prelude.{ℕ, refl, Bool, List, [], ◌∷◌, leb, length}
+use Rattle.std.specs.Prelude.{Result, Ok, Err, ℕ, refl, Bool, List, [], ◌∷◌, leb, length}
 use Rattle.std.proofs.Math.Path.{◌≡◌, sym, ap}
 use Rattle.std.proofs.Common.{◌∙◌}
 use Rattle.std.proofs.Math.Bool.{true, false, cond}
 use native.Mathlib.Omega.{arith}
 use Rattle.answers.specs.Answer.{Answer, result, refusal, refusal_number}
 use Rattle.answers.specs.Refusals.{short_buffer, no_plan_held}
-use Rattle.cqf.specs.Form.{Form, older, newer}
+use Rattle.cqf.specs.Form.{Form, older, newer, held_top}
+use Rattle.tables.specs.Tables.{plan_of}
+use Rattle.tables.specs.Lent.{plan_lent, LentOf}
+use Rattle.tables.specs.declared.Planner.{Planner}
+use Rattle.tables.specs.declared.lending.Lent.{Lent}
 use Rattle.cqf.specs.Plan.{Plan, no_plan, valid_plan}
 use Rattle.plan_reading.specs.Saved.{form_bytes}
 use Rattle.plan_text.specs.Line.{form_by}
@@ -17,7 +21,8 @@ use Rattle.plan_text.specs.laws.Closed.{rejected_reads}
 use Rattle.plan_text.specs.laws.Whole.{text_said}
 use Rattle.plan_text.specs.declared.grammar.Fault.{Fault}
 use Rattle.plan_text.specs.declared.grammar.Item.{Item}
-use Rattle.plan_text.specs.declared.text.TextAnswer.{TextAnswer}
+use Rattle.plan_text.specs.declared.text.TextPlan.{TextPlan}
+use Rattle.plan_text.specs.declared.refusal.TextRefusal.{TextRefusal}
 use Rattle.saving.specs.Save.{save_answer, save_leaves}
 use Rattle.saving.specs.Outcome.{Saves}
 use Rattle.text_coding.specs.Encode.{Encoded, answered, refused, encoded_answer, encoded_leaves, encode_answer, encode_leaves, EncodesReading, Encodes}
@@ -39,6 +44,10 @@ module _ (form : Form) (p : Plan) (buffer : List ℕ) (valid : valid_plan p ≡ 
       go true h = let z : ◌≡◌ {A = ℕ} 0 1 = cc in omega arith
       go false h = omega (arith, ap (λ (a : Answer ℕ). refusal_number a) h)
 
+-- a planner that is lent under the top of its form
+pub lent_plan : (t : Planner) (l m : Lent) {top : ℕ} → LentOf t l → top ≡ held_top t.form t.hops t.top → m ≡ record l { top = top } → plan_lent m ≡ plan_of t
+lent_plan t l m e h is = rw is (rw (h, e.guard, e.clock, e.rates, e.blockings, e.extras, e.periods, e.counts, e.lengths, e.jitters, e.hops, e.routes))
+
 -- a plan that was read
 pub record Read (text : List ℕ) (form : Form) (p : Plan) : Type 0 where
   pub says : read_text text ≡ reads form p
@@ -49,24 +58,24 @@ form_by_lem older = refl
 form_by_lem newer = refl
 
 module _ (text : List ℕ) where
-  pub read_plan : (asked : Bool) (p : Plan) → TextAnswer.Plan asked ≡ text_answer (read_text text) → p ≡ text_leaves (read_text text) → Read text (form_by asked) p
+  pub read_plan : (asked : Bool) (p : Plan) → ◌≡◌ {A = Result TextPlan TextRefusal} (Ok (record { newer = asked })) (text_answer (read_text text)) → p ≡ text_leaves (read_text text) → Read text (form_by asked) p
   read_plan asked p answer leaves = go (read_text text) refl answer leaves
     where
-      go : (r : Reading) → read_text text ≡ r → TextAnswer.Plan asked ≡ text_answer r → p ≡ text_leaves r → Read text (form_by asked) p
+      go : (r : Reading) → read_text text ≡ r → ◌≡◌ {A = Result TextPlan TextRefusal} (Ok (record { newer = asked })) (text_answer r) → p ≡ text_leaves r → Read text (form_by asked) p
       go (reads form q) e a l =
-          let same : reads (form_by asked) q ≡ reads form q = ap (λ (t : TextAnswer). reading_of t q) a ∙ ap (λ (f : Form). reads f q) (form_by_lem form) in
+          let same : reads (form_by asked) q ≡ reads form q = ap (λ (t : Result TextPlan TextRefusal). reading_of t q) a ∙ ap (λ (f : Form). reads f q) (form_by_lem form) in
           record { says = e ∙ sym same ∙ ap (reads (form_by asked)) (sym l); valid = rw l (text_said text form q e).valid }
-      go (rejected line fault item value) e a l = rejected_reads (sym (ap (λ (t : TextAnswer). reading_of t p) a))
+      go (rejected line fault item value) e a l = rejected_reads (sym (ap (λ (t : Result TextPlan TextRefusal). reading_of t p) a))
 
   pub read_refused
-      : (line : ℕ) (fault : Fault) (item : Item) (value : ℕ)
-      → TextAnswer.Refused line fault item value ≡ text_answer (read_text text)
-      → read_text text ≡ rejected line fault item value
-  read_refused line fault item value answer = go (read_text text) answer
+      : (e : TextRefusal)
+      → ◌≡◌ {A = Result TextPlan TextRefusal} (Err e) (text_answer (read_text text))
+      → read_text text ≡ rejected e.line e.fault e.item e.value
+  read_refused e answer = go (read_text text) answer
     where
-      go : (r : Reading) → TextAnswer.Refused line fault item value ≡ text_answer r → r ≡ rejected line fault item value
-      go (reads form q) a = rejected_reads (ap (λ (t : TextAnswer). reading_of t q) a)
-      go (rejected n f x v) a = sym (ap (λ (t : TextAnswer). reading_of t no_plan) a)
+      go : (r : Reading) → ◌≡◌ {A = Result TextPlan TextRefusal} (Err e) (text_answer r) → r ≡ rejected e.line e.fault e.item e.value
+      go (reads form q) a = rejected_reads (ap (λ (t : Result TextPlan TextRefusal). reading_of t q) a)
+      go (rejected n f x v) a = sym (ap (λ (t : Result TextPlan TextRefusal). reading_of t no_plan) a)
 
   pub plan_encodes
       : (buffer : List ℕ) {form other : Form} {p : Plan} {answer : Encoded} {exit : List ℕ}

@@ -1,5 +1,5 @@
 -- What the encoding of a text writes lies within the buffer that it leaves.
-use Rattle.std.specs.Prelude.{ℕ, ◌≤◌, ◌≡◌, List, [], length}
+use Rattle.std.specs.Prelude.{Result, Ok, Err, ℕ, ◌≤◌, ◌≡◌, List, [], length}
 use Rattle.std.proofs.Common.{sym, ap, subst, arith}
 use Rattle.answers.specs.Answer.{Answer, result, refusal}
 use Rattle.plan_reading.specs.Saved.{form_bytes}
@@ -8,7 +8,7 @@ use Rattle.writing.specs.laws.Laid.{laid-over, over_length}
 use Rattle.plan_text.specs.Text.{Reading, reads, rejected, read_text}
 use Rattle.text_coding.specs.Encode.{Encoded, answered, refused, encoded_answer, encoded_leaves, encode_answer, encode_leaves, Encodes}
 use Rattle.text_coding.specs.Answer.{encoded_of, Inside}
-use Rattle.text_coding.specs.declared.EncodeAnswer.{EncodeAnswer}
+use Rattle.text_coding.specs.declared.EncodeRefusal.{EncodeRefusal}
 
 -- the answer of one that is not refused for its text
 abbrev answer_in : Encoded → Answer ℕ
@@ -30,7 +30,6 @@ encode_room : (text buffer : List ℕ) (n : ℕ) → answered (result n) ≡ enc
 unfolding encode_answer encode_leaves
 encode_room text buffer n e = room_in (read_text text) buffer n e
 
-pub encode_inside : (text buffer : List ℕ) (x : EncodeAnswer) (exit : List ℕ) → Encodes text buffer (encoded_of x) exit → Inside (length exit) x
-encode_inside text buffer (EncodeAnswer.Written n) exit e = subst (λ (l : List ℕ). n ≤ length l) (sym e.1) (encode_room text buffer n e.0)
-encode_inside text buffer (EncodeAnswer.Short n) exit e = tt
-encode_inside text buffer (EncodeAnswer.Refused line fault item value) exit e = tt
+pub encode_inside : (text buffer : List ℕ) (x : Result ℕ EncodeRefusal) (exit : List ℕ) → Encodes text buffer (encoded_of x) exit → Inside (length exit) x
+encode_inside text buffer (Ok n) exit e = subst (λ (l : List ℕ). n ≤ length l) (sym e.1) (encode_room text buffer n e.0)
+encode_inside text buffer (Err r) exit e = tt
