@@ -1,9 +1,9 @@
 -- A number in decimal digits, read back.
 use Rattle.std.specs.Prelude.{ℕ, zero, suc, ◌+◌, ◌-◌, ◌*◌, ◌/◌, ◌%◌, ◌≤◌, ◌<◌, ◌≡◌, refl, Bool, true, false, cond, List, [], ◌∷◌, ◌++◌, ltb, length}
-use Rattle.std.proofs.Common.{ap, ◌∙◌, arith, ltb-true}
+use Rattle.std.proofs.Common.{sym, ap, ◌∙◌, arith, ltb-true}
 use Rattle.std.proofs.Math.Option.{some, none, some-injective}
-use Rattle.words.specs.Decimal.{zero_digit, is_digit, value_from, capped_option, decimal_value}
-use Rattle.words.specs.laws.Decimal.{capped_same, value_whole, digit_byte}
+use Rattle.words.specs.Decimal.{zero_digit, is_digit, value_from, largest, capped_option, decimal_value}
+use Rattle.words.specs.laws.Decimal.{capped_same, value_whole, value-same, digit_byte}
 use Rattle.plan_text.specs.Print.{digits_by, digits}
 use Rattle.text_back.specs.laws.Bytes.{Solid, IsWord, solid_append, word_snoc}
 
@@ -77,6 +77,7 @@ max_number = 100000000
 
 pub digits_value : (n : ℕ) → n ≤ max_number → decimal_value (digits n) ≡ some n
 digits_value n most =
-    value_whole (digits n) (word_some (digits n) (digits_word n))
+    sym (value-same (digits n))
+    ∙ value_whole largest (digits n) (word_some (digits n) (digits_word n))
     ∙ ap capped_option (value_by 9 n (omega arith))
-    ∙ ap some (capped_same n (omega arith))
+    ∙ ap some (capped_same largest n (omega arith))
