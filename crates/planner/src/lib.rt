@@ -7,27 +7,28 @@ pub use answer_numbers::{
     slack_number, span_number, spans_number,
 };
 pub use batching::{
-    Batch, CollectAnswer, CollectOutcome, PlaceAnswer, PlaceOutcome, ServeAnswer, ServeOutcome,
-    collect, empty_batch, place, serve,
+    Batch, CollectOutcome, CollectRefusal, PlaceOutcome, PlaceRefusal, ServeOutcome, collect,
+    empty_batch, place, serve,
 };
 pub use column_calls::{
     check_columns, fixed_point_columns, gates_columns, lean_least_columns,
     lean_margin_safe_columns, least_columns, margin_safe_columns, nearest_columns, reprice_columns,
-    save_columns, slack_columns, span_columns,
+    save_columns, slack_columns, span_columns, spans_columns,
 };
-pub use converting::{ConvertAnswer, downgrade, upgrade};
+pub use converting::{ConvertRefusal, downgrade, upgrade};
 pub use first_calls::{
-    CheckAnswer, Fault, LoadAnswer, LoadOutcome, Planner, SearchAnswer, SlackAnswer, check, empty,
-    least, load, margin_safe, slack,
+    CheckRefusal, Fault, LoadOutcome, Loaded, Planner, Refusal, SearchRefusal, SlackRefusal, check,
+    empty, least, load, margin_safe, slack,
 };
-pub use gate_writing::GatesAnswer;
+pub use gate_writing::GatesRefusal;
 pub use loading::{load_columns, load_strict, read_plan};
 pub use plan::fault_number;
 pub use questions::{
-    FixedPointAnswer, NearestAnswer, Neighbour, RepriceAnswer, SpanAnswer, SpanRecord, SpansAnswer,
-    spans_columns,
+    FixedPoint, FixedPointRefusal, Nearest, NearestRefusal, RepriceRefusal, SpanRecord,
+    SpanRefusal, SpansRefusal,
 };
-pub use saving::SaveAnswer;
+pub use tables::Lent;
 pub use value_calls::{
     fixed_point, gates, lean_least, lean_margin_safe, nearest, reprice, save, span, spans,
 };
+pub use writing::SaveRefusal;

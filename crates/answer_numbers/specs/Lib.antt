@@ -1,0 +1,2 @@
+-- The number of each answer.
+pub mod Number
