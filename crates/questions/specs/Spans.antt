@@ -1,6 +1,6 @@
 -- What the questions for spans answer and leave in the lent list, for any held plan, any duration and any list. Tables that are not
 -- valid count as no plan held (refusal 20).
-use Rattle.std.specs.Prelude.{ℕ, List, [], ◌∷◌, ◌++◌, map, cond, ◌&&◌, leb, length, drop}
+use Rattle.std.specs.Prelude.{◌≡◌, ◌≤◌, Option, Some, None, ℕ, List, [], ◌∷◌, ◌++◌, map, cond, ◌&&◌, leb, length, drop}
 use Rattle.cqf.specs.Plan.{Plan, valid_plan}
 use Rattle.span_lists.specs.Span.{Span, spans, ending_from}
 use Rattle.answers.specs.Answer.{Answer, result, refusal}
@@ -31,6 +31,11 @@ first_or (s ∷ ss) = s
 -- the first span that ends at T or later
 unfoldable pub next_span : Plan → (T : ℕ) → Span
 next_span p T = first_or (ending_from T (spans p))
+
+-- what the code answers: that span, up to top, or none where there is none
+pub record IsNext (p : Plan) (T : ℕ) (r : Option SpanRecord) : Type 0 where
+  pub none : r ≡ None → next_span p T ≡ no_span_of
+  pub some : (s : SpanRecord) → r ≡ Some s → (span_of s ≡ next_span p T) × (1 ≤ s.last) × (s.last ≤ p.top)
 
 -- 20, 10, then 25 where there is none
 unfoldable pub span_answer : Plan → (T : ℕ) → Answer Span

@@ -4,7 +4,7 @@ ghost use Rattle.cqf.specs.Limits.{port_slots};
 ghost use Rattle.cqf.specs.Condition.{admissible};
 ghost use Rattle.tables.specs.Lent.{plan_lent};
 ghost use Rattle.questions.specs.Run.{FirstOf};
-ghost use Rattle.questions.specs.Spans.{span_of, no_span_of, next_span, span_answer};
+ghost use Rattle.questions.specs.Spans.{IsNext, span_answer};
 ghost use Rattle.questions.specs.SpanAnswer.{span_answer_of};
 
 use super::downward::refused_below;
@@ -28,13 +28,6 @@ pub enum SpanRefusal {
     NoSpan,
 }
 
-// Stands for no span.
-pub(crate) fn no_span() -> SpanRecord
-    ensures { span_of result ≡ no_span_of }
-{
-    SpanRecord { first: 0, last: 0 }
-}
-
 // The first duration of the run that holds the least admissible one from a duration on: the run may begin before that duration.
 fn first_of(held: Held, duration: u64, start: u64, out: &mut [u64]) -> u64
     requires range { (1 ≤ duration) × (duration ≤ start) × (start ≤ held.lent.top) × (length out.old ≡ port_slots) }
@@ -47,23 +40,23 @@ fn first_of(held: Held, duration: u64, start: u64, out: &mut [u64]) -> u64
     1 + refused_below(held, 1, start, out)
 }
 
-// The first span that ends at a duration or later, or no span.
-pub(crate) fn span_from(held: Held, duration: u64) -> SpanRecord
+// The first span that ends at a duration or later.
+pub(crate) fn span_from(held: Held, duration: u64) -> Option<SpanRecord>
     requires { 1 ≤ duration }
-    ensures { span_of result ≡ next_span (plan_lent held.entry.lent) duration }
+    ensures { IsNext (plan_lent held.entry.lent) duration result }
 {
     let limit = held.lent.top as u64;
     if limit < duration {
-        return no_span();
+        return None;
     }
     let mut out = [0u64; PORTS];
     let start = first_from(held, duration, &mut out);
     if limit < start {
-        return no_span();
+        return None;
     }
     let first = first_of(held, duration, start, &mut out);
     let last = last_from(held, start, &mut out);
-    SpanRecord { first, last }
+    Some(SpanRecord { first, last })
 }
 
 // The first span that ends at a duration or later.
@@ -76,9 +69,8 @@ pub fn span_tables(lent: Lent, duration: u64) -> Result<SpanRecord, SpanRefusal>
     if !between(1, held.lent.top as u64, duration) {
         return Err(SpanRefusal::BadDuration);
     }
-    let span = span_from(held, duration);
-    if span.last == 0 {
+    let Some(span) = span_from(held, duration) else {
         return Err(SpanRefusal::NoSpan);
-    }
+    };
     Ok(span)
 }

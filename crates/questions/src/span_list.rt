@@ -4,8 +4,8 @@ ghost use Rattle.tables.specs.Lent.{plan_lent};
 ghost use Rattle.questions.specs.Spans.{spans_answer, spans_leaves};
 ghost use Rattle.questions.specs.SpanAnswer.{spans_answer_of};
 
-use super::one_span::{SpanRecord, no_span};
-use super::span_count::{count_spans, span_after};
+use super::one_span::{SpanRecord, span_from};
+use super::span_count::count_spans;
 use tables::{Lent, hold};
 
 #[derive(Clone, Copy)]
@@ -27,10 +27,12 @@ pub fn spans(lent: Lent, list: &mut [SpanRecord]) -> Result<u64, SpansRefusal>
     if size < count {
         return Err(SpansRefusal::ShortList { count });
     }
-    let mut span = no_span();
+    let mut from: u64 = 1;
     for i in 0..count as usize {
-        span = span_after(held, span);
+        let next = span_from(held, from);
+        let span = next.unwrap();
         list[i] = span;
+        from = span.last + 1;
     }
     Ok(count)
 }

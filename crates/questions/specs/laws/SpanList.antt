@@ -14,8 +14,8 @@ use Rattle.cqf.specs.Plan.{Plan}
 use Rattle.span_lists.specs.Span.{Span, begins, span_from, and_where, spans_in, spans, ending_from}
 use Rattle.span_lists.specs.results.Theorem.{spans_are, spans_sound}
 use Rattle.span_lists.specs.laws.Ending.{ending_all, ending_next, ending_from_lem}
-use Rattle.questions.specs.Spans.{record_of, no_span_of, first_or, next_span}
-use Rattle.questions.specs.SpanList.{after, nth, filled}
+use Rattle.questions.specs.Spans.{record_of, span_of, no_span_of, first_or, next_span}
+use Rattle.questions.specs.SpanList.{nth, filled}
 use Rattle.questions.specs.declared.one_span.SpanRecord.{SpanRecord}
 
 pub filled_length : (p : Plan) (l : List SpanRecord) (i : ℕ) → length (filled p l i) ≡ length l
@@ -26,10 +26,15 @@ filled_length p l (suc i) = length-set (filled p l i) i (nth p (suc i)) ∙ fill
 drop_next : (i : ℕ) (ss : List Span) {s : Span} {rest : List Span} → drop i ss ≡ s ∷ rest → drop (suc i) ss ≡ rest
 drop_next i ss {s} {rest} e = ap (λ (n : ℕ). drop n ss) (sym (add-one i)) ∙ sym (drop-drop 1 i ss) ∙ ap (drop 1) e
 
--- the span that follows the first i, and the list with it
-pub nth-after : (p : Plan) (i : ℕ) {s r : SpanRecord} → r ≡ after p s → s ≡ nth p i → r ≡ nth p (suc i)
-unfolding nth
-nth-after p i e at = e ∙ ap (after p) at
+-- the span that follows the first i, or none, and the list with it
+module _ (p : Plan) (i : ℕ) {from : ℕ} (at : from ≡ (nth p i).last + 1) where
+  pub nth-from : {s : SpanRecord} → span_of s ≡ next_span p from → s ≡ nth p (suc i)
+  unfolding nth
+  nth-from e = ap record_of (e ∙ ap (next_span p) at)
+
+  pub nth-none : next_span p from ≡ no_span_of → (nth p (suc i)).last ≡ 0
+  unfolding nth
+  nth-none e = ap (λ (s : Span). s.last) (ap (next_span p) (sym at) ∙ e)
 
 pub filled-next : (p : Plan) (l : List SpanRecord) (i : ℕ) {k : List SpanRecord} {r : SpanRecord} → k ≡ filled p l i → r ≡ nth p (i + 1) → set k i r ≡ filled p l (i + 1)
 unfolding filled

@@ -1,5 +1,5 @@
 -- One span: how it is put together, and the answers case by case.
-use Rattle.std.specs.Prelude.{◌≡◌, ◌↔◌, true, false, ℕ, suc, ◌≤◌, ◌<◌}
+use Rattle.std.specs.Prelude.{Option, Some, None, IsSome, ◌≡◌, ◌↔◌, true, false, ℕ, suc, ◌≤◌, ◌<◌}
 use Rattle.std.proofs.Math.Path.{refl}
 use Rattle.std.proofs.Common.{sym, ap, subst, ◌∙◌, le_refl, le_trans, arith}
 use Rattle.std.proofs.lemmas.Bool.{false≢true}
@@ -17,8 +17,9 @@ use Rattle.span_lists.specs.laws.Ending.{ending_from_lem}
 use Rattle.answers.specs.Answer.{result, refusal}
 use Rattle.answers.specs.Refusals.{bad_duration, no_plan_held, no_span_from}
 use Rattle.questions.specs.Outcome.{asked}
+use Rattle.questions.specs.declared.one_span.SpanRecord.{SpanRecord}
 use Rattle.questions.specs.Run.{RunDown, FirstOf}
-use Rattle.questions.specs.Spans.{no_span_of, first_answer, first_or, next_span, span_answer}
+use Rattle.questions.specs.Spans.{IsNext, span_of, no_span_of, first_answer, first_or, next_span, span_answer}
 
 -- the first of a run: the least admissible duration itself where it is above T, and otherwise one above the refused one below it
 pub first_start : (p : Plan) (T start : ℕ) → 1 ≤ T → T < start → FirstOf p T start start
@@ -44,6 +45,20 @@ first_below p T start r h d a =
     above (no l) =
         let same : r ≡ start = omega (arith, d.upto) in
         absurd (false≢true (sym (d.refused (omega arith)) ∙ ap (admissible p) same ∙ a))
+
+-- what the code answers, without a span and with one
+pub is_none : {p : Plan} {T : ℕ} → next_span p T ≡ no_span_of → IsNext p T None
+is_none e = record { none = λ _. e; some = λ s is. cc }
+
+pub is_some : {p : Plan} {T : ℕ} {s : SpanRecord} → span_of s ≡ next_span p T → 1 ≤ s.last → s.last ≤ p.top → IsNext p T (Some s)
+is_some {p} {T} {s} e low high =
+    let P : SpanRecord → Type 0 = λ r. (span_of r ≡ next_span p T) × (1 ≤ r.last) × (r.last ≤ p.top) in
+    let here : P s = (e, low, high) in
+    record { none = λ is. cc; some = λ r is. let same : s ≡ r = cc in subst P same here }
+
+pub next_some : {p : Plan} {T : ℕ} (r : Option SpanRecord) → IsNext p T r → (next_span p T ≡ no_span_of → ⊥) → IsSome r
+next_some None k h = absurd (h (k.none refl))
+next_some (Some s) k h = refl
 
 module _ (p : Plan) (T : ℕ) (low : 1 ≤ T) where
   next_is : next_span p T ≡ first_or (ending_from T (spans p))

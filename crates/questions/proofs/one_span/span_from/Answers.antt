@@ -7,19 +7,18 @@ use Rattle.cqf.specs.Condition.{admissible}
 use Rattle.cqf.specs.Need.{least_from}
 use Rattle.cqf.proofs.laws.LeastFrom.{least_from_admissible}
 use Rattle.span_lists.specs.Span.{last_from}
+use Rattle.span_lists.specs.laws.Runs.{last_high, last_from_lem}
 use Rattle.tables.specs.Lent.{plan_lent}
 use Rattle.questions.specs.Run.{FirstOf}
-use Rattle.questions.specs.laws.Spans.{next-none, next_above, next-found}
+use Rattle.questions.specs.laws.Spans.{next-none, next_above, next-found, is_none, is_some}
 use Rattle.questions.proofs.one_span.span_from.Goals as goal
 
 pub returns-then-limit-duration : goal.returns-then-limit-duration
-returns-then-limit-duration c =
-    c.no_span.ensures ∙ sym (next_above (plan_lent c.args.held.lent) c.args.duration c.requires (omega (arith, c.if-limit-duration.true)))
+returns-then-limit-duration c = is_none (next_above (plan_lent c.args.held.lent) c.args.duration c.requires (omega (arith, c.if-limit-duration.true)))
 
 pub returns-then-limit-start : goal.returns-then-limit-start
 returns-then-limit-start c =
-    c.no_span-then-limit-start.ensures
-    ∙ sym (next-none (plan_lent c.args.held.lent) c.args.duration c.requires (omega (arith, c.first_from-start.ensures, c.if-limit-start.true)))
+    is_none (next-none (plan_lent c.args.held.lent) c.args.duration c.requires (omega (arith, c.first_from-start.ensures, c.if-limit-start.true)))
 
 pub first_of-first-requires-clause-range : goal.first_of-first-requires-clause-range
 first_of-first-requires-clause-range c =
@@ -49,6 +48,9 @@ returns c =
     let first = c.first_of-first.result in
     let is = c.first_from-start.ensures in
     let upto : least_from p T ≤ p.top = omega (arith, is, c.if-limit-start.false) in
+    let a = least_from_admissible p T c.requires upto in
     let from : FirstOf p T (least_from p T) first = subst (λ (t : ℕ). FirstOf p T t first) is c.first_of-first.ensures in
     let last : c.last_from-last.result ≡ last_from p (least_from p T) = c.last_from-last.ensures ∙ ap (last_from p) is in
-    ap (λ (l : ℕ). record { first = first; last = l }) last ∙ sym (next-found p T c.requires first upto from)
+    let later = last_from_lem p (least_from p T) (omega (arith, c.requires, a.from)) upto a.good in
+    is_some (ap (λ (l : ℕ). record { first = first; last = l }) last ∙ sym (next-found p T c.requires first upto from))
+    (omega (arith, last, later, a.from, c.requires)) (omega (arith, last, last_high p (least_from p T)))

@@ -1,13 +1,16 @@
 use mathlib.Core.Path.{◌≡◌, refl, sym, ap, ◌∙◌}
-use Prim.Native.Nat.{◌+◌, ◌≤◌, ◌<◌}
+use Prim.Native.Nat.{ℕ, suc, ◌+◌, ◌≤◌, ◌<◌}
 use native.Mathlib.Omega.{arith}
+use borrow.Author.Rules.{rules}
 use lib.ListN.{length}
+use Rattle.std.specs.Prelude.{Some}
 use Rattle.std.proofs.Common.{add-one}
 use Rattle.span_lists.specs.Span.{spans}
 use Rattle.tables.specs.Lent.{plan_lent}
-use Rattle.questions.specs.Spans.{record_of}
 use Rattle.questions.specs.SpanList.{nth, filled}
-use Rattle.questions.specs.laws.SpanList.{nth-after, filled-next}
+use Rattle.questions.specs.declared.one_span.SpanRecord.{SpanRecord}
+use Rattle.questions.specs.laws.Spans.{next_some}
+use Rattle.questions.specs.laws.SpanList.{nth-from, nth-none, filled-next, filled_length, count_ends}
 use Rattle.questions.specs.laws.Counted.{spans-none, spans_keeps, spans-listed, spans_short, filled_all}
 use Rattle.questions.proofs.span_list.spans.Goals as goal
 
@@ -27,17 +30,23 @@ returns-then-size-count c =
 
 pub loop-i-init : goal.loop-i-init
 unfolding nth filled
-loop-i-init c = (ap record_of c.no_span-span.ensures, refl)
+loop-i-init c = (refl, refl)
 
-pub bounds-list-i : goal.bounds-list-i
-bounds-list-i c = omega (arith, c.if-size-count.false)
+pub unwrap-span-requires : goal.unwrap-span-requires
+unwrap-span-requires c =
+    let p = plan_lent c.in-Some.held.lent in
+    let i = c.loop-i.i in
+    let less : i < length (spans p) = omega (arith, c.count_spans-count.ensures, c.loop-i-test.true) in
+    next_some _ c.span_from-next.ensures (λ e. omega (arith, less, count_ends p i (omega (arith, less)) (nth-none p i c.loop-i.invariant.0 e)))
 
 pub loop-i-preserved : goal.loop-i-preserved
 loop-i-preserved c =
     let p = plan_lent c.in-Some.held.lent in
     let i = c.loop-i.i in
-    let next : c.span_after-span.result ≡ nth p (i + 1) = nth-after p i c.span_after-span.ensures c.loop-i.invariant.0 ∙ ap (nth p) (sym (add-one i)) in
-    (next, filled-next p c.args.list.now i c.loop-i.invariant.1 next)
+    let is : c.span_from-next.result ≡ Some c.unwrap-span.result = search rules in
+    let s = c.span_from-next.ensures.some _ is in
+    let next : c.unwrap-span.result ≡ nth p (i + 1) = nth-from p i c.loop-i.invariant.0 s.0 ∙ ap (nth p) (sym (add-one i)) in
+    (ap (λ (r : SpanRecord). r.last + 1) next, filled-next p c.args.list.now i c.loop-i.invariant.1 next)
 
 pub returns : goal.returns
 returns c =
