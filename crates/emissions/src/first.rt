@@ -5,7 +5,7 @@ ghost use Rattle.tables.specs.Lent.{plan_lent};
 ghost use Rattle.emissions.specs.BadEmission.{latest_hop, first_unsent};
 
 use crate::over::overrun_in;
-use tables::{Held, PORTS};
+use tables::Held;
 
 // The first cycle in which some port leaves a frame unsent, of those up to the latest place on a route; the one behind them where
 // none does.
@@ -17,8 +17,7 @@ pub(crate) fn first_unsent(held: Held, duration: u64, q: usize, latest: u64) -> 
 {
     let end = latest + 1;
     for c in 0..end {
-        let over = overrun_in(held, duration, q, latest, c);
-        if over.slot < PORTS {
+        if overrun_in(held, duration, q, latest, c).is_some() {
             return c;
         }
     }

@@ -1,18 +1,14 @@
 // What each port must send in a cycle of the bad emission.
 ghost use Rattle.std.specs.Prelude.{◌≡◌, ℕ, ◌+◌, ◌*◌, ◌≤◌, ◌<◌, length, get_or};
 ghost use Rattle.cqf.specs.Bounded.{sublist};
-ghost use Rattle.cqf.specs.Limits.{port_slots, flow_slots, route_stride, min_period, max_period, max_count, max_length, max_jitter, max_extra};
-ghost use Rattle.cqf.specs.Overflow.{most_widened};
-ghost use Rattle.cqf.specs.Port.{bits_of};
-ghost use Rattle.cqf.specs.Condition.{frames_by};
+ghost use Rattle.cqf.specs.Limits.{port_slots, flow_slots, route_stride};
 ghost use Rattle.tables.specs.Lent.{plan_lent};
 ghost use Rattle.emissions.specs.BadEmission.{latest_hop, burst_bits};
 ghost use Rattle.emissions.specs.Queued.{queued_port};
 
-use crate::frames::flow_frames;
 use crate::hop::hop_on;
 use numbers::clock::widened;
-use numbers::frame::wire_bits;
+use questions::flow_bits;
 use tables::{FLOWS, Held, PORTS, STRIDE, columns};
 
 // The port at a place of a route, 0 behind its end.
@@ -44,20 +40,6 @@ fn queued_port(
         return 0;
     }
     port_at(routes, base, hops, (c - own - 1) as usize)
-}
-
-// The wire bits of the frames that a flow brings to a port.
-fn flow_bits(period: u32, count: u16, bytes: u16, jitter: u32, extra: u8, widened: u32) -> u64
-    requires { (min_period ≤ period)
-        × (period ≤ max_period)
-        × (count ≤ max_count)
-        × (bytes ≤ max_length)
-        × (jitter ≤ max_jitter)
-        × (extra ≤ max_extra)
-        × (widened ≤ most_widened) }
-    ensures { result ≡ frames_by count widened jitter period * bits_of bytes extra }
-{
-    flow_frames(period, count, jitter, widened) * wire_bits(bytes, extra)
 }
 
 // The bits that each port must send in cycle c of the bad emission of the port in slot q: port n at position n - 1.

@@ -39,7 +39,7 @@ fn unsent_of(held: Held, duration: u64, q: usize) -> Unsent
 {
     let latest = latest_hop(held, q) as u64;
     let cycle = first_unsent(held, duration, q, latest);
-    let over = overrun_in(held, duration, q, latest, cycle);
+    let over = overrun_in(held, duration, q, latest, cycle).unwrap();
     let slot = over.slot;
     let lent = held.lent;
     let available = window(lent.guard, duration);

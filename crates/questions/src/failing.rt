@@ -25,7 +25,7 @@ pub(crate) fn workload(blocking: u16, extra: u8, bits: u64) -> u64
 }
 
 // Whether a port fails; a demand of 0 is that of a port that no flow crosses.
-pub(crate) fn port_fails(rate: u32, blocking: u16, extra: u8, window: u64, bits: u64) -> bool
+pub fn port_fails(rate: u32, blocking: u16, extra: u8, window: u64, bits: u64) -> bool
     requires { (window ≤ max_top) × (bits ≤ most_demand) }
     ensures { result ≡ fails_by_of rate blocking extra window bits }
 {

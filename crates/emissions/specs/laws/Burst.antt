@@ -18,7 +18,7 @@ use Rattle.cqf.proofs.laws.Bounded.{lowest_le}
 use Rattle.cqf.proofs.laws.Bounds.{max_to-least}
 use Rattle.cqf.proofs.laws.Lists.{sublist_length}
 use Rattle.cqf.proofs.laws.Valid.{Empty, Held, slot_cases, present_held}
-use Rattle.cqf.proofs.laws.Begun.{widened_most}
+use Rattle.cqf.proofs.laws.Begun.{begun_most, widened_most}
 use Rattle.cqf.proofs.laws.Demand.{frames_by_lem}
 use Rattle.cqf.proofs.laws.Ranges.{top_most, drift_most, timing_most}
 use Rattle.answers.specs.Answer.{result, refusal}
@@ -62,6 +62,13 @@ module _ (p : Plan) (valid : valid_plan p ≡ true) where
 
   pub flow_held : (f : ℕ) → f < flow_slots → 0 < period_of p f → Held p f
   flow_held f l there = present_held p valid f (is_present f l there)
+
+  pub frames_few
+      : (f over : ℕ)
+      → Held p f
+      → over ≤ most_widened
+      → frames_by (count_of p f) over (jitter_of p f) (period_of p f) ≤ max_count * most_begun
+  frames_few f over h fits = mul-le-mul h.count_most (begun_most over (jitter_of p f) fits h.jitter_most h.period_least)
 
   late_most : (q f : ℕ) → f < flow_slots → late p q f ≤ max_hops
   late_most q f l = go (elem (suc q) (route_of p f))

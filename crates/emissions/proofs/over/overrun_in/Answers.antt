@@ -1,5 +1,5 @@
 -- `overrun_in` meets its contract: what each port must send is what the definition says.
-use mathlib.Core.Path.{refl, ap, ◌∙◌}
+use mathlib.Core.Path.{refl, sym, ap, ◌∙◌}
 use Prim.Native.Nat.{ℕ}
 use native.Mathlib.Omega.{arith}
 use Rattle.cqf.specs.Bounded.{lowest, tabulate}
@@ -14,8 +14,8 @@ pub cycle_bits-requires : goal.cycle_bits-requires
 unfolding tabulate
 cycle_bits-requires c = (c.requires.0, c.requires.1, c.requires.2, refl, tabulate-at port_slots (λ r. 0))
 
-pub lowest_over-slot-requires : goal.lowest_over-slot-requires
-lowest_over-slot-requires c =
+pub lowest_over-requires : goal.lowest_over-requires
+lowest_over-requires c =
     let a = c.args in
     let p = plan_lent a.held.lent in
     let v = a.held.valid in (
@@ -23,24 +23,23 @@ lowest_over-slot-requires c =
       each_most p v a.duration c.requires.0 a.q a.c c.cycle_bits.new.bits c.cycle_bits.ensures,
     )
 
-pub returns-then-slot-lt-PORTS : goal.returns-then-slot-lt-PORTS
-returns-then-slot-lt-PORTS c =
+pub returns-in_err-slot : goal.returns-in_err-slot
+returns-in_err-slot c =
     let a = c.args in
     let l = a.held.lent in
     let bits = c.cycle_bits.new.bits in
-    let slot =
-    c.lowest_over-slot.ensures
-    ∙ ap (λ (w : ℕ). lowest port_slots (fails_in l.rates.now l.blockings.now l.extras.now w bits)) c.window-available.ensures
+    let same =
+    ap (λ (w : ℕ). lowest port_slots (fails_in l.rates.now l.blockings.now l.extras.now w bits)) c.window-available.ensures
     ∙ over_is (plan_lent l) a.held.valid a.duration c.requires.0 a.q a.c bits c.cycle_bits.ensures in
-    (slot, λ low. c.cycle_bits.ensures c.lowest_over-slot.result low)
+    rw c.from_residual.ensures (sym same ∙ c.in_err-slot.ensures)
 
 pub returns : goal.returns
 returns c =
     let a = c.args in
     let l = a.held.lent in
     let bits = c.cycle_bits.new.bits in
-    let slot =
-    c.lowest_over-slot.ensures
-    ∙ ap (λ (w : ℕ). lowest port_slots (fails_in l.rates.now l.blockings.now l.extras.now w bits)) c.window-available.ensures
+    let same =
+    ap (λ (w : ℕ). lowest port_slots (fails_in l.rates.now l.blockings.now l.extras.now w bits)) c.window-available.ensures
     ∙ over_is (plan_lent l) a.held.valid a.duration c.requires.0 a.q a.c bits c.cycle_bits.ensures in
-    (slot, λ low. absurd (omega (arith, low, c.if-slot-lt-PORTS.false)))
+    let found = rw c.in_ok-slot.was at c.lowest_over.ensures in
+    (found.0, sym same ∙ found.1, c.cycle_bits.ensures c.in_ok-slot.slot found.0)
