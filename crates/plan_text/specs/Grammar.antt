@@ -8,13 +8,9 @@ use Rattle.plan_text.specs.declared.grammar.Item.{Item}
 
 -- the word before a number; the first word of a line stands before the number that has none of its own
 abbrev pub word_of : Item → List ℕ
-word_of Item.Guard = []
-word_of Item.Top = []
-word_of Item.Port = []
 word_of Item.Rate = rate_word
 word_of Item.Blocker = blocker_word
 word_of Item.Extra = extra_word
-word_of Item.Flow = []
 word_of Item.Period = period_word
 word_of Item.Count = count_word
 word_of Item.Length = length_word
@@ -22,33 +18,17 @@ word_of Item.Jitter = jitter_word
 word_of Item.Drift = drift_word
 word_of Item.Timing = timing_word
 word_of Item.Sync = sync_word
-word_of Item.Format = []
 word_of Item.Route = route_word
-word_of Item.Hops = []
-word_of Item.First = []
-word_of Item.End = []
+word_of _ = []
 
 -- whether it has none
 abbrev pub is_own : Item → Bool
 is_own Item.Guard = true
 is_own Item.Top = true
 is_own Item.Port = true
-is_own Item.Rate = false
-is_own Item.Blocker = false
-is_own Item.Extra = false
 is_own Item.Flow = true
-is_own Item.Period = false
-is_own Item.Count = false
-is_own Item.Length = false
-is_own Item.Jitter = false
-is_own Item.Drift = false
-is_own Item.Timing = false
-is_own Item.Sync = false
 is_own Item.Format = true
-is_own Item.Route = false
-is_own Item.Hops = false
-is_own Item.First = false
-is_own Item.End = false
+is_own _ = false
 
 -- its range; a port of a route has the range of a port
 abbrev pub range_of : Item → ℕ → Bool
@@ -117,44 +97,13 @@ high_of Item.End = 0
 
 -- whether 0 is allowed too
 abbrev pub zero_too : Item → Bool
-zero_too Item.Guard = false
-zero_too Item.Top = false
-zero_too Item.Port = false
-zero_too Item.Rate = false
 zero_too Item.Blocker = true
-zero_too Item.Extra = false
-zero_too Item.Flow = false
-zero_too Item.Period = false
-zero_too Item.Count = false
-zero_too Item.Length = false
-zero_too Item.Jitter = false
-zero_too Item.Drift = false
-zero_too Item.Timing = false
-zero_too Item.Sync = false
-zero_too Item.Format = false
-zero_too Item.Route = false
-zero_too Item.Hops = false
-zero_too Item.First = false
-zero_too Item.End = false
+zero_too _ = false
 
 -- what it is where it is left out, if it may be
 abbrev pub absent_of : Item → Option ℕ
-absent_of Item.Guard = none
-absent_of Item.Top = none
-absent_of Item.Port = none
-absent_of Item.Rate = none
 absent_of Item.Blocker = some 0
 absent_of Item.Extra = some 0
-absent_of Item.Flow = none
-absent_of Item.Period = none
 absent_of Item.Count = some 1
-absent_of Item.Length = none
 absent_of Item.Jitter = some 0
-absent_of Item.Drift = none
-absent_of Item.Timing = none
-absent_of Item.Sync = none
-absent_of Item.Format = none
-absent_of Item.Route = none
-absent_of Item.Hops = none
-absent_of Item.First = none
-absent_of Item.End = none
+absent_of _ = none

@@ -17,23 +17,13 @@ items Kind.Other = []
 
 -- whether a route follows them
 abbrev pub is_routed : Kind → Bool
-is_routed Kind.Guard = false
-is_routed Kind.Top = false
-is_routed Kind.Port = false
 is_routed Kind.Flow = true
-is_routed Kind.Clocks = false
-is_routed Kind.Format = false
-is_routed Kind.Other = false
+is_routed _ = false
 
 -- a line of no kind, by its first word
 abbrev pub is_other : Kind → Bool
-is_other Kind.Guard = false
-is_other Kind.Top = false
-is_other Kind.Port = false
-is_other Kind.Flow = false
-is_other Kind.Clocks = false
-is_other Kind.Format = false
 is_other Kind.Other = true
+is_other _ = false
 
 -- the kind of a line, by its first word
 unfoldable pub kind_of : List ℕ → Kind
@@ -48,13 +38,8 @@ kind_of w =
 
 -- behind other lines a line no longer asks for a form
 abbrev pub later_kind : Kind → Kind
-later_kind Kind.Guard = Kind.Guard
-later_kind Kind.Top = Kind.Top
-later_kind Kind.Port = Kind.Port
-later_kind Kind.Flow = Kind.Flow
-later_kind Kind.Clocks = Kind.Clocks
 later_kind Kind.Format = Kind.Other
-later_kind Kind.Other = Kind.Other
+later_kind kind = kind
 
 unfoldable pub kind_in : (begun : Bool) → List ℕ → Kind
 unfolding kind_of
@@ -73,45 +58,20 @@ item_of Kind.Other = Item.First
 -- which kind a line is of
 abbrev pub is_guard : Kind → Bool
 is_guard Kind.Guard = true
-is_guard Kind.Top = false
-is_guard Kind.Port = false
-is_guard Kind.Flow = false
-is_guard Kind.Clocks = false
-is_guard Kind.Format = false
-is_guard Kind.Other = false
+is_guard _ = false
 
 abbrev pub is_top : Kind → Bool
-is_top Kind.Guard = false
 is_top Kind.Top = true
-is_top Kind.Port = false
-is_top Kind.Flow = false
-is_top Kind.Clocks = false
-is_top Kind.Format = false
-is_top Kind.Other = false
+is_top _ = false
 
 abbrev pub is_flow : Kind → Bool
-is_flow Kind.Guard = false
-is_flow Kind.Top = false
-is_flow Kind.Port = false
 is_flow Kind.Flow = true
-is_flow Kind.Clocks = false
-is_flow Kind.Format = false
-is_flow Kind.Other = false
+is_flow _ = false
 
 abbrev pub is_clocks : Kind → Bool
-is_clocks Kind.Guard = false
-is_clocks Kind.Top = false
-is_clocks Kind.Port = false
-is_clocks Kind.Flow = false
 is_clocks Kind.Clocks = true
-is_clocks Kind.Format = false
-is_clocks Kind.Other = false
+is_clocks _ = false
 
 abbrev pub is_format : Kind → Bool
-is_format Kind.Guard = false
-is_format Kind.Top = false
-is_format Kind.Port = false
-is_format Kind.Flow = false
-is_format Kind.Clocks = false
 is_format Kind.Format = true
-is_format Kind.Other = false
+is_format _ = false
