@@ -17,7 +17,7 @@ pub mod optional; // optional.rt: fields that a plan may leave out
 pub mod newer; // newer.rt: the fields of the newer form
 pub mod read; // read.rt: a whole field, tests 2 to 5
 
-pub use forms::{form_by, form_number};
+pub use forms::{form_by, form_from, form_number};
 pub use layout::route_start;
 pub use number::first_number;
 pub use read::{field_at, read_field};

@@ -42,6 +42,6 @@ pub(crate) fn put_flow2_slot(held: Held, slot: usize, out: &mut [u8])
         lent.counts[slot],
         lent.lengths[slot],
         jitter,
-        route(held, slot),
+        held.route(slot),
     );
 }

@@ -23,17 +23,6 @@ pub(crate) fn put_port_slot(held: Held, slot: usize, out: &mut [u8])
     put_port(out, (slot + 1) as u16, rate, lent.blockings[slot]);
 }
 
-// The ports of a flow's route, as they stand in the table of routes.
-pub(crate) fn route<'a>(held: Held<'a>, slot: usize) -> &'a [u8]
-    requires { slot < flow_slots }
-    ensures { result.now ≡ route_of (plan_lent held.entry.lent) slot }
-{
-    let hops = usize::from(held.lent.hops[slot]);
-    let base = slot * STRIDE;
-    let routes = held.lent.routes;
-    &routes[base..base + hops]
-}
-
 pub(crate) fn put_flow_slot(held: Held, slot: usize, out: &mut [u8])
     requires { slot < flow_slots }
     ensures { out.new ≡ laid (slot_bytes Kind.Flow (plan_lent held.entry.lent) slot) out.old }
@@ -49,7 +38,7 @@ pub(crate) fn put_flow_slot(held: Held, slot: usize, out: &mut [u8])
         period,
         lent.counts[slot],
         lent.lengths[slot],
-        route(held, slot),
+        held.route(slot),
     );
 }
 

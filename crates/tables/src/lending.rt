@@ -1,10 +1,11 @@
 // The tables lent column by column, and those of them that hold a plan.
-ghost use Rattle.std.specs.Prelude.{◌≡◌, true, false, MatchOption};
-ghost use Rattle.cqf.specs.Plan.{valid_plan};
+ghost use Rattle.std.specs.Prelude.{◌≡◌, ◌≤◌, ◌<◌, true, false, length, MatchOption};
+ghost use Rattle.cqf.specs.Limits.{flow_slots, max_hops};
+ghost use Rattle.cqf.specs.Plan.{route_of, valid_plan};
 ghost use Rattle.tables.specs.Columns.{plan_by};
 ghost use Rattle.tables.specs.Lent.{plan_lent, LentOf};
 
-use crate::{Planner, columns, valid_tables};
+use crate::{Planner, STRIDE, columns, valid_tables};
 use numbers::clock::Clock;
 
 // The numbers and the columns of a planner, or of a caller that has them apart.
@@ -37,6 +38,19 @@ impl<'a> Lent<'a> {
         ensures { result ≡ record self.entry { top = top } }
     {
         Lent { top, ..self }
+    }
+}
+
+impl<'a> Held<'a> {
+    // The ports of a flow's route, as they stand in the table of routes.
+    pub fn route(self, f: usize) -> &'a [u8]
+        requires { f < flow_slots }
+        ensures route { result.now ≡ route_of (plan_lent self.entry.lent) f }
+        ensures few { length result.now ≤ max_hops }
+    {
+        let base = f * STRIDE;
+        let routes = self.lent.routes;
+        &routes[base..base + usize::from(self.lent.hops[f])]
     }
 }
 

@@ -56,18 +56,6 @@ fn put_flow(out: &mut [u8], at: usize, flow: Flow, route: &[u8]) -> usize
     put_end(out, routed)
 }
 
-// The ports of a flow's route, as they stand in the table of routes.
-fn route<'a>(held: Held<'a>, slot: usize) -> &'a [u8]
-    requires { slot < flow_slots }
-    ensures route { result.now ≡ route_of (plan_lent held.entry.lent) slot }
-    ensures few { length result.now ≤ max_hops }
-{
-    let hops = usize::from(held.lent.hops[slot]);
-    let base = slot * STRIDE;
-    let routes = held.lent.routes;
-    &routes[base..base + hops]
-}
-
 // The line of a slot, if it holds a flow.
 fn put_flow_slot(held: Held, slot: usize, out: &mut [u8], at: usize) -> usize
     requires { (slot < flow_slots) × (at ≤ far_text) }
@@ -85,7 +73,7 @@ fn put_flow_slot(held: Held, slot: usize, out: &mut [u8], at: usize) -> usize
         bytes: u32::from(lent.lengths[slot]),
         jitter: lent.jitters[slot],
     };
-    put_flow(out, at, flow, route(held, slot))
+    put_flow(out, at, flow, held.route(slot))
 }
 
 pub(crate) fn put_flows(held: Held, out: &mut [u8], at: usize) -> usize

@@ -1,25 +1,15 @@
 // The text of the plan that a planner holds.
 ghost use Rattle.std.specs.Prelude.{◌≡◌};
 ghost use Rattle.cqf.specs.Form.{form_from, held_top};
-ghost use Rattle.plan.specs.Answer.{form_of};
 ghost use Rattle.tables.specs.Lent.{plan_lent};
 ghost use Rattle.tables.specs.Tables.{plan_of};
 ghost use Rattle.text_writing.specs.Answer.{text_answer_of};
 ghost use Rattle.text_writing.specs.Text.{WritesText};
 
 use crate::held::write_text;
-use plan::Form;
+use plan::form_from;
 use tables::{Lent, Planner, held_top};
 use writing::SaveRefusal;
-
-fn form_from(number: u32) -> Form
-    ensures { form_of result ≡ form_from number }
-{
-    match number {
-        0 => Form::Older,
-        _ => Form::Newer,
-    }
-}
 
 // For a planner that is lent column by column: in the form of its number; 20 where no plan is held, 13 where the buffer is too short for
 // its text.
