@@ -11,8 +11,9 @@ ghost use Rattle.sequences.specs.GatesMeaning.{GatesMean};
 ghost use Rattle.sequences.specs.SpansMeaning.{SpanMeans};
 ghost use Rattle.column_calls.specs.Formed.{plan_formed};
 
-use crate::forms::{form_from, formed};
+use crate::forms::formed;
 use gate_writing::{GatesRefusal, gates_tables};
+use plan::form_from;
 use questions::{SpanRecord, SpanRefusal, span_tables};
 use saving::save_tables;
 use tables::Lent;

@@ -6,7 +6,6 @@ ghost use Rattle.writing.specs.Laid.{laid};
 ghost use Rattle.saving.specs.declared.kind.Kind.{Kind};
 ghost use Rattle.saving.specs.Slots.{slot_bytes};
 
-use crate::slot::route;
 use tables::Held;
 use writing::flow::put_flow2;
 use writing::newer::put_port2;

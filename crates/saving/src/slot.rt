@@ -7,7 +7,7 @@ ghost use Rattle.writing.specs.Laid.{laid};
 ghost use Rattle.saving.specs.declared.kind.Kind.{Kind};
 ghost use Rattle.saving.specs.Slots.{slot_bytes};
 
-use tables::{Held, STRIDE};
+use tables::Held;
 use writing::field::{put_extra, put_jitter, put_port};
 use writing::flow::put_flow;
 

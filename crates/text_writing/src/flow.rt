@@ -9,7 +9,7 @@ ghost use Rattle.text_writing.specs.Bytes.{spaced, flow_number_bytes, flow_bytes
 
 use crate::number::put_bytes;
 use crate::word::{put_end, put_first, put_number, put_pair, put_unless};
-use tables::{FLOWS, Held, STRIDE};
+use tables::{FLOWS, Held};
 
 // The ports of a route.
 fn put_route(out: &mut [u8], at: usize, route: &[u8]) -> usize

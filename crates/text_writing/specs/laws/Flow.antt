@@ -43,19 +43,6 @@ module _ (r : List ℕ) {buffer : List ℕ} {at : ℕ} where
       → Puts (most_hop * length r) (spaced (map digits r)) buffer at next exit
   hops_all i all p = rw all at (puts_as (ap (λ (l : List ℕ). spaced (map digits l)) (take_all i r (omega arith))) p)
 
--- the ports of a route, as the part of the table that they are
-part : (l : List ℕ) (base h : ℕ) → base + h ≤ length l → take h (drop base l) ≡ sublist l base h
-unfolding sublist
-part l base zero fits = refl
-part l base (suc h) fits =
-    ap (take (suc h)) (drop-cons l base 0 (omega arith))
-    ∙ ap (λ (r : List ℕ). get_or l base 0 ∷ r) (part l (suc base) h (omega arith))
-
-pub route_part : (l : List ℕ) (base h end : ℕ) → end ≡ base + h → end ≤ length l → take (end - base) (drop base l) ≡ sublist l base h
-route_part l base h end is fits =
-    let many : end - base ≡ h = omega arith in
-    ap (λ (m : ℕ). take m (drop base l)) many ∙ part l base h (omega arith)
-
 -- the line of a flow
 glue8
     : (w a b c d e f g h : List ℕ)
