@@ -1,8 +1,7 @@
 -- Laws of the line of a flow.
-use Rattle.std.specs.Prelude.{ℕ, zero, suc, ◌+◌, ◌-◌, ◌*◌, ◌≤◌, ◌<◌, ◌≡◌, refl, not, List, [], ◌∷◌, ◌++◌, map, eqb, ltb, length, get_or, take, drop}
-use Rattle.std.proofs.Common.{sym, ap, ap₂, ◌∙◌, append_assoc, arith, add-one, take-suc, take_all, drop-cons}
+use Rattle.std.specs.Prelude.{ℕ, suc, ◌+◌, ◌*◌, ◌<◌, ◌≡◌, not, List, [], ◌∷◌, ◌++◌, map, eqb, ltb, length, get_or, take}
+use Rattle.std.proofs.Common.{sym, ap, ap₂, ◌∙◌, append_assoc, arith, add-one, take-suc, take_all}
 use Rattle.std.proofs.lemmas.List.{map-append}
-use Rattle.cqf.specs.Bounded.{sublist}
 use Rattle.cqf.specs.Plan.{Plan, period_of, count_of, length_of, jitter_of, route_of}
 use Rattle.words.specs.Words.{space}
 use Rattle.plan_text.specs.Names.{flow_word, period_word, count_word, length_word, jitter_word, route_word}
