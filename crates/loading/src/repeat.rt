@@ -10,18 +10,17 @@ ghost use Rattle.plan.specs.Answer.{field_of};
 ghost use Rattle.plan_reading.specs.Reading.{route_at};
 ghost use Rattle.loading.specs.Loading.{Covers, MarksOnly};
 
-use plan::FieldAt;
+use plan::Field;
 use plan::layout::{HEAD_SIZE, HOP_SIZE, route_start};
 use plan::route::route_len;
 use tables::PORTS;
 
 // The bytes of the route of the field that was read at this offset: those behind its other numbers, none where it has no route.
-pub(crate) fn field_route(plan: &[u8], at: usize, found: FieldAt) -> &[u8]
-    requires { (form : Form) × (field_at form plan.now at ≡ field (field_of found.field) found.next) }
-    ensures { route_ports result.now ≡ route_at (field_of found.field).kind plan.now at }
+pub(crate) fn field_route(plan: &[u8], at: usize, x: Field, next: usize) -> &[u8]
+    requires { (form : Form) × (field_at form plan.now at ≡ field (field_of x) next) }
+    ensures { route_ports result.now ≡ route_at (field_of x).kind plan.now at }
 {
-    let start = at + HEAD_SIZE + route_start(found.field);
-    let next = found.next;
+    let start = at + HEAD_SIZE + route_start(x);
     &plan[start..next]
 }
 

@@ -12,7 +12,7 @@ ghost use Rattle.loading.specs.Loading.{draft_of};
 
 use crate::slots::{store_extra, store_flow, store_flow2, store_jitter, store_port, store_port2};
 use numbers::clock::Clock;
-use plan::{Field, Flow, Flow2, Port, Port2};
+use plan::Field;
 use tables::{FLOWS, PORTS, Planner};
 
 // A flag for each key: the header's, the ports', the flows', those of the ports' extra bytes and of the flows' jitter, the clock's.
@@ -45,16 +45,15 @@ pub(crate) fn key_of(field: Field) -> usize
     ensures { result ≡ key_of (field_of field) }
 {
     match field {
-        Field::Header(_) | Field::Header2(_) => HEADER_KEY,
-        Field::Port(Port { number, .. }) | Field::Port2(Port2 { number, .. }) => {
-            HEADER_KEY + number as usize
-        }
-        Field::Flow(Flow { number, .. }) | Field::Flow2(Flow2 { number, .. }) => {
-            PORTS + number as usize
-        }
+        Field::Header(_) => HEADER_KEY,
+        Field::Port(x) => HEADER_KEY + x.number as usize,
+        Field::Flow(x) => PORTS + x.number as usize,
         Field::Extra(x) => PORTS + FLOWS + x.number as usize,
         Field::Jitter(x) => PORTS + FLOWS + PORTS + x.number as usize,
         Field::Clock(_) => CLOCK_KEY,
+        Field::Header2(_) => HEADER_KEY,
+        Field::Port2(x) => HEADER_KEY + x.number as usize,
+        Field::Flow2(x) => PORTS + x.number as usize,
     }
 }
 

@@ -45,7 +45,7 @@ impl Value for Header2 {
         }
     }
 
-    fn in_range(self) -> bool {
+    fn in_range(&self) -> bool {
         let clock = Clock {
             drift: self.drift,
             timing_jitter: self.timing_jitter,
@@ -85,7 +85,7 @@ impl Value for Port2 {
         }
     }
 
-    fn in_range(self) -> bool {
+    fn in_range(&self) -> bool {
         port_ok(self.number)
             && rate_ok(self.rate)
             && blocking_ok(self.blocking)
@@ -125,7 +125,7 @@ impl Value for Flow2 {
         }
     }
 
-    fn in_range(self) -> bool {
+    fn in_range(&self) -> bool {
         flow_ok(self.number)
             && period_ok(self.period)
             && count_ok(self.count)

@@ -38,7 +38,7 @@ impl Value for Extra {
         }
     }
 
-    fn in_range(self) -> bool {
+    fn in_range(&self) -> bool {
         port_ok(self.number) && extra_ok(self.extra)
     }
 
@@ -71,7 +71,7 @@ impl Value for Jitter {
         }
     }
 
-    fn in_range(self) -> bool {
+    fn in_range(&self) -> bool {
         flow_ok(self.number) && jitter_ok(self.jitter)
     }
 
@@ -105,8 +105,8 @@ impl Value for Clock {
         }
     }
 
-    fn in_range(self) -> bool {
-        clock_ok(self)
+    fn in_range(&self) -> bool {
+        clock_ok(*self)
     }
 
     fn field(self) -> Field {

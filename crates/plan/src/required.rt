@@ -39,7 +39,7 @@ impl Value for Header {
         }
     }
 
-    fn in_range(self) -> bool {
+    fn in_range(&self) -> bool {
         guard_ok(self.guard) && top_ok(self.top)
     }
 
@@ -73,7 +73,7 @@ impl Value for Port {
         }
     }
 
-    fn in_range(self) -> bool {
+    fn in_range(&self) -> bool {
         port_ok(self.number) && rate_ok(self.rate) && blocking_ok(self.blocking)
     }
 
@@ -109,7 +109,7 @@ impl Value for Flow {
         }
     }
 
-    fn in_range(self) -> bool {
+    fn in_range(&self) -> bool {
         flow_ok(self.number)
             && period_ok(self.period)
             && count_ok(self.count)

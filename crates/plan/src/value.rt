@@ -33,8 +33,8 @@ pub(crate) trait Value: Copy {
         ensures { field_of (as_field result) ≡ record { kind = kind; numbers = numbers_at (layout kind).numbers value.now 0; hops = hops } };
 
     // Whether each number is in its range; those of the route stand in the value.
-    fn in_range(self) -> bool
-        ensures { result ≡ in_ranges (layout kind).numbers (field_of (as_field self)).numbers };
+    fn in_range(&self) -> bool
+        ensures { result ≡ in_ranges (layout kind).numbers (field_of (as_field self.now)).numbers };
 
     fn field(self) -> Field
         ensures { result ≡ as_field self };

@@ -17,7 +17,7 @@ entry c = c.before.before
 
 -- where the route starts and ends
 bounds : (a : tie.Start) →
-    (a.args.at + head_size + numbers_size (field_of a.args.found.field).kind ≤ a.args.found.next) × (a.args.found.next ≤ length a.args.plan.now)
+    (a.args.at + head_size + numbers_size (field_of a.args.x).kind ≤ a.args.next) × (a.args.next ≤ length a.args.plan.now)
 bounds a = (route_starts _ _ _ _ _ a.requires.1, found_within _ _ _ _ _ a.requires.1)
 
 add_start : tie.Need-overflow_add-start
