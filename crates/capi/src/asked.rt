@@ -6,29 +6,29 @@ ghost use Rattle.questions.specs.FixedPoint.{fixed_point_answer};
 ghost use Rattle.capi.specs.Meaning.{CheckNumbersMean, StepsNumbersMean};
 ghost use Rattle.capi.specs.Numbers.{check_numbers, slack_numbers, steps_numbers};
 
-use crate::in_c::{check_in_c, fixed_point_in_c, slack_in_c};
+use crate::lends::{clock_at, lent_at};
 use crate::{AnswerNumbers, FixedPointAnswerNumbers, SlackAnswerNumbers};
-use numbers::clock::Clock;
+use column_calls::{check_columns, fixed_point_columns, slack_columns};
 use tables::columns;
 
 // 21 and 0 mean what they mean from `planner::check`: demand 3.
 #[unsafe(no_mangle)]
-pub extern "C" fn cp_check_columns<'a>(
+pub extern "C" fn cp_check_columns(
     form: &u32,
     guard: &u32,
     top: &u32,
     drift: &u32,
     timing_jitter: &u32,
     sync_error: &u32,
-    rates: &'a columns::Rates,
-    blockings: &'a columns::Blockings,
-    extras: &'a columns::Extras,
-    periods: &'a columns::Periods,
-    counts: &'a columns::Counts,
-    lengths: &'a columns::Lengths,
-    jitters: &'a columns::Jitters,
-    hops: &'a columns::Hops,
-    routes: &'a columns::Routes,
+    rates: &columns::Rates,
+    blockings: &columns::Blockings,
+    extras: &columns::Extras,
+    periods: &columns::Periods,
+    counts: &columns::Counts,
+    lengths: &columns::Lengths,
+    jitters: &columns::Jitters,
+    hops: &columns::Hops,
+    routes: &columns::Routes,
     duration: u64,
 ) -> AnswerNumbers
     ensures answers { result ≡ check_numbers (check_answer
@@ -46,34 +46,31 @@ pub extern "C" fn cp_check_columns<'a>(
         jitters.now hops.now routes.now))
         duration result }
 {
-    let clock = Clock {
-        drift: *drift,
-        timing_jitter: *timing_jitter,
-        sync_error: *sync_error,
-    };
-    check_in_c(column_calls::check_columns(
-        *form, *guard, *top, clock, rates, blockings, extras, periods, counts, lengths, jitters,
-        hops, routes, duration,
-    ))
+    let clock = clock_at(drift, timing_jitter, sync_error);
+    let lent = lent_at(
+        *guard, *top, clock, rates, blockings, extras, periods, counts, lengths, jitters, hops,
+        routes,
+    );
+    AnswerNumbers::from(check_columns(*form, lent, duration))
 }
 
 #[unsafe(no_mangle)]
-pub extern "C" fn cp_slack_columns<'a>(
+pub extern "C" fn cp_slack_columns(
     form: &u32,
     guard: &u32,
     top: &u32,
     drift: &u32,
     timing_jitter: &u32,
     sync_error: &u32,
-    rates: &'a columns::Rates,
-    blockings: &'a columns::Blockings,
-    extras: &'a columns::Extras,
-    periods: &'a columns::Periods,
-    counts: &'a columns::Counts,
-    lengths: &'a columns::Lengths,
-    jitters: &'a columns::Jitters,
-    hops: &'a columns::Hops,
-    routes: &'a columns::Routes,
+    rates: &columns::Rates,
+    blockings: &columns::Blockings,
+    extras: &columns::Extras,
+    periods: &columns::Periods,
+    counts: &columns::Counts,
+    lengths: &columns::Lengths,
+    jitters: &columns::Jitters,
+    hops: &columns::Hops,
+    routes: &columns::Routes,
     port: u64,
     duration: u64,
 ) -> SlackAnswerNumbers
@@ -85,35 +82,32 @@ pub extern "C" fn cp_slack_columns<'a>(
         jitters.now hops.now routes.now))
         port duration) }
 {
-    let clock = Clock {
-        drift: *drift,
-        timing_jitter: *timing_jitter,
-        sync_error: *sync_error,
-    };
-    slack_in_c(column_calls::slack_columns(
-        *form, *guard, *top, clock, rates, blockings, extras, periods, counts, lengths, jitters,
-        hops, routes, port, duration,
-    ))
+    let clock = clock_at(drift, timing_jitter, sync_error);
+    let lent = lent_at(
+        *guard, *top, clock, rates, blockings, extras, periods, counts, lengths, jitters, hops,
+        routes,
+    );
+    SlackAnswerNumbers::from(slack_columns(*form, lent, port, duration))
 }
 
 // The numbers mean what the answer of `planner::fixed_point` means.
 #[unsafe(no_mangle)]
-pub extern "C" fn cp_fixed_point_columns<'a>(
+pub extern "C" fn cp_fixed_point_columns(
     form: &u32,
     guard: &u32,
     top: &u32,
     drift: &u32,
     timing_jitter: &u32,
     sync_error: &u32,
-    rates: &'a columns::Rates,
-    blockings: &'a columns::Blockings,
-    extras: &'a columns::Extras,
-    periods: &'a columns::Periods,
-    counts: &'a columns::Counts,
-    lengths: &'a columns::Lengths,
-    jitters: &'a columns::Jitters,
-    hops: &'a columns::Hops,
-    routes: &'a columns::Routes,
+    rates: &columns::Rates,
+    blockings: &columns::Blockings,
+    extras: &columns::Extras,
+    periods: &columns::Periods,
+    counts: &columns::Counts,
+    lengths: &columns::Lengths,
+    jitters: &columns::Jitters,
+    hops: &columns::Hops,
+    routes: &columns::Routes,
     start: u64,
     steps: u64,
 ) -> FixedPointAnswerNumbers
@@ -132,13 +126,10 @@ pub extern "C" fn cp_fixed_point_columns<'a>(
         jitters.now hops.now routes.now))
         start steps result }
 {
-    let clock = Clock {
-        drift: *drift,
-        timing_jitter: *timing_jitter,
-        sync_error: *sync_error,
-    };
-    fixed_point_in_c(column_calls::fixed_point_columns(
-        *form, *guard, *top, clock, rates, blockings, extras, periods, counts, lengths, jitters,
-        hops, routes, start, steps,
-    ))
+    let clock = clock_at(drift, timing_jitter, sync_error);
+    let lent = lent_at(
+        *guard, *top, clock, rates, blockings, extras, periods, counts, lengths, jitters, hops,
+        routes,
+    );
+    FixedPointAnswerNumbers::from(fixed_point_columns(*form, lent, start, steps))
 }

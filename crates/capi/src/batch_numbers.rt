@@ -10,79 +10,76 @@ use crate::{
     ServeOutcomeNumbers,
 };
 use answer_numbers::{collect_number, place_number};
-use batching::{
-    CollectAnswer, CollectOutcome, PlaceAnswer, PlaceOutcome, ServeAnswer, ServeOutcome,
-};
+use batching::{CollectOutcome, CollectRefusal, PlaceOutcome, PlaceRefusal, ServeOutcome};
+use loading::Loaded;
+use plan::Refusal;
+use questions::FixedPoint;
 
 // What stands for no slot.
 const IDLE: u64 = batching::SLOTS;
 
-fn place_in_c(answer: PlaceAnswer) -> AnswerNumbers
-    ensures { result ≡ load_numbers (place_of answer) }
-{
-    let refusal = place_number(answer);
-    match answer {
-        PlaceAnswer::Placed { ports, flows } => numbered(refusal, ports as u64, flows as u64),
-        PlaceAnswer::NoSlot => numbered(refusal, 0, 0),
-        PlaceAnswer::Occupied => numbered(refusal, 0, 0),
-        PlaceAnswer::Refused { fault: _, offset } => numbered(refusal, offset as u64, 0),
-    }
-}
+impl From<Result<Loaded, PlaceRefusal>> for AnswerNumbers {
+    ghost from_gives = { λ answer numbers. numbers ≡ load_numbers (place_of answer) };
 
-fn serve_in_c(answer: ServeAnswer) -> u64
-    ensures { result ≡ served_number (serve_of answer) }
-{
-    match answer {
-        ServeAnswer::Served(slot) => slot,
-        ServeAnswer::Idle => IDLE,
-    }
-}
-
-fn collect_in_c(answer: CollectAnswer) -> FixedPointAnswerNumbers
-    ensures { result ≡ steps_numbers (collect_of answer) }
-{
-    let refusal = collect_number(answer);
-    match answer {
-        CollectAnswer::Duration { duration, steps } => stepped(refusal, duration, 0, steps),
-        CollectAnswer::Failing { port, count, steps } => {
-            stepped(refusal, port as u64, count as u64, steps)
+    fn from(answer: Result<Loaded, PlaceRefusal>) -> AnswerNumbers {
+        let refusal = place_number(answer);
+        match answer {
+            Ok(Loaded { ports, flows }) => numbered(refusal, ports as u64, flows as u64),
+            Err(PlaceRefusal::NoSlot | PlaceRefusal::Occupied) => numbered(refusal, 0, 0),
+            Err(PlaceRefusal::Refused(Refusal { offset, .. })) => {
+                numbered(refusal, offset as u64, 0)
+            }
         }
-        CollectAnswer::NoPlan => stepped(refusal, 0, 0, 0),
-        CollectAnswer::BadStart => stepped(refusal, 0, 0, 0),
-        CollectAnswer::NoSlot => stepped(refusal, 0, 0, 0),
-        CollectAnswer::Unanswered => stepped(refusal, 0, 0, 0),
     }
 }
 
-pub(crate) fn place_outcome_in_c(outcome: PlaceOutcome) -> PlaceOutcomeNumbers
-    ensures { (batch_of result.batch ≡ batch_of outcome.batch) × (result.answer ≡ load_numbers (place_of outcome.answer)) }
-{
-    let batch = outcome.batch;
-    let answer = outcome.answer;
-    let numbers = place_in_c(answer);
-    PlaceOutcomeNumbers {
-        batch,
-        answer: numbers,
+impl From<Result<FixedPoint, CollectRefusal>> for FixedPointAnswerNumbers {
+    ghost from_gives = { λ answer numbers. numbers ≡ steps_numbers (collect_of answer) };
+
+    fn from(answer: Result<FixedPoint, CollectRefusal>) -> FixedPointAnswerNumbers {
+        let refusal = collect_number(answer);
+        match answer {
+            Ok(FixedPoint { duration, steps }) => stepped(refusal, duration, 0, steps),
+            Err(CollectRefusal::Failing { port, count, steps }) => {
+                stepped(refusal, port as u64, count as u64, steps)
+            }
+            Err(CollectRefusal::NoPlan | CollectRefusal::BadStart) => stepped(refusal, 0, 0, 0),
+            Err(CollectRefusal::NoSlot | CollectRefusal::Unanswered) => {
+                stepped(refusal, 0, 0, 0)
+            }
+        }
     }
 }
 
-pub(crate) fn serve_outcome_in_c(outcome: ServeOutcome) -> ServeOutcomeNumbers
-    ensures { (batch_of result.batch ≡ batch_of outcome.batch) × (result.slot ≡ served_number (serve_of outcome.answer)) }
-{
-    let batch = outcome.batch;
-    let answer = outcome.answer;
-    let slot = serve_in_c(answer);
-    ServeOutcomeNumbers { batch, slot }
+impl From<PlaceOutcome> for PlaceOutcomeNumbers {
+    ghost from_gives = { λ outcome numbers. (batch_of numbers.batch ≡ batch_of outcome.batch) × (numbers.answer ≡ load_numbers (place_of outcome.answer)) };
+
+    fn from(outcome: PlaceOutcome) -> PlaceOutcomeNumbers {
+        PlaceOutcomeNumbers {
+            batch: outcome.batch,
+            answer: AnswerNumbers::from(outcome.answer),
+        }
+    }
 }
 
-pub(crate) fn collect_outcome_in_c(outcome: CollectOutcome) -> CollectOutcomeNumbers
-    ensures { (batch_of result.batch ≡ batch_of outcome.batch) × (result.answer ≡ steps_numbers (collect_of outcome.answer)) }
-{
-    let batch = outcome.batch;
-    let answer = outcome.answer;
-    let numbers = collect_in_c(answer);
-    CollectOutcomeNumbers {
-        batch,
-        answer: numbers,
+impl From<ServeOutcome> for ServeOutcomeNumbers {
+    ghost from_gives = { λ outcome numbers. (batch_of numbers.batch ≡ batch_of outcome.batch) × (numbers.slot ≡ served_number (serve_of outcome.answer)) };
+
+    fn from(outcome: ServeOutcome) -> ServeOutcomeNumbers {
+        ServeOutcomeNumbers {
+            batch: outcome.batch,
+            slot: outcome.answer.unwrap_or(IDLE),
+        }
+    }
+}
+
+impl From<CollectOutcome> for CollectOutcomeNumbers {
+    ghost from_gives = { λ outcome numbers. (batch_of numbers.batch ≡ batch_of outcome.batch) × (numbers.answer ≡ steps_numbers (collect_of outcome.answer)) };
+
+    fn from(outcome: CollectOutcome) -> CollectOutcomeNumbers {
+        CollectOutcomeNumbers {
+            batch: outcome.batch,
+            answer: FixedPointAnswerNumbers::from(outcome.answer),
+        }
     }
 }

@@ -5,30 +5,30 @@ ghost use Rattle.emissions.specs.Burst.{burst_answer};
 ghost use Rattle.emissions.specs.Unsent.{unsent_answer};
 ghost use Rattle.capi.specs.Emission.{burst_numbers, unsent_numbers};
 
-use crate::emission_numbers::{burst_in_c, unsent_in_c};
+use crate::lends::{clock_at, lent_at};
 use crate::{BurstAnswerNumbers, UnsentAnswerNumbers};
+use column_calls::formed;
 use emissions::{burst_tables, unsent_tables};
-use numbers::clock::Clock;
-use tables::{columns, held_top};
+use tables::columns;
 
 // A flow's part in the bad emission of a port, and the instant of one of its frames.
 #[unsafe(no_mangle)]
-pub extern "C" fn cp_burst_columns<'a>(
+pub extern "C" fn cp_burst_columns(
     form: &u32,
     guard: &u32,
     top: &u32,
     drift: &u32,
     timing_jitter: &u32,
     sync_error: &u32,
-    rates: &'a columns::Rates,
-    blockings: &'a columns::Blockings,
-    extras: &'a columns::Extras,
-    periods: &'a columns::Periods,
-    counts: &'a columns::Counts,
-    lengths: &'a columns::Lengths,
-    jitters: &'a columns::Jitters,
-    hops: &'a columns::Hops,
-    routes: &'a columns::Routes,
+    rates: &columns::Rates,
+    blockings: &columns::Blockings,
+    extras: &columns::Extras,
+    periods: &columns::Periods,
+    counts: &columns::Counts,
+    lengths: &columns::Lengths,
+    jitters: &columns::Jitters,
+    hops: &columns::Hops,
+    routes: &columns::Routes,
     duration: u64,
     port: u64,
     flow: u64,
@@ -42,36 +42,32 @@ pub extern "C" fn cp_burst_columns<'a>(
         jitters.now hops.now routes.now))
         duration port flow frame) }
 {
-    let clock = Clock {
-        drift: *drift,
-        timing_jitter: *timing_jitter,
-        sync_error: *sync_error,
-    };
-    let held = held_top(*form, hops, *top);
-    burst_in_c(burst_tables(
-        *guard, held, clock, rates, blockings, extras, periods, counts, lengths, jitters, hops,
-        routes, duration, port, flow, frame,
-    ))
+    let clock = clock_at(drift, timing_jitter, sync_error);
+    let lent = lent_at(
+        *guard, *top, clock, rates, blockings, extras, periods, counts, lengths, jitters, hops,
+        routes,
+    );
+    BurstAnswerNumbers::from(burst_tables(formed(*form, lent), duration, port, flow, frame))
 }
 
 // Of the bad emission of the lowest port that fails, the first cycle in which a frame is left unsent, and the lowest port there.
 #[unsafe(no_mangle)]
-pub extern "C" fn cp_unsent_columns<'a>(
+pub extern "C" fn cp_unsent_columns(
     form: &u32,
     guard: &u32,
     top: &u32,
     drift: &u32,
     timing_jitter: &u32,
     sync_error: &u32,
-    rates: &'a columns::Rates,
-    blockings: &'a columns::Blockings,
-    extras: &'a columns::Extras,
-    periods: &'a columns::Periods,
-    counts: &'a columns::Counts,
-    lengths: &'a columns::Lengths,
-    jitters: &'a columns::Jitters,
-    hops: &'a columns::Hops,
-    routes: &'a columns::Routes,
+    rates: &columns::Rates,
+    blockings: &columns::Blockings,
+    extras: &columns::Extras,
+    periods: &columns::Periods,
+    counts: &columns::Counts,
+    lengths: &columns::Lengths,
+    jitters: &columns::Jitters,
+    hops: &columns::Hops,
+    routes: &columns::Routes,
     duration: u64,
 ) -> UnsentAnswerNumbers
     ensures { result ≡ unsent_numbers (unsent_answer
@@ -82,14 +78,10 @@ pub extern "C" fn cp_unsent_columns<'a>(
         jitters.now hops.now routes.now))
         duration) }
 {
-    let clock = Clock {
-        drift: *drift,
-        timing_jitter: *timing_jitter,
-        sync_error: *sync_error,
-    };
-    let held = held_top(*form, hops, *top);
-    unsent_in_c(unsent_tables(
-        *guard, held, clock, rates, blockings, extras, periods, counts, lengths, jitters, hops,
-        routes, duration,
-    ))
+    let clock = clock_at(drift, timing_jitter, sync_error);
+    let lent = lent_at(
+        *guard, *top, clock, rates, blockings, extras, periods, counts, lengths, jitters, hops,
+        routes,
+    );
+    UnsentAnswerNumbers::from(unsent_tables(formed(*form, lent), duration))
 }

@@ -5,7 +5,7 @@ ghost use Rattle.plan.specs.Answer.{field_of, field_read_of};
 ghost use Rattle.capi.specs.Numbers.{field_numbers, six};
 
 use crate::FieldReadNumbers;
-use plan::{Field, FieldRead};
+use plan::{Field, FieldAt, Refusal};
 
 // The tags of the fields.
 const HEADER: u32 = plan::layout::HEADER_TAG as u32;
@@ -94,21 +94,23 @@ fn numbers_in_c(field: Field) -> [u64; 6]
     }
 }
 
-pub(crate) fn field_in_c(reading: FieldRead) -> FieldReadNumbers
-    ensures { result ≡ field_numbers (field_read_of reading) }
-{
-    match reading {
-        FieldRead::Refused { fault, offset } => FieldReadNumbers {
-            refusal: plan::fault_number(fault) as u32,
-            tag: 0,
-            offset: offset as u64,
-            numbers: [0, 0, 0, 0, 0, 0],
-        },
-        FieldRead::Field { field, next } => FieldReadNumbers {
-            refusal: 0,
-            tag: tag_in_c(field),
-            offset: next as u64,
-            numbers: numbers_in_c(field),
-        },
+impl From<Result<FieldAt, Refusal>> for FieldReadNumbers {
+    ghost from_gives = { λ reading numbers. numbers ≡ field_numbers (field_read_of reading) };
+
+    fn from(reading: Result<FieldAt, Refusal>) -> FieldReadNumbers {
+        match reading {
+            Ok(FieldAt { field, next }) => FieldReadNumbers {
+                refusal: 0,
+                tag: tag_in_c(field),
+                offset: next as u64,
+                numbers: numbers_in_c(field),
+            },
+            Err(Refusal { fault, offset }) => FieldReadNumbers {
+                refusal: plan::fault_number(fault) as u32,
+                tag: 0,
+                offset: offset as u64,
+                numbers: [0; 6],
+            },
+        }
     }
 }

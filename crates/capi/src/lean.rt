@@ -6,26 +6,27 @@ ghost use Rattle.capi.specs.Numbers.{search_numbers};
 
 use crate::AnswerNumbers;
 use crate::in_c::{least_in_c, margin_safe_in_c};
-use numbers::clock::Clock;
+use crate::lends::{clock_at, lent_at};
+use column_calls::{lean_least_columns, lean_margin_safe_columns};
 use tables::columns;
 
 #[unsafe(no_mangle)]
-pub extern "C" fn cp_lean_least_columns<'a>(
+pub extern "C" fn cp_lean_least_columns(
     form: &u32,
     guard: &u32,
     top: &u32,
     drift: &u32,
     timing_jitter: &u32,
     sync_error: &u32,
-    rates: &'a columns::Rates,
-    blockings: &'a columns::Blockings,
-    extras: &'a columns::Extras,
-    periods: &'a columns::Periods,
-    counts: &'a columns::Counts,
-    lengths: &'a columns::Lengths,
-    jitters: &'a columns::Jitters,
-    hops: &'a columns::Hops,
-    routes: &'a columns::Routes,
+    rates: &columns::Rates,
+    blockings: &columns::Blockings,
+    extras: &columns::Extras,
+    periods: &columns::Periods,
+    counts: &columns::Counts,
+    lengths: &columns::Lengths,
+    jitters: &columns::Jitters,
+    hops: &columns::Hops,
+    routes: &columns::Routes,
     scratch: &mut [u64],
 ) -> AnswerNumbers
     ensures { (result ≡ search_numbers (lean_least_answer
@@ -43,34 +44,31 @@ pub extern "C" fn cp_lean_least_columns<'a>(
         jitters.now hops.now routes.now))
         scratch.old) }
 {
-    let clock = Clock {
-        drift: *drift,
-        timing_jitter: *timing_jitter,
-        sync_error: *sync_error,
-    };
-    least_in_c(column_calls::lean_least_columns(
-        *form, *guard, *top, clock, rates, blockings, extras, periods, counts, lengths, jitters,
-        hops, routes, scratch,
-    ))
+    let clock = clock_at(drift, timing_jitter, sync_error);
+    let lent = lent_at(
+        *guard, *top, clock, rates, blockings, extras, periods, counts, lengths, jitters, hops,
+        routes,
+    );
+    least_in_c(lean_least_columns(*form, lent, scratch))
 }
 
 #[unsafe(no_mangle)]
-pub extern "C" fn cp_lean_margin_safe_columns<'a>(
+pub extern "C" fn cp_lean_margin_safe_columns(
     form: &u32,
     guard: &u32,
     top: &u32,
     drift: &u32,
     timing_jitter: &u32,
     sync_error: &u32,
-    rates: &'a columns::Rates,
-    blockings: &'a columns::Blockings,
-    extras: &'a columns::Extras,
-    periods: &'a columns::Periods,
-    counts: &'a columns::Counts,
-    lengths: &'a columns::Lengths,
-    jitters: &'a columns::Jitters,
-    hops: &'a columns::Hops,
-    routes: &'a columns::Routes,
+    rates: &columns::Rates,
+    blockings: &columns::Blockings,
+    extras: &columns::Extras,
+    periods: &columns::Periods,
+    counts: &columns::Counts,
+    lengths: &columns::Lengths,
+    jitters: &columns::Jitters,
+    hops: &columns::Hops,
+    routes: &columns::Routes,
     scratch: &mut [u64],
 ) -> AnswerNumbers
     ensures { (result ≡ search_numbers (lean_margin_safe_answer
@@ -88,13 +86,10 @@ pub extern "C" fn cp_lean_margin_safe_columns<'a>(
         jitters.now hops.now routes.now))
         scratch.old) }
 {
-    let clock = Clock {
-        drift: *drift,
-        timing_jitter: *timing_jitter,
-        sync_error: *sync_error,
-    };
-    margin_safe_in_c(column_calls::lean_margin_safe_columns(
-        *form, *guard, *top, clock, rates, blockings, extras, periods, counts, lengths, jitters,
-        hops, routes, scratch,
-    ))
+    let clock = clock_at(drift, timing_jitter, sync_error);
+    let lent = lent_at(
+        *guard, *top, clock, rates, blockings, extras, periods, counts, lengths, jitters, hops,
+        routes,
+    );
+    margin_safe_in_c(lean_margin_safe_columns(*form, lent, scratch))
 }

@@ -9,10 +9,7 @@ ghost use Rattle.batches.specs.Batch.{empty_batch, place_answer, place_leaves, s
 ghost use Rattle.batching.specs.Slots.{batch_of};
 ghost use Rattle.capi.specs.Numbers.{load_numbers, steps_numbers, written_numbers, served_number, field_numbers, form_by_tag};
 
-use crate::batch_numbers::{collect_outcome_in_c, place_outcome_in_c, serve_outcome_in_c};
-use crate::field_numbers::field_in_c;
 use crate::in_c::form_by_tag;
-use crate::written::convert_in_c;
 use batching::Batch;
 
 mod in_c; // in_c.rt: each answer as numbers
@@ -22,6 +19,7 @@ mod emission; // emission.rt: the bad emission
 mod emission_numbers; // emission_numbers.rt: those of the calls for it
 mod field_numbers; // field_numbers.rt: a field as numbers
 mod fields; // fields.rt: the writers of single fields
+mod lends; // lends.rt: the tables at the pointers of a call
 mod lean; // lean.rt: the searches over a scratch of one number
 mod listed; // listed.rt: spans, and a list of slacks
 mod loads; // loads.rt: the loads
@@ -123,7 +121,7 @@ pub struct CollectOutcomeNumbers {
 pub extern "C" fn cp_field_bytes(plan: &[u8], offset: usize) -> FieldReadNumbers
     ensures { result ≡ field_numbers (field_at (form_by plan.now) plan.now offset) }
 {
-    field_in_c(plan::read_field(plan, offset))
+    FieldReadNumbers::from(plan::read_field(plan, offset))
 }
 
 #[unsafe(no_mangle)]
@@ -138,7 +136,7 @@ pub extern "C" fn cp_upgrade_bytes(plan: &[u8], buffer: &mut [u8]) -> AnswerNumb
     ensures { (result ≡ written_numbers (upgrade_answer plan.now buffer.old))
         × (buffer.new ≡ upgrade_leaves plan.now buffer.old) }
 {
-    convert_in_c(converting::upgrade(plan, buffer))
+    AnswerNumbers::from(converting::upgrade(plan, buffer))
 }
 
 #[unsafe(no_mangle)]
@@ -146,7 +144,7 @@ pub extern "C" fn cp_downgrade_bytes(plan: &[u8], buffer: &mut [u8]) -> AnswerNu
     ensures { (result ≡ written_numbers (downgrade_answer plan.now buffer.old))
         × (buffer.new ≡ downgrade_leaves plan.now buffer.old) }
 {
-    convert_in_c(converting::downgrade(plan, buffer))
+    AnswerNumbers::from(converting::downgrade(plan, buffer))
 }
 
 #[unsafe(no_mangle)]
@@ -160,19 +158,19 @@ pub extern "C" fn cp_batch_empty() -> Batch
 pub extern "C" fn cp_batch_place_bytes(batch: Batch, slot: u64, plan: &[u8]) -> PlaceOutcomeNumbers
     ensures { (batch_of result.batch ≡ place_leaves (batch_of batch) slot plan.now) × (result.answer ≡ load_numbers (place_answer (batch_of batch) slot plan.now)) }
 {
-    place_outcome_in_c(batching::place(batch, slot, plan))
+    PlaceOutcomeNumbers::from(batching::place(batch, slot, plan))
 }
 
 #[unsafe(no_mangle)]
 pub extern "C" fn cp_batch_serve(batch: Batch) -> ServeOutcomeNumbers
     ensures { (batch_of result.batch ≡ serve_leaves (batch_of batch)) × (result.slot ≡ served_number (serve_answer (batch_of batch))) }
 {
-    serve_outcome_in_c(batching::serve(batch))
+    ServeOutcomeNumbers::from(batching::serve(batch))
 }
 
 #[unsafe(no_mangle)]
 pub extern "C" fn cp_batch_collect(batch: Batch, slot: u64) -> CollectOutcomeNumbers
     ensures { (batch_of result.batch ≡ collect_leaves (batch_of batch) slot) × (result.answer ≡ steps_numbers (collect_answer (batch_of batch) slot)) }
 {
-    collect_outcome_in_c(batching::collect(batch, slot))
+    CollectOutcomeNumbers::from(batching::collect(batch, slot))
 }

@@ -7,29 +7,28 @@ ghost use Rattle.capi.specs.Meaning.{SpanNumbersMean, SpansNumbersMean};
 ghost use Rattle.capi.specs.Numbers.{check_numbers, search_numbers, span_numbers};
 
 use crate::AnswerNumbers;
-use crate::in_c::reprice_in_c;
-use crate::usable::{span_in_c, spans_in_c};
-use numbers::clock::Clock;
+use crate::lends::{clock_at, lent_at};
+use column_calls::{reprice_columns, span_columns, spans_columns};
 use questions::SpanRecord;
 use tables::columns;
 
 #[unsafe(no_mangle)]
-pub extern "C" fn cp_reprice_columns<'a>(
+pub extern "C" fn cp_reprice_columns(
     form: &u32,
     guard: &u32,
     top: &u32,
     drift: &u32,
     timing_jitter: &u32,
     sync_error: &u32,
-    rates: &'a columns::Rates,
-    blockings: &'a columns::Blockings,
-    extras: &'a columns::Extras,
-    periods: &'a columns::Periods,
-    counts: &'a columns::Counts,
-    lengths: &'a columns::Lengths,
-    jitters: &'a columns::Jitters,
-    hops: &'a columns::Hops,
-    routes: &'a columns::Routes,
+    rates: &columns::Rates,
+    blockings: &columns::Blockings,
+    extras: &columns::Extras,
+    periods: &columns::Periods,
+    counts: &columns::Counts,
+    lengths: &columns::Lengths,
+    jitters: &columns::Jitters,
+    hops: &columns::Hops,
+    routes: &columns::Routes,
     duration: u64,
     flow: u64,
     length: u64,
@@ -50,35 +49,32 @@ pub extern "C" fn cp_reprice_columns<'a>(
         jitters.now hops.now routes.now))
         duration flow length out.old) }
 {
-    let clock = Clock {
-        drift: *drift,
-        timing_jitter: *timing_jitter,
-        sync_error: *sync_error,
-    };
-    reprice_in_c(column_calls::reprice_columns(
-        *form, *guard, *top, clock, rates, blockings, extras, periods, counts, lengths, jitters,
-        hops, routes, duration, flow, length, out,
-    ))
+    let clock = clock_at(drift, timing_jitter, sync_error);
+    let lent = lent_at(
+        *guard, *top, clock, rates, blockings, extras, periods, counts, lengths, jitters, hops,
+        routes,
+    );
+    AnswerNumbers::from(reprice_columns(*form, lent, duration, flow, length, out))
 }
 
 // The numbers mean what the answer of `planner::span` means.
 #[unsafe(no_mangle)]
-pub extern "C" fn cp_span_columns<'a>(
+pub extern "C" fn cp_span_columns(
     form: &u32,
     guard: &u32,
     top: &u32,
     drift: &u32,
     timing_jitter: &u32,
     sync_error: &u32,
-    rates: &'a columns::Rates,
-    blockings: &'a columns::Blockings,
-    extras: &'a columns::Extras,
-    periods: &'a columns::Periods,
-    counts: &'a columns::Counts,
-    lengths: &'a columns::Lengths,
-    jitters: &'a columns::Jitters,
-    hops: &'a columns::Hops,
-    routes: &'a columns::Routes,
+    rates: &columns::Rates,
+    blockings: &columns::Blockings,
+    extras: &columns::Extras,
+    periods: &columns::Periods,
+    counts: &columns::Counts,
+    lengths: &columns::Lengths,
+    jitters: &columns::Jitters,
+    hops: &columns::Hops,
+    routes: &columns::Routes,
     duration: u64,
 ) -> AnswerNumbers
     ensures answers { result ≡ span_numbers (span_answer
@@ -96,35 +92,32 @@ pub extern "C" fn cp_span_columns<'a>(
         jitters.now hops.now routes.now))
         duration result }
 {
-    let clock = Clock {
-        drift: *drift,
-        timing_jitter: *timing_jitter,
-        sync_error: *sync_error,
-    };
-    span_in_c(column_calls::span_columns(
-        *form, *guard, *top, clock, rates, blockings, extras, periods, counts, lengths, jitters,
-        hops, routes, duration,
-    ))
+    let clock = clock_at(drift, timing_jitter, sync_error);
+    let lent = lent_at(
+        *guard, *top, clock, rates, blockings, extras, periods, counts, lengths, jitters, hops,
+        routes,
+    );
+    AnswerNumbers::from(span_columns(*form, lent, duration))
 }
 
 // The numbers mean what the answer of `planner::spans` means.
 #[unsafe(no_mangle)]
-pub extern "C" fn cp_spans_columns<'a>(
-    form: &'a u32,
-    guard: &'a u32,
-    top: &'a u32,
-    drift: &'a u32,
-    timing_jitter: &'a u32,
-    sync_error: &'a u32,
-    rates: &'a columns::Rates,
-    blockings: &'a columns::Blockings,
-    extras: &'a columns::Extras,
-    periods: &'a columns::Periods,
-    counts: &'a columns::Counts,
-    lengths: &'a columns::Lengths,
-    jitters: &'a columns::Jitters,
-    hops: &'a columns::Hops,
-    routes: &'a columns::Routes,
+pub extern "C" fn cp_spans_columns(
+    form: &u32,
+    guard: &u32,
+    top: &u32,
+    drift: &u32,
+    timing_jitter: &u32,
+    sync_error: &u32,
+    rates: &columns::Rates,
+    blockings: &columns::Blockings,
+    extras: &columns::Extras,
+    periods: &columns::Periods,
+    counts: &columns::Counts,
+    lengths: &columns::Lengths,
+    jitters: &columns::Jitters,
+    hops: &columns::Hops,
+    routes: &columns::Routes,
     list: &mut [SpanRecord],
 ) -> AnswerNumbers
     ensures answers { (result ≡ search_numbers (spans_answer
@@ -149,22 +142,10 @@ pub extern "C" fn cp_spans_columns<'a>(
         jitters.now hops.now routes.now))
         list.old list.new result }
 {
-    spans_in_c(questions::spans_columns(
-        form,
-        guard,
-        top,
-        drift,
-        timing_jitter,
-        sync_error,
-        rates,
-        blockings,
-        extras,
-        periods,
-        counts,
-        lengths,
-        jitters,
-        hops,
+    let clock = clock_at(drift, timing_jitter, sync_error);
+    let lent = lent_at(
+        *guard, *top, clock, rates, blockings, extras, periods, counts, lengths, jitters, hops,
         routes,
-        list,
-    ))
+    );
+    AnswerNumbers::from(spans_columns(*form, lent, list))
 }

@@ -1,4 +1,4 @@
-// The loads for C: the planner by its columns, each at a pointer, and what holds no plan.
+// The loads for C: the planner by its columns, each at a pointer, and what holds no plan. C names two loads; both are one, strict or not.
 ghost use Rattle.std.specs.Prelude.{◌≡◌};
 ghost use Rattle.cqf.specs.Plan.{no_plan};
 ghost use Rattle.plan_reading.specs.Reading.{loose, strict};
@@ -6,7 +6,6 @@ ghost use Rattle.loading.specs.Lent.{lent, lent_plan, none_lent};
 ghost use Rattle.capi.specs.Loads.{LoadsNumbers};
 
 use crate::AnswerNumbers;
-use crate::in_c::load_in_c;
 use tables::{FLOWS, PORTS, STRIDE, columns};
 
 // Every number is 0: no plan is held.
@@ -89,7 +88,7 @@ pub extern "C" fn cp_load_columns(
         jitters.new hops.new routes.new)
         result }
 {
-    load_in_c(loading::load_columns(
+    AnswerNumbers::from(loading::load_columns(
         false,
         form,
         guard,
@@ -160,5 +159,5 @@ pub extern "C" fn cp_load_strict_columns(
         routes,
         plan,
     );
-    load_in_c(answer)
+    AnswerNumbers::from(answer)
 }

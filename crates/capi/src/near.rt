@@ -6,28 +6,28 @@ ghost use Rattle.capi.specs.Meaning.{NearestNumbersMean};
 ghost use Rattle.capi.specs.Numbers.{nearest_numbers};
 
 use crate::AnswerNumbers;
-use crate::nearest_numbers::nearest_in_c;
-use numbers::clock::Clock;
+use crate::lends::{clock_at, lent_at};
+use column_calls::nearest_columns;
 use tables::columns;
 
 // The numbers mean what the answer of `planner::nearest` means.
 #[unsafe(no_mangle)]
-pub extern "C" fn cp_nearest_columns<'a>(
+pub extern "C" fn cp_nearest_columns(
     form: &u32,
     guard: &u32,
     top: &u32,
     drift: &u32,
     timing_jitter: &u32,
     sync_error: &u32,
-    rates: &'a columns::Rates,
-    blockings: &'a columns::Blockings,
-    extras: &'a columns::Extras,
-    periods: &'a columns::Periods,
-    counts: &'a columns::Counts,
-    lengths: &'a columns::Lengths,
-    jitters: &'a columns::Jitters,
-    hops: &'a columns::Hops,
-    routes: &'a columns::Routes,
+    rates: &columns::Rates,
+    blockings: &columns::Blockings,
+    extras: &columns::Extras,
+    periods: &columns::Periods,
+    counts: &columns::Counts,
+    lengths: &columns::Lengths,
+    jitters: &columns::Jitters,
+    hops: &columns::Hops,
+    routes: &columns::Routes,
     duration: u64,
 ) -> AnswerNumbers
     ensures answers { result ≡ nearest_numbers (nearest_answer
@@ -45,13 +45,10 @@ pub extern "C" fn cp_nearest_columns<'a>(
         jitters.now hops.now routes.now))
         duration result }
 {
-    let clock = Clock {
-        drift: *drift,
-        timing_jitter: *timing_jitter,
-        sync_error: *sync_error,
-    };
-    nearest_in_c(column_calls::nearest_columns(
-        *form, *guard, *top, clock, rates, blockings, extras, periods, counts, lengths, jitters,
-        hops, routes, duration,
-    ))
+    let clock = clock_at(drift, timing_jitter, sync_error);
+    let lent = lent_at(
+        *guard, *top, clock, rates, blockings, extras, periods, counts, lengths, jitters, hops,
+        routes,
+    );
+    AnswerNumbers::from(nearest_columns(*form, lent, duration))
 }

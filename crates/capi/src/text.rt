@@ -2,16 +2,16 @@
 ghost use Rattle.std.specs.Prelude.{◌≡◌};
 ghost use Rattle.text_coding.specs.Encode.{encode_answer, encode_leaves};
 ghost use Rattle.text_coding.specs.Answer.{encoded_of};
-ghost use Rattle.capi.specs.Text.{fault_number, item_number, encode_numbers};
+ghost use Rattle.capi.specs.Text.{fault_number, item_number, encode_numbers, length_numbers};
 
 use crate::EncodeAnswerNumbers;
+use answer_numbers::SHORT_BUFFER;
 use plan_text::grammar::{Fault, Item};
-use text_coding::{EncodeAnswer, encode_text};
-
-const SHORT_BUFFER: u32 = 13;
+use text_coding::{EncodeRefusal, encode_text};
 
 const BAD_TEXT: u32 = 30;
 
+// The numbers of the C interface.
 fn fault_in_c(fault: Fault) -> u32
     ensures { result ≡ fault_number fault }
 {
@@ -53,36 +53,33 @@ fn item_in_c(item: Item) -> u32
     }
 }
 
-fn encode_in_c(answer: EncodeAnswer) -> EncodeAnswerNumbers
-    ensures { result ≡ encode_numbers (encoded_of answer) }
+fn sized(refusal: u32, size: usize) -> EncodeAnswerNumbers
+    ensures { result ≡ length_numbers refusal size }
 {
-    match answer {
-        EncodeAnswer::Written(size) => EncodeAnswerNumbers {
-            refusal: 0,
-            line: 0,
-            fault: 0,
-            item: 0,
-            value: size as u64,
-        },
-        EncodeAnswer::Short(size) => EncodeAnswerNumbers {
-            refusal: SHORT_BUFFER,
-            line: 0,
-            fault: 0,
-            item: 0,
-            value: size as u64,
-        },
-        EncodeAnswer::Refused {
-            line,
-            fault,
-            item,
-            value,
-        } => EncodeAnswerNumbers {
-            refusal: BAD_TEXT,
-            line: line,
-            fault: fault_in_c(fault),
-            item: item_in_c(item),
-            value: value,
-        },
+    EncodeAnswerNumbers {
+        refusal,
+        line: 0,
+        fault: 0,
+        item: 0,
+        value: size as u64,
+    }
+}
+
+impl From<Result<usize, EncodeRefusal>> for EncodeAnswerNumbers {
+    ghost from_gives = { λ answer numbers. numbers ≡ encode_numbers (encoded_of answer) };
+
+    fn from(answer: Result<usize, EncodeRefusal>) -> EncodeAnswerNumbers {
+        match answer {
+            Ok(size) => sized(0, size),
+            Err(EncodeRefusal::Short(size)) => sized(SHORT_BUFFER, size),
+            Err(EncodeRefusal::Refused(refused)) => EncodeAnswerNumbers {
+                refusal: BAD_TEXT,
+                line: refused.line,
+                fault: fault_in_c(refused.fault),
+                item: item_in_c(refused.item),
+                value: refused.value,
+            },
+        }
     }
 }
 
@@ -92,5 +89,5 @@ pub extern "C" fn cp_encode_bytes(text: &[u8], buffer: &mut [u8]) -> EncodeAnswe
     ensures { (result ≡ encode_numbers (encode_answer text.now buffer.old))
         × (buffer.new ≡ encode_leaves text.now buffer.old) }
 {
-    encode_in_c(encode_text(text, buffer))
+    EncodeAnswerNumbers::from(encode_text(text, buffer))
 }

@@ -2,47 +2,31 @@
 ghost use Rattle.std.specs.Prelude.{◌≡◌};
 ghost use Rattle.cqf.specs.Form.{form_from};
 ghost use Rattle.loading.specs.Lent.{lent, lent_plan};
-ghost use Rattle.text_writing.specs.Answer.{text_answer_of};
 ghost use Rattle.text_writing.specs.Text.{text_answer, text_leaves};
 ghost use Rattle.capi.specs.Numbers.{written_numbers};
 
 use crate::AnswerNumbers;
-use crate::in_c::numbered;
-use numbers::clock::Clock;
+use crate::lends::{clock_at, lent_at};
 use tables::columns;
-use text_writing::{TextAnswer, write_columns};
-
-const SHORT_BUFFER: u32 = 13;
-
-const NO_PLAN: u32 = 20;
-
-fn text_in_c(answer: TextAnswer) -> AnswerNumbers
-    ensures { result ≡ written_numbers (text_answer_of answer) }
-{
-    match answer {
-        TextAnswer::Written(length) => numbered(0, length as u64, 0),
-        TextAnswer::NoPlan => numbered(NO_PLAN, 0, 0),
-        TextAnswer::ShortBuffer(needed) => numbered(SHORT_BUFFER, needed as u64, 0),
-    }
-}
+use text_writing::write_columns;
 
 #[unsafe(no_mangle)]
-pub extern "C" fn cp_text_columns<'a>(
+pub extern "C" fn cp_text_columns(
     form: &u32,
     guard: &u32,
     top: &u32,
     drift: &u32,
     timing_jitter: &u32,
     sync_error: &u32,
-    rates: &'a columns::Rates,
-    blockings: &'a columns::Blockings,
-    extras: &'a columns::Extras,
-    periods: &'a columns::Periods,
-    counts: &'a columns::Counts,
-    lengths: &'a columns::Lengths,
-    jitters: &'a columns::Jitters,
-    hops: &'a columns::Hops,
-    routes: &'a columns::Routes,
+    rates: &columns::Rates,
+    blockings: &columns::Blockings,
+    extras: &columns::Extras,
+    periods: &columns::Periods,
+    counts: &columns::Counts,
+    lengths: &columns::Lengths,
+    jitters: &columns::Jitters,
+    hops: &columns::Hops,
+    routes: &columns::Routes,
     buffer: &mut [u8],
 ) -> AnswerNumbers
     ensures { (result ≡ written_numbers (text_answer (form_from form.now)
@@ -60,13 +44,10 @@ pub extern "C" fn cp_text_columns<'a>(
         jitters.now hops.now routes.now))
         buffer.old) }
 {
-    let clock = Clock {
-        drift: *drift,
-        timing_jitter: *timing_jitter,
-        sync_error: *sync_error,
-    };
-    text_in_c(write_columns(
-        *form, *guard, *top, clock, rates, blockings, extras, periods, counts, lengths, jitters,
-        hops, routes, buffer,
-    ))
+    let clock = clock_at(drift, timing_jitter, sync_error);
+    let lent = lent_at(
+        *guard, *top, clock, rates, blockings, extras, periods, counts, lengths, jitters, hops,
+        routes,
+    );
+    AnswerNumbers::from(write_columns(*form, lent, buffer))
 }

@@ -6,28 +6,29 @@ ghost use Rattle.capi.specs.Numbers.{search_numbers, span_numbers};
 use crate::AnswerNumbers;
 use crate::in_c::numbered;
 use answer_numbers::{span_number, spans_number};
-use questions::{SpanAnswer, SpansAnswer};
+use questions::{SpanRecord, SpanRefusal, SpansRefusal};
 
-pub(crate) fn span_in_c(answer: SpanAnswer) -> AnswerNumbers
-    ensures { result ≡ span_numbers (span_answer_of answer) }
-{
-    let refusal = span_number(answer);
-    match answer {
-        SpanAnswer::Span(span) => numbered(refusal, span.first, span.last),
-        SpanAnswer::NoPlan => numbered(refusal, 0, 0),
-        SpanAnswer::BadDuration => numbered(refusal, 0, 0),
-        SpanAnswer::NoSpan => numbered(refusal, 0, 0),
+impl From<Result<SpanRecord, SpanRefusal>> for AnswerNumbers {
+    ghost from_gives = { λ answer numbers. numbers ≡ span_numbers (span_answer_of answer) };
+
+    fn from(answer: Result<SpanRecord, SpanRefusal>) -> AnswerNumbers {
+        let refusal = span_number(answer);
+        match answer {
+            Ok(span) => numbered(refusal, span.first, span.last),
+            Err(_) => numbered(refusal, 0, 0),
+        }
     }
 }
 
 // 13 has how many there are, as a result has.
-pub(crate) fn spans_in_c(answer: SpansAnswer) -> AnswerNumbers
-    ensures { result ≡ search_numbers (spans_answer_of answer) }
-{
-    let refusal = spans_number(answer);
-    match answer {
-        SpansAnswer::Count(count) => numbered(refusal, count, 0),
-        SpansAnswer::NoPlan => numbered(refusal, 0, 0),
-        SpansAnswer::ShortList { count } => numbered(refusal, count, 0),
+impl From<Result<u64, SpansRefusal>> for AnswerNumbers {
+    ghost from_gives = { λ answer numbers. numbers ≡ search_numbers (spans_answer_of answer) };
+
+    fn from(answer: Result<u64, SpansRefusal>) -> AnswerNumbers {
+        let refusal = spans_number(answer);
+        match answer {
+            Ok(count) | Err(SpansRefusal::ShortList { count }) => numbered(refusal, count, 0),
+            Err(SpansRefusal::NoPlan) => numbered(refusal, 0, 0),
+        }
     }
 }

@@ -8,27 +8,27 @@ ghost use Rattle.capi.specs.Meaning.{GatesNumbersMean};
 ghost use Rattle.capi.specs.Numbers.{written_numbers};
 
 use crate::AnswerNumbers;
-use crate::written::{gates_in_c, save_in_c};
-use numbers::clock::Clock;
+use crate::lends::{clock_at, lent_at};
+use column_calls::{gates_columns, save_columns};
 use tables::columns;
 
 #[unsafe(no_mangle)]
-pub extern "C" fn cp_save_columns<'a>(
+pub extern "C" fn cp_save_columns(
     form: &u32,
     guard: &u32,
     top: &u32,
     drift: &u32,
     timing_jitter: &u32,
     sync_error: &u32,
-    rates: &'a columns::Rates,
-    blockings: &'a columns::Blockings,
-    extras: &'a columns::Extras,
-    periods: &'a columns::Periods,
-    counts: &'a columns::Counts,
-    lengths: &'a columns::Lengths,
-    jitters: &'a columns::Jitters,
-    hops: &'a columns::Hops,
-    routes: &'a columns::Routes,
+    rates: &columns::Rates,
+    blockings: &columns::Blockings,
+    extras: &columns::Extras,
+    periods: &columns::Periods,
+    counts: &columns::Counts,
+    lengths: &columns::Lengths,
+    jitters: &columns::Jitters,
+    hops: &columns::Hops,
+    routes: &columns::Routes,
     buffer: &mut [u8],
 ) -> AnswerNumbers
     ensures { (result ≡ written_numbers (save_answer (form_from form.now)
@@ -46,35 +46,32 @@ pub extern "C" fn cp_save_columns<'a>(
         jitters.now hops.now routes.now))
         buffer.old) }
 {
-    let clock = Clock {
-        drift: *drift,
-        timing_jitter: *timing_jitter,
-        sync_error: *sync_error,
-    };
-    save_in_c(column_calls::save_columns(
-        *form, *guard, *top, clock, rates, blockings, extras, periods, counts, lengths, jitters,
-        hops, routes, buffer,
-    ))
+    let clock = clock_at(drift, timing_jitter, sync_error);
+    let lent = lent_at(
+        *guard, *top, clock, rates, blockings, extras, periods, counts, lengths, jitters, hops,
+        routes,
+    );
+    AnswerNumbers::from(save_columns(*form, lent, buffer))
 }
 
 // 0 means that the bytes written play two cycles of the plan held.
 #[unsafe(no_mangle)]
-pub extern "C" fn cp_gates_columns<'a>(
+pub extern "C" fn cp_gates_columns(
     form: &u32,
     guard: &u32,
     top: &u32,
     drift: &u32,
     timing_jitter: &u32,
     sync_error: &u32,
-    rates: &'a columns::Rates,
-    blockings: &'a columns::Blockings,
-    extras: &'a columns::Extras,
-    periods: &'a columns::Periods,
-    counts: &'a columns::Counts,
-    lengths: &'a columns::Lengths,
-    jitters: &'a columns::Jitters,
-    hops: &'a columns::Hops,
-    routes: &'a columns::Routes,
+    rates: &columns::Rates,
+    blockings: &columns::Blockings,
+    extras: &columns::Extras,
+    periods: &columns::Periods,
+    counts: &columns::Counts,
+    lengths: &columns::Lengths,
+    jitters: &columns::Jitters,
+    hops: &columns::Hops,
+    routes: &columns::Routes,
     duration: u64,
     even: u64,
     odd: u64,
@@ -102,13 +99,10 @@ pub extern "C" fn cp_gates_columns<'a>(
         jitters.now hops.now routes.now))
         duration even odd buffer.old buffer.new result }
 {
-    let clock = Clock {
-        drift: *drift,
-        timing_jitter: *timing_jitter,
-        sync_error: *sync_error,
-    };
-    gates_in_c(column_calls::gates_columns(
-        *form, *guard, *top, clock, rates, blockings, extras, periods, counts, lengths, jitters,
-        hops, routes, duration, even, odd, buffer,
-    ))
+    let clock = clock_at(drift, timing_jitter, sync_error);
+    let lent = lent_at(
+        *guard, *top, clock, rates, blockings, extras, periods, counts, lengths, jitters, hops,
+        routes,
+    );
+    AnswerNumbers::from(gates_columns(*form, lent, duration, even, odd, buffer))
 }

@@ -8,58 +8,71 @@ ghost use Rattle.capi.specs.Numbers.{written_numbers};
 
 use crate::AnswerNumbers;
 use crate::in_c::numbered;
-use answer_numbers::{convert_number, gates_number, save_number};
-use converting::ConvertAnswer;
-use field_writing::WriteAnswer;
-use gate_writing::GatesAnswer;
-use saving::SaveAnswer;
+use answer_numbers::{SHORT_BUFFER, convert_number, gates_number, save_number};
+use converting::ConvertRefusal;
+use field_writing::WriteRefusal;
+use gate_writing::GatesRefusal;
+use plan::{Refusal, fault_number};
+use writing::SaveRefusal;
 
-pub(crate) fn save_in_c(answer: SaveAnswer) -> AnswerNumbers
-    ensures { result ≡ written_numbers (save_of answer) }
-{
-    let refusal = save_number(answer);
-    match answer {
-        SaveAnswer::Written(length) => numbered(refusal, length as u64, 0),
-        SaveAnswer::NoPlan => numbered(refusal, 0, 0),
-        SaveAnswer::ShortBuffer(needed) => numbered(refusal, needed as u64, 0),
+// Of a plan's bytes, and of its text.
+impl From<Result<usize, SaveRefusal>> for AnswerNumbers {
+    ghost from_gives = { λ answer numbers. numbers ≡ written_numbers (save_of answer) };
+
+    fn from(answer: Result<usize, SaveRefusal>) -> AnswerNumbers {
+        let refusal = save_number(answer);
+        match answer {
+            Ok(size) | Err(SaveRefusal::ShortBuffer(size)) => numbered(refusal, size as u64, 0),
+            Err(SaveRefusal::NoPlan) => numbered(refusal, 0, 0),
+        }
     }
 }
 
 // Of a plan that is refused the offset.
-pub(crate) fn convert_in_c(answer: ConvertAnswer) -> AnswerNumbers
-    ensures { result ≡ written_numbers (convert_of answer) }
-{
-    let refusal = convert_number(answer);
-    match answer {
-        ConvertAnswer::Written(length) => numbered(refusal, length as u64, 0),
-        ConvertAnswer::Refused { fault: _, offset } => numbered(refusal, offset as u64, 0),
-        ConvertAnswer::LongRoute(offset) => numbered(refusal, offset as u64, 0),
-        ConvertAnswer::ShortBuffer(needed) => numbered(refusal, needed as u64, 0),
+impl From<Result<usize, ConvertRefusal>> for AnswerNumbers {
+    ghost from_gives = { λ answer numbers. numbers ≡ written_numbers (convert_of answer) };
+
+    fn from(answer: Result<usize, ConvertRefusal>) -> AnswerNumbers {
+        let refusal = convert_number(answer);
+        match answer {
+            Ok(size) | Err(ConvertRefusal::ShortBuffer(size)) => {
+                numbered(refusal, size as u64, 0)
+            }
+            Err(ConvertRefusal::Refused(Refusal { offset, .. })) => {
+                numbered(refusal, offset as u64, 0)
+            }
+            Err(ConvertRefusal::LongRoute(at)) => numbered(refusal, at as u64, 0),
+        }
     }
 }
 
 // 21 has the lowest failing port and how many fail.
-pub(crate) fn gates_in_c(answer: GatesAnswer) -> AnswerNumbers
-    ensures { result ≡ written_numbers (gates_of answer) }
-{
-    let refusal = gates_number(answer);
-    match answer {
-        GatesAnswer::Written(length) => numbered(refusal, length as u64, 0),
-        GatesAnswer::NoPlan => numbered(refusal, 0, 0),
-        GatesAnswer::BadDuration => numbered(refusal, 0, 0),
-        GatesAnswer::Failing { port, count } => numbered(refusal, port as u64, count as u64),
-        GatesAnswer::BadQueue => numbered(refusal, 0, 0),
-        GatesAnswer::ShortBuffer(needed) => numbered(refusal, needed as u64, 0),
+impl From<Result<usize, GatesRefusal>> for AnswerNumbers {
+    ghost from_gives = { λ answer numbers. numbers ≡ written_numbers (gates_of answer) };
+
+    fn from(answer: Result<usize, GatesRefusal>) -> AnswerNumbers {
+        let refusal = gates_number(answer);
+        match answer {
+            Ok(size) | Err(GatesRefusal::ShortBuffer(size)) => numbered(refusal, size as u64, 0),
+            Err(GatesRefusal::NoPlan | GatesRefusal::BadDuration | GatesRefusal::BadQueue) => {
+                numbered(refusal, 0, 0)
+            }
+            Err(GatesRefusal::Failing { port, count }) => {
+                numbered(refusal, port as u64, count as u64)
+            }
+        }
     }
 }
 
-// Of one field: the numbers of a conversion that ends so.
-pub(crate) fn write_in_c(answer: WriteAnswer) -> AnswerNumbers
-    ensures { result ≡ written_numbers (write_of answer) }
-{
-    match answer {
-        WriteAnswer::Written(length) => convert_in_c(ConvertAnswer::Written(length)),
-        WriteAnswer::Refused(fault) => convert_in_c(ConvertAnswer::Refused { fault, offset: 0 }),
-        WriteAnswer::ShortBuffer(needed) => convert_in_c(ConvertAnswer::ShortBuffer(needed)),
+// Of one field: a value that it refuses has no place.
+impl From<Result<usize, WriteRefusal>> for AnswerNumbers {
+    ghost from_gives = { λ answer numbers. numbers ≡ written_numbers (write_of answer) };
+
+    fn from(answer: Result<usize, WriteRefusal>) -> AnswerNumbers {
+        match answer {
+            Ok(size) => numbered(0, size as u64, 0),
+            Err(WriteRefusal::Refused(fault)) => numbered(fault_number(fault) as u32, 0, 0),
+            Err(WriteRefusal::ShortBuffer(needed)) => numbered(SHORT_BUFFER, needed as u64, 0),
+        }
     }
 }

@@ -1,12 +1,12 @@
 -- The numbers of the plain question's answer mean what the answer means.
-use Rattle.std.specs.Prelude.{◌≡◌, refl, ◌↔◌, List, [], ◌∷◌, ℕ}
+use Rattle.std.specs.Prelude.{◌≡◌, refl, ◌↔◌, List, [], ◌∷◌, ℕ, Result, Ok, Err}
 use Rattle.std.proofs.Common.{sym, ap, ◌∙◌, arith}
 use Rattle.cqf.specs.Plan.{Plan}
 use Rattle.answers.specs.Answer.{Answer, result, refusal, refusal_number}
 use Rattle.answers.specs.Refusals.{not_admissible}
 use Rattle.questions.specs.Answer.{check_of}
 use Rattle.sequences.specs.Meaning.{Refuses, Means, CheckMeans}
-use Rattle.questions.specs.declared.CheckAnswer.{CheckAnswer}
+use Rattle.questions.specs.declared.check.CheckRefusal.{CheckRefusal}
 use Rattle.capi.specs.declared.AnswerNumbers.{AnswerNumbers}
 use Rattle.capi.specs.Numbers.{refused_with, check_numbers}
 use Rattle.capi.specs.Meaning.{CheckNumbersMean}
@@ -22,17 +22,17 @@ check_number (result tt) = refl
 check_number (refusal number values) = refused_number number values
 
 -- of what the plain question answers, 21 is the refusal with the lowest failing port and their count, and 0 the result
-refuses : (answer : CheckAnswer) → refusal_number (check_of answer) ≡ not_admissible → Refuses (check_of answer)
-refuses CheckAnswer.Admissible e = absurd (omega arith)
-refuses CheckAnswer.NoPlan e = absurd (omega arith)
-refuses CheckAnswer.BadDuration e = absurd (omega arith)
-refuses (CheckAnswer.Failing port count) e = record { lowest = port; count = count; is = refl }
+refuses : (answer : Result (Unit {0}) CheckRefusal) → refusal_number (check_of answer) ≡ not_admissible → Refuses (check_of answer)
+refuses (Ok u) e = absurd (omega arith)
+refuses (Err CheckRefusal.NoPlan) e = absurd (omega arith)
+refuses (Err CheckRefusal.BadDuration) e = absurd (omega arith)
+refuses (Err (CheckRefusal.Failing port count)) e = record { lowest = port; count = count; is = refl }
 
-accepts : (answer : CheckAnswer) → refusal_number (check_of answer) ≡ 0 → check_of answer ≡ result tt
-accepts CheckAnswer.Admissible e = refl
-accepts CheckAnswer.NoPlan e = absurd (omega arith)
-accepts CheckAnswer.BadDuration e = absurd (omega arith)
-accepts (CheckAnswer.Failing port count) e = absurd (omega arith)
+accepts : (answer : Result (Unit {0}) CheckRefusal) → refusal_number (check_of answer) ≡ 0 → check_of answer ≡ result tt
+accepts (Ok u) e = refl
+accepts (Err CheckRefusal.NoPlan) e = absurd (omega arith)
+accepts (Err CheckRefusal.BadDuration) e = absurd (omega arith)
+accepts (Err (CheckRefusal.Failing port count)) e = absurd (omega arith)
 
 -- two ways to say that T is refused, and two to say that it is accepted
 means_iff
@@ -49,7 +49,7 @@ means_iff refused accepted m =
       on_time = λ x. m.on_time (accepted.1 x);
     }
 
-module _ (answer : CheckAnswer) (numbers : AnswerNumbers) (is : numbers ≡ check_numbers (check_of answer)) where
+module _ (answer : Result (Unit {0}) CheckRefusal) (numbers : AnswerNumbers) (is : numbers ≡ check_numbers (check_of answer)) where
   number : numbers.refusal ≡ refusal_number (check_of answer)
   number = ap (λ (n : AnswerNumbers). n.refusal) is ∙ check_number (check_of answer)
 

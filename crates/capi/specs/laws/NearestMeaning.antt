@@ -1,22 +1,13 @@
 -- The numbers of the answer that names the nearest durations mean what the answer means.
 use Rattle.std.specs.Prelude.{◌≡◌, ℕ}
-use Rattle.std.proofs.Common.{ap, ap₂, ◌∙◌}
+use Rattle.std.proofs.Common.{ap, ◌∙◌}
 use Rattle.cqf.specs.Plan.{Plan}
 use Rattle.answers.specs.Answer.{Answer}
 use Rattle.questions.specs.Nearest.{Nearest}
 use Rattle.sequences.specs.NearestMeaning.{NearestMeans}
 use Rattle.capi.specs.declared.AnswerNumbers.{AnswerNumbers}
-use Rattle.capi.specs.Numbers.{answer_numbers, nearest_numbers}
+use Rattle.capi.specs.Numbers.{nearest_numbers}
 use Rattle.capi.specs.Meaning.{NearestNumbersMean}
-
--- two numbers by what they are
-pub with_both
-    : {refusal first second below above : ℕ} {numbers : AnswerNumbers}
-    → numbers ≡ answer_numbers refusal first second
-    → first ≡ below
-    → second ≡ above
-    → numbers ≡ answer_numbers refusal below above
-with_both {refusal = refusal} is one two = is ∙ ap₂ (λ (x y : ℕ). answer_numbers refusal x y) one two
 
 pub nearest_numbers_mean
     : (answer : Answer Nearest) (numbers : AnswerNumbers)

@@ -1,14 +1,14 @@
 -- The numbers of the answers that name spans mean what the answers mean.
-use Rattle.std.specs.Prelude.{◌≡◌, refl, ◌↔◌, List, [], ◌∷◌, ℕ}
+use Rattle.std.specs.Prelude.{◌≡◌, refl, ◌↔◌, List, [], ◌∷◌, ℕ, Result, Ok, Err}
 use Rattle.std.proofs.Common.{sym, ap, ◌∙◌, arith}
 use Rattle.cqf.specs.Plan.{Plan}
 use Rattle.span_lists.specs.Span.{Span}
 use Rattle.answers.specs.Answer.{Answer, result, refusal}
 use Rattle.answers.specs.Refusals.{no_span_from}
 use Rattle.questions.specs.SpanAnswer.{span_answer_of, spans_answer_of}
-use Rattle.questions.specs.declared.one_span.SpanAnswer.{SpanAnswer}
+use Rattle.questions.specs.declared.one_span.SpanRefusal.{SpanRefusal}
 use Rattle.questions.specs.declared.one_span.SpanRecord.{SpanRecord}
-use Rattle.questions.specs.declared.span_list.SpansAnswer.{SpansAnswer}
+use Rattle.questions.specs.declared.span_list.SpansRefusal.{SpansRefusal}
 use Rattle.sequences.specs.SpansMeaning.{OneSpan, AllSpans, SpanMeans, SpansMean}
 use Rattle.capi.specs.declared.AnswerNumbers.{AnswerNumbers}
 use Rattle.capi.specs.Numbers.{search_numbers, span_numbers}
@@ -24,22 +24,22 @@ none = refusal no_span_from (0 ∷ [])
 number : {a b : AnswerNumbers} → a ≡ b → a.refusal ≡ b.refusal
 number e = ap (λ (n : AnswerNumbers). n.refusal) e
 
-is_found : (x : SpanAnswer) (s : Span) → span_numbers (span_answer_of x) ≡ span_numbers (result s) → span_answer_of x ≡ result s
-is_found (SpanAnswer.Span r) s e =
+is_found : (x : Result SpanRecord SpanRefusal) (s : Span) → span_numbers (span_answer_of x) ≡ span_numbers (result s) → span_answer_of x ≡ result s
+is_found (Ok r) s e =
     let one : r.first ≡ s.first = ap (λ (n : AnswerNumbers). n.first) e in
     let two : r.last ≡ s.last = ap (λ (n : AnswerNumbers). n.second) e in
     λ i. found (one i) (two i)
-is_found SpanAnswer.NoPlan s e = absurd (omega (arith, number e))
-is_found SpanAnswer.BadDuration s e = absurd (omega (arith, number e))
-is_found SpanAnswer.NoSpan s e = absurd (omega (arith, number e))
+is_found (Err SpanRefusal.NoPlan) s e = absurd (omega (arith, number e))
+is_found (Err SpanRefusal.BadDuration) s e = absurd (omega (arith, number e))
+is_found (Err SpanRefusal.NoSpan) s e = absurd (omega (arith, number e))
 
-is_none : (x : SpanAnswer) → span_numbers (span_answer_of x) ≡ span_numbers none → span_answer_of x ≡ none
-is_none (SpanAnswer.Span r) e = absurd (omega (arith, number e))
-is_none SpanAnswer.NoPlan e = absurd (omega (arith, number e))
-is_none SpanAnswer.BadDuration e = absurd (omega (arith, number e))
-is_none SpanAnswer.NoSpan e = refl
+is_none : (x : Result SpanRecord SpanRefusal) → span_numbers (span_answer_of x) ≡ span_numbers none → span_answer_of x ≡ none
+is_none (Ok r) e = absurd (omega (arith, number e))
+is_none (Err SpanRefusal.NoPlan) e = absurd (omega (arith, number e))
+is_none (Err SpanRefusal.BadDuration) e = absurd (omega (arith, number e))
+is_none (Err SpanRefusal.NoSpan) e = refl
 
-module _ (answer : SpanAnswer) (numbers : AnswerNumbers) (is : numbers ≡ span_numbers (span_answer_of answer)) where
+module _ (answer : Result SpanRecord SpanRefusal) (numbers : AnswerNumbers) (is : numbers ≡ span_numbers (span_answer_of answer)) where
   to : (a : Answer Span) → span_answer_of answer ≡ a → numbers ≡ span_numbers a
   to a e = is ∙ ap span_numbers e
 
@@ -56,7 +56,7 @@ module _ (answer : SpanAnswer) (numbers : AnswerNumbers) (is : numbers ≡ span_
 
 -- of all spans
 pub spans_numbers_mean
-    : (answer : SpansAnswer) (numbers : AnswerNumbers)
+    : (answer : Result ℕ SpansRefusal) (numbers : AnswerNumbers)
     → numbers ≡ search_numbers (spans_answer_of answer)
     → (p : Plan) (list exit : List SpanRecord)
     → SpansMean p list exit (spans_answer_of answer)

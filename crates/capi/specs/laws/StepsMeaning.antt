@@ -1,12 +1,13 @@
 -- The numbers of an answer of the fixed-point iteration mean what the answer means.
-use Rattle.std.specs.Prelude.{◌≡◌, refl, ◌↔◌, [], ◌∷◌, ℕ}
+use Rattle.std.specs.Prelude.{◌≡◌, refl, ◌↔◌, [], ◌∷◌, ℕ, Result, Ok, Err}
 use Rattle.std.proofs.Common.{sym, ap, ◌∙◌, arith}
 use Rattle.cqf.specs.Plan.{Plan}
 use Rattle.answers.specs.Answer.{Answer, result, refusal}
 use Rattle.questions.specs.Answer.{fixed_point_of}
 use Rattle.questions.specs.FixedPoint.{FixedPoint}
 use Rattle.sequences.specs.FixedPointMeaning.{StepsMean, FixedPointMeans}
-use Rattle.questions.specs.declared.FixedPointAnswer.{FixedPointAnswer}
+use Rattle.questions.specs.declared.iteration.FixedPointRefusal.{FixedPointRefusal}
+use Rattle.questions.specs.declared.iteration.FixedPoint as declaredPoint
 use Rattle.capi.specs.declared.FixedPointAnswerNumbers.{FixedPointAnswerNumbers}
 use Rattle.capi.specs.Numbers.{steps_numbers}
 use Rattle.capi.specs.Meaning.{StepsNumbersMean}
@@ -34,28 +35,28 @@ module _ {a b : FixedPointAnswerNumbers} (e : a ≡ b) where
   last : a.steps ≡ b.steps
   last = ap (λ (n : FixedPointAnswerNumbers). n.steps) e
 
-is_found : (x : FixedPointAnswer) (u n : ℕ) → steps_numbers (fixed_point_of x) ≡ steps_numbers (found u n) → fixed_point_of x ≡ found u n
-is_found (FixedPointAnswer.Duration d s) u n e = λ i. found (one e i) (last e i)
-is_found FixedPointAnswer.NoPlan u n e = absurd (omega (arith, number e))
-is_found FixedPointAnswer.BadStart u n e = absurd (omega (arith, number e))
-is_found (FixedPointAnswer.Failing p c s) u n e = absurd (omega (arith, number e))
-is_found (FixedPointAnswer.Unfinished d s) u n e = absurd (omega (arith, number e))
+is_found : (x : Result declaredPoint.FixedPoint FixedPointRefusal) (u n : ℕ) → steps_numbers (fixed_point_of x) ≡ steps_numbers (found u n) → fixed_point_of x ≡ found u n
+is_found (Ok r) u n e = λ i. found (one e i) (last e i)
+is_found (Err FixedPointRefusal.NoPlan) u n e = absurd (omega (arith, number e))
+is_found (Err FixedPointRefusal.BadStart) u n e = absurd (omega (arith, number e))
+is_found (Err (FixedPointRefusal.Failing p c s)) u n e = absurd (omega (arith, number e))
+is_found (Err (FixedPointRefusal.Unfinished d s)) u n e = absurd (omega (arith, number e))
 
-is_none : (x : FixedPointAnswer) (l c n : ℕ) → steps_numbers (fixed_point_of x) ≡ steps_numbers (none l c n) → fixed_point_of x ≡ none l c n
-is_none (FixedPointAnswer.Duration d s) l c n e = absurd (omega (arith, number e))
-is_none FixedPointAnswer.NoPlan l c n e = absurd (omega (arith, number e))
-is_none FixedPointAnswer.BadStart l c n e = absurd (omega (arith, number e))
-is_none (FixedPointAnswer.Failing p k s) l c n e = λ i. none (one e i) (two e i) (last e i)
-is_none (FixedPointAnswer.Unfinished d s) l c n e = absurd (omega (arith, number e))
+is_none : (x : Result declaredPoint.FixedPoint FixedPointRefusal) (l c n : ℕ) → steps_numbers (fixed_point_of x) ≡ steps_numbers (none l c n) → fixed_point_of x ≡ none l c n
+is_none (Ok r) l c n e = absurd (omega (arith, number e))
+is_none (Err FixedPointRefusal.NoPlan) l c n e = absurd (omega (arith, number e))
+is_none (Err FixedPointRefusal.BadStart) l c n e = absurd (omega (arith, number e))
+is_none (Err (FixedPointRefusal.Failing p k s)) l c n e = λ i. none (one e i) (two e i) (last e i)
+is_none (Err (FixedPointRefusal.Unfinished d s)) l c n e = absurd (omega (arith, number e))
 
-is_unfinished : (x : FixedPointAnswer) (u n : ℕ) → steps_numbers (fixed_point_of x) ≡ steps_numbers (unfinished u n) → fixed_point_of x ≡ unfinished u n
-is_unfinished (FixedPointAnswer.Duration d s) u n e = absurd (omega (arith, number e))
-is_unfinished FixedPointAnswer.NoPlan u n e = absurd (omega (arith, number e))
-is_unfinished FixedPointAnswer.BadStart u n e = absurd (omega (arith, number e))
-is_unfinished (FixedPointAnswer.Failing p c s) u n e = absurd (omega (arith, number e))
-is_unfinished (FixedPointAnswer.Unfinished d s) u n e = λ i. unfinished (one e i) (last e i)
+is_unfinished : (x : Result declaredPoint.FixedPoint FixedPointRefusal) (u n : ℕ) → steps_numbers (fixed_point_of x) ≡ steps_numbers (unfinished u n) → fixed_point_of x ≡ unfinished u n
+is_unfinished (Ok r) u n e = absurd (omega (arith, number e))
+is_unfinished (Err FixedPointRefusal.NoPlan) u n e = absurd (omega (arith, number e))
+is_unfinished (Err FixedPointRefusal.BadStart) u n e = absurd (omega (arith, number e))
+is_unfinished (Err (FixedPointRefusal.Failing p c s)) u n e = absurd (omega (arith, number e))
+is_unfinished (Err (FixedPointRefusal.Unfinished d s)) u n e = λ i. unfinished (one e i) (last e i)
 
-module _ (answer : FixedPointAnswer) (numbers : FixedPointAnswerNumbers) (is : numbers ≡ steps_numbers (fixed_point_of answer)) where
+module _ (answer : Result declaredPoint.FixedPoint FixedPointRefusal) (numbers : FixedPointAnswerNumbers) (is : numbers ≡ steps_numbers (fixed_point_of answer)) where
   to : (a : Answer FixedPoint) → fixed_point_of answer ≡ a → numbers ≡ steps_numbers a
   to a e = is ∙ ap steps_numbers e
 

@@ -1,11 +1,6 @@
 -- `capi::writes::cp_gates_columns` meets its contract: the planner's answer as numbers, which mean what it means.
-use mathlib.Core.Path.{◌∙◌, ap}
-use borrow.Author.Rules.{rules}
-use Rattle.capi.specs.Numbers.{written_numbers}
 use Rattle.capi.specs.laws.GatesMeaning.{gates_numbers_mean}
 use Rattle.capi.proofs.writes.cp_gates_columns.Goals as goal
 
-pub returns : goal.returns
-returns c =
-    let g = c.gates_columns in
-    record { answers = (c.gates_in_c.ensures ∙ ap written_numbers g.ensures.answers.0, g.ensures.answers.1); means = gates_numbers_mean g.result c.gates_in_c.result c.gates_in_c.ensures _ _ _ _ _ _ g.ensures.means }
+pub returns-clause-means : goal.returns-clause-means
+returns-clause-means c = gates_numbers_mean c.gates_columns.result c.from.result c.from.ensures _ _ _ _ _ _ (rw (c.lent_at-lent.ensures _, c.clock_at-clock.ensures) at c.gates_columns.ensures.means)

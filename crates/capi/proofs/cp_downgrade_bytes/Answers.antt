@@ -1,8 +1,0 @@
--- `capi::cp_downgrade_bytes` meets its contract: the converter's answer as numbers.
-use mathlib.Core.Path.{◌∙◌, ap}
-use borrow.Author.Rules.{rules}
-use Rattle.capi.specs.Numbers.{written_numbers}
-use Rattle.capi.proofs.cp_downgrade_bytes.Goals as goal
-
-pub returns : goal.returns
-returns c = (c.convert_in_c.ensures ∙ ap written_numbers c.downgrade.ensures.0, c.downgrade.ensures.1)
