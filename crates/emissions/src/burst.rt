@@ -8,11 +8,11 @@ ghost use Rattle.tables.specs.Lent.{plan_lent};
 ghost use Rattle.emissions.specs.Burst.{burst, burst_answer, burst_of, told_burst, instant_is};
 
 use crate::frames::instant_of;
-use crate::hop::{hop_on, latest_hop};
+use crate::hop::{hop_on, latest_hop, route};
 use numbers::clock::widened;
 use numbers::limits::between;
 use questions::flow_frames;
-use tables::{FLOWS, Held, Lent, PORTS, STRIDE, hold};
+use tables::{FLOWS, Held, Lent, PORTS, hold};
 
 // A flow's burst: its cycle, how many frames it has, and the instant of the one that is asked for, if it has that one.
 #[derive(Clone, Copy, Debug, PartialEq, Eq)]
@@ -70,8 +70,9 @@ fn burst_of(held: Held, duration: u64, q: usize, f: usize, k: u64) -> Burst
     ensures { told_burst result ≡ burst (plan_lent held.entry.lent) duration q f k }
 {
     let lent = held.lent;
-    let length = usize::from(lent.hops[f]);
-    let at = hop_on(lent.routes, f * STRIDE, length, q);
+    let ports = route(held, f);
+    let length = ports.len();
+    let at = hop_on(ports, q);
     let latest = latest_hop(held, q);
     let cycle = latest.saturating_sub(at) as u64;
     let over = widened(lent.clock, duration as u32) as u32;

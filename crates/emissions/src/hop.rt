@@ -1,34 +1,45 @@
 // Where a port stands on the routes.
-ghost use Rattle.std.specs.Prelude.{◌≡◌, ◌+◌, ◌*◌, ◌≤◌, ◌<◌};
-ghost use Rattle.cqf.specs.Bounded.{sublist};
-ghost use Rattle.cqf.specs.Limits.{port_slots, flow_slots, route_stride};
+ghost use Rattle.std.specs.Prelude.{◌≡◌, ◌<◌};
+ghost use Rattle.cqf.specs.Limits.{port_slots, flow_slots};
+ghost use Rattle.cqf.specs.Plan.{route_of};
 ghost use Rattle.tables.specs.Lent.{plan_lent};
 ghost use Rattle.emissions.specs.BadEmission.{hop_on, latest_hop};
 ghost use Rattle.emissions.specs.Burst.{late_on};
 
-use tables::{FLOWS, Held, STRIDE, columns};
+use tables::{FLOWS, Held, STRIDE};
+
+// The ports of the route of the flow in slot f.
+pub(crate) fn route<'a>(held: Held<'a>, f: usize) -> &'a [u8]
+    requires { f < flow_slots }
+    ensures { result.now ≡ route_of (plan_lent held.entry.lent) f }
+{
+    let hops = usize::from(held.lent.hops[f]);
+    let base = f * STRIDE;
+    let routes = held.lent.routes;
+    &routes[base..base + hops]
+}
 
 // Where the port in slot q stands on a route, from 0 on; the route's length where it does not.
-pub(crate) fn hop_on(routes: &columns::Routes, base: usize, hops: usize, q: usize) -> usize
-    requires { (base + hops ≤ flow_slots * route_stride) × (q < port_slots) }
-    ensures { result ≡ hop_on (sublist routes.now base hops) q }
+pub(crate) fn hop_on(route: &[u8], q: usize) -> usize
+    requires { q < port_slots }
+    ensures { result ≡ hop_on route.now q }
 {
     let port = (q + 1) as u8;
-    for i in 0..hops {
-        if routes[base + i] == port {
+    for (i, x) in route.iter().enumerate() {
+        if *x == port {
             return i;
         }
     }
-    hops
+    route.len()
 }
 
 // The same, but 0 where it does not stand there.
-fn late_on(routes: &columns::Routes, base: usize, hops: usize, q: usize) -> usize
-    requires { (base + hops ≤ flow_slots * route_stride) × (q < port_slots) }
-    ensures { result ≡ late_on (sublist routes.now base hops) q }
+fn late_on(route: &[u8], q: usize) -> usize
+    requires { q < port_slots }
+    ensures { result ≡ late_on route.now q }
 {
-    let at = hop_on(routes, base, hops, q);
-    if at < hops { at } else { 0 }
+    let at = hop_on(route, q);
+    if at < route.len() { at } else { 0 }
 }
 
 // The latest place at which it stands on a route.
@@ -38,8 +49,7 @@ pub(crate) fn latest_hop(held: Held, q: usize) -> usize
 {
     let mut latest: usize = 0;
     for f in 0..FLOWS {
-        let hops = usize::from(held.lent.hops[f]);
-        latest = latest.max(late_on(held.lent.routes, f * STRIDE, hops, q));
+        latest = latest.max(late_on(route(held, f), q));
     }
     latest
 }

@@ -1,45 +1,36 @@
 // What each port must send in a cycle of the bad emission.
-ghost use Rattle.std.specs.Prelude.{◌≡◌, ℕ, ◌+◌, ◌*◌, ◌≤◌, ◌<◌, length, get_or};
-ghost use Rattle.cqf.specs.Bounded.{sublist};
-ghost use Rattle.cqf.specs.Limits.{port_slots, flow_slots, route_stride};
+ghost use Rattle.std.specs.Prelude.{◌≡◌, ℕ, ◌≤◌, ◌<◌, length, get_or};
+ghost use Rattle.cqf.specs.Limits.{port_slots};
 ghost use Rattle.tables.specs.Lent.{plan_lent};
 ghost use Rattle.emissions.specs.BadEmission.{latest_hop, burst_bits};
 ghost use Rattle.emissions.specs.Queued.{queued_port};
 
-use crate::hop::hop_on;
+use crate::hop::{hop_on, route};
 use numbers::clock::widened;
 use questions::flow_bits;
-use tables::{FLOWS, Held, PORTS, STRIDE, columns};
+use tables::{FLOWS, Held, PORTS};
 
 // The port at a place of a route, 0 behind its end.
-fn port_at(routes: &columns::Routes, base: usize, hops: usize, i: usize) -> u8
-    requires { base + hops ≤ flow_slots * route_stride }
-    ensures { result ≡ get_or (sublist routes.now base hops) i 0 }
+fn port_at(route: &[u8], i: usize) -> u8
+    ensures { result ≡ get_or route.now i 0 }
 {
-    if i < hops { routes[base + i] } else { 0 }
+    if i < route.len() { route[i] } else { 0 }
 }
 
-// The port at which the burst of a flow is queued in cycle c, 0 for none.
-fn queued_port(
-    routes: &columns::Routes,
-    base: usize,
-    hops: usize,
-    q: usize,
-    latest: u64,
-    c: u64,
-) -> u8
-    requires { (base + hops ≤ flow_slots * route_stride) × (q < port_slots) }
-    ensures { result ≡ queued_port (sublist routes.now base hops) q latest c }
+// The port at which the burst of a flow is queued in cycle c. It is 0 for none, as the definition has it: ports count from 1.
+fn queued_port(route: &[u8], q: usize, latest: u64, c: u64) -> u8
+    requires { q < port_slots }
+    ensures { result ≡ queued_port route.now q latest c }
 {
-    let at = hop_on(routes, base, hops, q);
-    if hops <= at {
+    let at = hop_on(route, q);
+    if route.len() <= at {
         return 0;
     }
     let own = latest.saturating_sub(at as u64);
     if c <= own {
         return 0;
     }
-    port_at(routes, base, hops, (c - own - 1) as usize)
+    port_at(route, (c - own - 1) as usize)
 }
 
 // The bits that each port must send in cycle c of the bad emission of the port in slot q: port n at position n - 1.
@@ -60,8 +51,7 @@ pub(crate) fn cycle_bits(
 {
     let over = widened(held.lent.clock, duration as u32) as u32;
     for f in 0..FLOWS {
-        let hops = usize::from(held.lent.hops[f]);
-        let n = queued_port(held.lent.routes, f * STRIDE, hops, q, latest, c) as usize;
+        let n = usize::from(queued_port(route(held, f), q, latest, c));
         if n != 0 {
             let r = n - 1;
             let more = flow_bits(

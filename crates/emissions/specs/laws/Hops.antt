@@ -1,9 +1,9 @@
 -- Where a port stands on a route, looked for from its start, and the latest place on all routes.
-use Rattle.std.specs.Prelude.{◌≡◌, refl, Bool, true, false, cond, ◌&&◌, List, ℕ, suc, max, ◌+◌, ◌-◌, ◌≤◌, ◌<◌, length, get_or, eqb}
-use Rattle.std.proofs.Common.{sym, ap, ap₂, ◌∙◌, arith, eq-eqb, ne_eqb, eqb-true, lt-ltb, le-ltb}
+use Rattle.std.specs.Prelude.{◌≡◌, refl, Bool, true, false, cond, ◌&&◌, List, ◌∷◌, ℕ, zero, suc, max, take, drop, ◌+◌, ◌-◌, ◌≤◌, ◌<◌, length, get_or, eqb}
+use Rattle.std.proofs.Common.{sym, ap, ap₂, ◌∙◌, arith, eq-eqb, eqb-true, lt-ltb, le-ltb, drop-cons}
 use Rattle.std.proofs.lemmas.Bool.{false≢true, eqb-false}
 use mathlib.Mathlib.Data.Bool.Basic.{eq-false_of_not-eq-true}
-use Rattle.std.proofs.Math.Decide.{dec_lt, ℕ_discrete}
+use Rattle.std.proofs.Math.Decide.{dec_lt}
 use Rattle.std.proofs.Math.ListN.{get_or-eq_default}
 use Rattle.cqf.specs.Bounded.{max_to, lowest, elem, sublist}
 use Rattle.cqf.specs.Limits.{flow_slots}
@@ -11,7 +11,7 @@ use Rattle.cqf.specs.Plan.{Plan, route_of}
 use Rattle.emissions.specs.BadEmission.{hop_on, hop, latest_hop}
 use Rattle.cqf.proofs.laws.Bounded.{lowest_le, lowest-passes, lowest_below}
 use Rattle.cqf.proofs.laws.Bounds.{max_to-next}
-use Rattle.cqf.proofs.laws.Lists.{elem_index, elem_at, sublist_length, sublist-at}
+use Rattle.cqf.proofs.laws.Lists.{elem_index, elem_at}
 use Rattle.emissions.specs.Burst.{late_on}
 use Rattle.emissions.specs.Queued.{queued_port}
 
@@ -32,25 +32,23 @@ lowest_end n b none = go (dec_lt (lowest n b) n)
     go (no over) = omega (arith, lowest_le n b)
 
 -- no port of a route before position i is the one looked for
-abbrev pub NotBefore : (l : List ℕ) (base hops q i : ℕ) → Type 0
-NotBefore l base hops q i = (j : ℕ) → j < i → eqb (get_or (sublist l base hops) j 0) (suc q) ≡ false
+abbrev pub NotBefore : (route : List ℕ) (q i : ℕ) → Type 0
+NotBefore route q i = (j : ℕ) → j < i → eqb (get_or route j 0) (suc q) ≡ false
 
-module _ (l : List ℕ) (base hops q : ℕ) where
-  pub not_next : (i : ℕ) → i < hops → NotBefore l base hops q i → (get_or l (base + i) 0 ≡ suc q → ⊥) → NotBefore l base hops q (i + 1)
-  not_next i h before other j less = go (ℕ_discrete j i)
-    where
-      go : Dec (j ≡ i) → eqb (get_or (sublist l base hops) j 0) (suc q) ≡ false
-      go (yes e) = rw (e, sublist-at l base hops i h) (ne_eqb _ _ other)
-      go (no ne) = before j (omega arith)
+module _ (route : List ℕ) (q : ℕ) where
+  pub hop_here : (i : ℕ) → i < length route → NotBefore route q i → get_or route i 0 ≡ suc q → hop_on route q ≡ i
+  hop_here i h before at = lowest_is (length route) _ i h (eq-eqb _ _ at) before
 
-  pub hop_here : (i : ℕ) → i < hops → NotBefore l base hops q i → get_or l (base + i) 0 ≡ suc q → hop_on (sublist l base hops) q ≡ i
-  hop_here i h before at =
-      lowest_is (length (sublist l base hops)) _ i (omega (arith, sublist_length l base hops)) (eq-eqb _ _ (sublist-at l base hops i h ∙ at)) before
+  pub hop_end : NotBefore route q (length route) → hop_on route q ≡ length route
+  hop_end before = lowest_end (length route) _ before
 
-  pub hop_end : NotBefore l base hops q hops → hop_on (sublist l base hops) q ≡ hops
-  hop_end before =
-      lowest_end (length (sublist l base hops)) _ (λ j less. before j (omega (arith, sublist_length l base hops)))
-      ∙ sublist_length l base hops
+-- the ports of a route, as the part of the table that they are
+pub route_part : (l : List ℕ) (base h : ℕ) → base + h ≤ length l → take h (drop base l) ≡ sublist l base h
+unfolding sublist
+route_part l base zero fits = refl
+route_part l base (suc h) fits =
+    ap (take (suc h)) (drop-cons l base 0 (omega arith))
+    ∙ ap (λ (r : List ℕ). get_or l base 0 ∷ r) (route_part l (suc base) h (omega arith))
 
 -- it stands there exactly where that is before the end
 module _ (route : List ℕ) (q : ℕ) where

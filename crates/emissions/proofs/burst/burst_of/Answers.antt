@@ -1,17 +1,16 @@
 -- `burst_of` meets its contract.
 use Prim.Native.Nat.{◌*◌, ◌≤◌}
 use native.Mathlib.Omega.{arith}
-use Rattle.cqf.specs.Limits.{max_count}
+use mathlib.Core.Path.{ap, ◌∙◌}
+use lib.ListN.{length}
+use Rattle.cqf.specs.Plan.{hops_of}
+use Rattle.cqf.proofs.laws.Lists.{sublist_length}
+use Rattle.cqf.specs.Limits.{max_count, route_stride}
 use Rattle.cqf.specs.Overflow.{most_widened, most_begun}
 use Rattle.cqf.proofs.laws.Ranges.{top_most}
 use Rattle.tables.specs.Lent.{plan_lent}
-use Rattle.emissions.specs.laws.Burst.{hops_within, over_fits, flow_held, frames_few, latest_most, cycle_is, brought_is, frames_is, burst_is, kept_most}
+use Rattle.emissions.specs.laws.Burst.{over_fits, flow_held, frames_few, latest_most, cycle_is, brought_is, frames_is, burst_is, kept_most}
 use Rattle.emissions.proofs.burst.burst_of.Goals as goal
-
-pub hop_on-at-requires : goal.hop_on-at-requires
-hop_on-at-requires c =
-    let few = hops_within (plan_lent c.args.held.lent) c.args.held.valid c.args.f c.requires.2 in
-    (omega (arith, few, c.from-length.ensures), c.requires.1)
 
 pub overflow_cast-over : goal.overflow_cast-over
 overflow_cast-over c =
@@ -35,7 +34,7 @@ instant_in-instant-requires c =
       omega (arith, c.requires.0, top_most p a.held.valid),
       h.count_least,
       h.period_most,
-      omega (arith, c.frames_if-frames.ensures, kept_most c.hop_on-at.result c.from-length.result c.flow_frames-brought.result (max_count * most_begun) few),
+      omega (arith, c.frames_if-frames.ensures, kept_most c.hop_on-at.result (length c.route-ports.result.now) c.flow_frames-brought.result (max_count * most_begun) few),
     )
 
 pub returns : goal.returns
@@ -43,8 +42,9 @@ returns c =
     let a = c.args in
     let p = plan_lent a.held.lent in
     let v = a.held.valid in
-    let at = rw c.from-length.ensures at c.hop_on-at.ensures in
+    let at = rw c.route-ports.ensures at c.hop_on-at.ensures in
+    let long = ap length c.route-ports.ensures ∙ sublist_length p.routes (a.f * route_stride) (hops_of p a.f) in
     burst_is p v a.duration a.q a.f a.k
     (cycle_is p v a.duration a.q a.f c.latest_hop-latest.ensures at c.saturating_sub-cycle.ensures)
-    (frames_is p v a.duration a.q a.f c.requires.2 c.requires.3 at (brought_is p v a.duration a.q a.f c.widened-over.ensures c.flow_frames-brought.ensures) (rw c.from-length.ensures at c.frames_if-frames.ensures))
+    (frames_is p v a.duration a.q a.f c.requires.2 c.requires.3 at (brought_is p v a.duration a.q a.f c.widened-over.ensures c.flow_frames-brought.ensures) (rw long at c.frames_if-frames.ensures))
     c.instant_in-instant.ensures

@@ -3,4 +3,4 @@ use Rattle.emissions.specs.laws.Hops.{NotBefore}
 use Rattle.emissions.proofs.hop.hop_on.Given as goal
 
 abbrev pub invariant-loop-i : goal.invariant-loop-i
-invariant-loop-i l = NotBefore l.routes l.base l.hops l.q l.i
+invariant-loop-i l = NotBefore l.route l.q l.i
