@@ -16,7 +16,8 @@ use tables::{Held, Lent, PORTS};
 // One Mbit/s carries one bit in 1,000 ns.
 const NS_PER_BIT: u64 = 1_000;
 
-// What a port must be able to send, in thousandths of a bit.
+// What a port must be able to send, in thousandths of a bit. This and the like take a port's numbers one by one, as their definitions do:
+// a struct of them would be made and taken apart at each call.
 pub(crate) fn workload(blocking: u16, extra: u8, bits: u64) -> u64
     requires { bits ≤ most_demand }
     ensures { result ≡ workload_of blocking extra bits }

@@ -6,7 +6,8 @@ ghost use Rattle.questions.specs.FlowSet.{word_slots, flow_word, Crossing};
 use super::port_demand::route_holds;
 use tables::Held;
 
-// Bit i of the first number is for the flow in slot i, of the second for that in slot 64 + i, and so on.
+// Bit i of the first number is for the flow in slot i, of the second for that in slot 64 + i, and so on; by name, which is as short as a
+// loop over four numbers.
 #[derive(Clone, Copy)]
 pub(crate) struct FlowSet {
     pub(crate) first: u64,

@@ -17,16 +17,14 @@ fn lean_least(held: Held) -> u64
     let mut q: usize = 0;
     loop {
         let mut reached = t;
-        let mut passed: usize = 0;
-        'ports: while passed < PORTS {
+        'ports: for _passed in 0..PORTS {
             reached = raise_port(held, q, t);
             q = (q + 1) % PORTS;
             if t < reached {
                 break 'ports;
             }
-            passed += 1;
         }
-        if PORTS <= passed {
+        if reached <= t {
             return t;
         }
         if limit < reached {

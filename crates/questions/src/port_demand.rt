@@ -26,7 +26,8 @@ pub fn flow_bits(period: u32, count: u16, bytes: u16, jitter: u32, extra: u8, wi
     flow_frames(period, count, jitter, widened) * wire_bits(bytes, extra)
 }
 
-// Whether the route of the flow in slot f holds the port in slot q. Two ports at a time, and the last one of an odd number.
+// Whether the route of the flow in slot f holds the port in slot q. For speed two places at a time, and the
+// last one of an odd number.
 pub(crate) fn route_holds(held: Held, f: usize, q: usize) -> bool
     requires { (f < flow_slots) × (q < port_slots) }
     ensures { result ≡ crosses (plan_lent held.entry.lent) f q }

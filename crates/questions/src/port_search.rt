@@ -34,8 +34,8 @@ fn next_of(up: bool, end: u64, needed: u64) -> u64
     end.max(needed) - 1
 }
 
-// Up by what the port needs until it passes or is past the end, or down as far as it passes and to below the end. Both ways in one
-// loop, so that a step is no call.
+// Up by what the port needs until it passes or is past the end, or down as far as it passes and to below the end. For speed both
+// ways are one loop by a flag: a loop each, or one over closures, makes a call of each step.
 fn walk(up: bool, end: u64, held: Held, q: usize, from: u64) -> u64
     requires { Walkable (plan_lent held.lent) q up end from }
     ensures { Walked (plan_lent held.entry.lent) q up end from result }

@@ -15,7 +15,7 @@ pub enum Goal {
     MarginSafe,
 }
 
-// The duration that it looks for, or one above top where there is none.
+// The duration that it looks for, or one above top where there is none, as the definitions number it.
 pub(crate) fn seek(goal: Goal, held: Held, out: &mut [u64]) -> u64
     requires { length out.old ≡ port_slots }
     ensures { Found (wanted goal) (plan_lent held.entry.lent) result out.new }

@@ -28,7 +28,7 @@ fn bits_at(lent: Lent, extra: u8, over: u32, f: usize) -> u64
     )
 }
 
-// What the flows of one number of a set bring.
+// What the flows of one number of a set bring: from one 1 to the next, which is no count of an index.
 fn word_bits(lent: Lent, extra: u8, over: u32, word: u64, base: usize) -> u64
     requires word_countable { WordCountable lent.periods.now lent.counts.now lent.lengths.now lent.jitters.now word base }
     requires word_slots_bound { (base + word_slots ≤ flow_slots) × (extra ≤ max_extra) × (over ≤ most_widened) }

@@ -1,17 +1,15 @@
 -- The test of a port from its numbers is the condition's, and so is the set of failing ports.
-use Rattle.std.specs.Prelude.{◌≡◌, refl, List, Bool, true, false, ◌&&◌, ltb}
+use Rattle.std.specs.Prelude.{◌≡◌, refl, Bool, true, false, ◌&&◌, ltb}
 use Rattle.std.proofs.Common.{sym, ap₂, ◌∙◌, true≢false, lt_of_not-le, arith, lt-ltb, le-ltb}
 use Rattle.std.proofs.Math.Path.{ap}
 use Prim.Native.Nat.{ℕ, suc, ◌-◌, ◌*◌, ◌<◌}
 use Rattle.std.proofs.Math.IntN.{sub_ℕ}
 use Rattle.std.specs.Int.Count.{ones, count_trailing_zeros}
-use Rattle.cqf.specs.Bounded.{tabulate}
 use Rattle.cqf.specs.Limits.{port_slots}
 use Rattle.cqf.specs.Plan.{Plan, rate_of, blocking_of, extra_of, valid_plan}
 use Rattle.cqf.specs.Port.{workload_of, fails_by_of, capacity, workload}
 use Rattle.cqf.specs.Condition.{demand, crossed, slack, fails, failing, lowest_failing}
 use Rattle.cqf.proofs.laws.Condition.{demand_pos, demand-crossed}
-use Rattle.cqf.proofs.laws.Tabulate.{tabulate-at}
 use Rattle.questions.specs.Failing.{set_to}
 use Rattle.questions.specs.laws.Sets.{set_lowest, set_ones}
 

@@ -78,26 +78,6 @@ module _ {p : Plan} {t q passed : ℕ} (s : InTurn p t q passed) where
   pub turn_all : port_slots ≤ passed → (k : ℕ) → k < port_slots → fails p t k ≡ false
   turn_all l k h = s.none k h (omega arith)
 
--- the ports in turn were left: after all of them, or at one that got further
-pub data LeftTurn (p : Plan) (t passed q reached : ℕ) : Type 0 where
-  all : port_slots ≤ passed → LeftTurn p t passed q reached
-  further : (k : ℕ) → q < port_slots → Raised p k t reached → t < reached → LeftTurn p t passed q reached
-
--- fewer than all of them passed: one got further, up to top or above it
-module _ {p : Plan} {t passed q reached : ℕ} where
-  pub left_further : LeftTurn p t passed q reached → passed < port_slots → t < reached
-  left_further (all l) less = absurd (omega arith)
-  left_further (further k slot r more) less = more
-
-  module _ (s : Reached p t) where
-    pub left_next : LeftTurn p t passed q reached → passed < port_slots → reached ≤ p.top → Reached p reached × (q < port_slots)
-    left_next (all l) less within = absurd (omega arith)
-    left_next (further k slot r more) less within = (reached_next s r within, slot)
-
-    pub left_above : LeftTurn p t passed q reached → passed < port_slots → p.top < reached → p.top + 1 ≡ least p
-    left_above (all l) less above = absurd (omega arith)
-    left_above (further k slot r more) less above = reached_above s r above
-
 -- down: the largest of the margin-safe durations of the ports below q
 pub record SafeTo (p : Plan) (q safe : ℕ) : Type 0 where
   pub slots : q ≤ port_slots

@@ -1,10 +1,8 @@
-use mathlib.Core.Path.{◌≡◌, refl, sym, ap, ◌∙◌}
-use Prim.Native.Nat.{ℕ, suc, ◌+◌, ◌≤◌}
+use mathlib.Core.Path.{refl, sym, ap, ◌∙◌}
+use Prim.Native.Nat.{◌+◌}
 use native.Mathlib.Omega.{arith}
-use lib.ListN.{length}
 use Rattle.std.proofs.Common.{add-one}
 use Rattle.cqf.proofs.laws.Ranges.{top_most}
-use Rattle.span_lists.specs.Span.{spans}
 use Rattle.tables.specs.Lent.{plan_lent}
 use Rattle.questions.specs.SpanList.{nth}
 use Rattle.questions.specs.declared.one_span.SpanRecord.{SpanRecord}

@@ -1,5 +1,5 @@
 use mathlib.Core.Path.{◌≡◌, refl, sym, ap, ◌∙◌}
-use Prim.Native.Nat.{ℕ, suc, ◌+◌, ◌≤◌, ◌<◌}
+use Prim.Native.Nat.{◌+◌, ◌≤◌, ◌<◌}
 use native.Mathlib.Omega.{arith}
 use borrow.Author.Rules.{rules}
 use lib.ListN.{length}
@@ -10,7 +10,7 @@ use Rattle.tables.specs.Lent.{plan_lent}
 use Rattle.questions.specs.SpanList.{nth, filled}
 use Rattle.questions.specs.declared.one_span.SpanRecord.{SpanRecord}
 use Rattle.questions.specs.laws.Spans.{next_some}
-use Rattle.questions.specs.laws.SpanList.{nth-from, nth-none, filled-next, filled_length, count_ends}
+use Rattle.questions.specs.laws.SpanList.{nth-from, nth-none, filled-next, count_ends}
 use Rattle.questions.specs.laws.Counted.{spans-none, spans_keeps, spans-listed, spans_short, filled_all}
 use Rattle.questions.proofs.span_list.spans.Goals as goal
 
