@@ -7,28 +7,25 @@ use crate::grammar::{Item, Kind};
 use words::word::same;
 
 // The kind of a line, by its first word.
+// A match on the words leaves a goal for each byte that differs, and its proof did not close.
 pub fn kind_of(word: &[u8]) -> Kind
     ensures { result ≡ kind_of word.now }
 {
     if same(word, b"guard") {
-        return Kind::Guard;
+        Kind::Guard
+    } else if same(word, b"top") {
+        Kind::Top
+    } else if same(word, b"port") {
+        Kind::Port
+    } else if same(word, b"flow") {
+        Kind::Flow
+    } else if same(word, b"clocks") {
+        Kind::Clocks
+    } else if same(word, b"format") {
+        Kind::Format
+    } else {
+        Kind::Other
     }
-    if same(word, b"top") {
-        return Kind::Top;
-    }
-    if same(word, b"port") {
-        return Kind::Port;
-    }
-    if same(word, b"flow") {
-        return Kind::Flow;
-    }
-    if same(word, b"clocks") {
-        return Kind::Clocks;
-    }
-    if same(word, b"format") {
-        return Kind::Format;
-    }
-    Kind::Other
 }
 
 // The same behind other lines, which no line there asks for a form.
