@@ -100,11 +100,6 @@ pub(crate) fn step(
         ≡ step_at (form_of form) (mode_of strict) plan.now place.at place.last (draft_of tables.old tally.old) }
     ensures names { Names result tally.old.named tally.new.named plan.now place.at }
 {
-    // not by `?`, which makes a load take up to 5 hundredths more instructions
-    match field_at(form, plan, place.at) {
-        Ok(FieldAt { field, next }) => {
-            take_field(form, strict, plan, place, field, next, tables, tally)
-        }
-        Err(refusal) => Err(refusal),
-    }
+    let FieldAt { field, next } = field_at(form, plan, place.at)?;
+    take_field(form, strict, plan, place, field, next, tables, tally)
 }
