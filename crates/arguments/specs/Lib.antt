@@ -1,3 +1,2 @@
 -- Numbers in decimal digits.
 pub mod Decimal
-pub mod laws

@@ -6,7 +6,7 @@ ghost use Rattle.std.specs.Prelude.{◌≤◌, length};
 mod digits; // digits.rt: a number written in decimal digits
 mod word; // word.rt: whether a text is a word
 
-pub use digits::{Parsed, decimal};
+pub use digits::decimal;
 use std::env::{Env, FillError};
 pub use word::same;
 
@@ -26,14 +26,11 @@ pub fn count(rt: &impl Env) -> usize {
 fn argument(rt: &impl Env, i: usize, text: &mut [u8]) -> usize
     ensures { result ≤ length text.new }
 {
-    match rt.arg(i, text) {
-        Ok(n) => n,
-        Err(_) => 0,
-    }
+    rt.arg(i, text).unwrap_or(0)
 }
 
 // An argument that is missing, empty, or longer than 4,096 bytes counts as no number.
-pub fn number(rt: &impl Env, i: usize) -> Parsed {
+pub fn number(rt: &impl Env, i: usize) -> Option<u64> {
     let mut text = [0u8; LONGEST];
     let n = argument(rt, i, &mut text);
     decimal(&text[..n])

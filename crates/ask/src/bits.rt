@@ -1,5 +1,4 @@
-// Products, quotients and differences of numbers that are only printed.
-use std::num::wrapping_add_u64;
+// Products and quotients of numbers that are only printed.
 
 const BEYOND_32_BITS: u64 = 4_294_967_296;
 
@@ -9,7 +8,7 @@ const BEYOND_50_BITS: u64 = 1_125_899_906_842_624;
 pub(crate) const NS_PER_BIT: u64 = 1_000;
 
 pub(crate) fn product(a: u32, b: u32) -> u64 {
-    (a as u64) * (b as u64)
+    u64::from(a) * u64::from(b)
 }
 
 // Of a number below 2^32: the frames that a flow brings are at most 64 in each of some 112,000 periods, and a window is at most top.
@@ -24,20 +23,5 @@ pub(crate) fn thousandfold(bits: u64) -> u64 {
 
 // A quotient rounded up; 0 of a division by 0.
 pub(crate) fn quotient_up(n: u64, by: u64) -> u64 {
-    if by == 0 {
-        return 0;
-    }
-    let whole = n / by;
-    if n % by == 0 {
-        return whole;
-    }
-    wrapping_add_u64(whole, 1)
-}
-
-// A difference, 0 where the second is larger.
-pub(crate) fn less(a: u64, b: u64) -> u64 {
-    if a < b {
-        return 0;
-    }
-    a - b
+    if by == 0 { 0 } else { n.div_ceil(by) }
 }

@@ -4,71 +4,69 @@
 #![tactic(auto)]
 
 mod accepted; // accepted.rt: of an admissible duration
-mod bits; // bits.rt: products, quotients and differences
+mod asked; // asked.rt: a plan and the duration asked of it
+mod bits; // bits.rt: products and quotients
 mod capacity; // capacity.rt: what a port can send, and the cycle that it needs
 mod emission; // emission.rt: the bad emission
 mod failing; // failing.rt: the ports that fail
-mod lent; // lent.rt: the questions for a bad emission, of a planner by value
 mod shares; // shares.rt: what each flow brings to a port
 
-use arguments::Parsed;
-use plan_text::{TextAnswer, read_text};
-use planner::{CheckAnswer, LoadAnswer, NearestAnswer, Neighbour, Planner};
-use streams::{Input, Output, say, say_number, say_refused, say_refused_plan, say_with};
-use text_refusals::say_refusal;
+use asked::Asked;
+use console::unheld;
+use plan_text::read_text;
+use planner::CheckRefusal;
+use std::fmt::{Display, Formatter};
+use std::{fmt, io};
+use streams::{Unheld, complain, finish, read_input};
+use text_refusals::Told;
 
 // One byte more than a text may have: a longer input is read no further.
 const ROOM: usize = plan_text::MAX_TEXT + 1;
 
-fn say_neighbour(out: Output, neighbour: Neighbour) -> Output {
-    match neighbour {
-        Neighbour::Duration(duration) => say_number(out, duration),
-        Neighbour::Nothing => say(out, b"none"),
-    }
-}
+// A duration beside the one that was asked for.
+#[derive(Clone, Copy)]
+struct Neighbour(Option<u64>);
 
-fn say_nearest(out: Output, planner: Planner, duration: u64) -> Output {
-    let answer = planner::nearest(planner, duration);
-    match answer {
-        NearestAnswer::Nearest { below, above } => {
-            let out = say_neighbour(say(out, b"nearest admissible durations: "), below);
-            let out = say_neighbour(say(out, b" below, "), above);
-            say(out, b" above\n")
+impl Display for Neighbour {
+    fn fmt<W: fmt::Write>(&self, f: &mut Formatter<W>) -> fmt::Result {
+        match self.0 {
+            Some(duration) => write!(f, "{duration}"),
+            None => write!(f, "none"),
         }
-        _ => out,
     }
 }
 
-fn say_admissible(rt: HostRuntime, planner: Planner, duration: u64) {
-    let out = say_with(
-        streams::standard_output(rt),
-        b"% ns is admissible\n",
-        duration,
-    );
-    let out = accepted::say_spare(out, planner, duration);
-    let out = accepted::say_run(out, planner, duration);
-    streams::finish(accepted::say_margin_safe(out, planner, duration));
+fn say_nearest(out: &impl Print, asked: Asked) -> io::Result<()> {
+    let Ok(nearest) = planner::nearest(*asked.planner, asked.duration) else {
+        return Ok(());
+    };
+    let below = Neighbour(nearest.below);
+    let above = Neighbour(nearest.above);
+    println!(out; "nearest admissible durations: {below} below, {above} above")
 }
 
-fn say_failing(rt: HostRuntime, planner: Planner, duration: u64) {
-    let out = say_with(
-        streams::standard_output(rt),
-        b"% ns is not admissible\n",
-        duration,
-    );
-    let out = failing::say_ports(out, planner, duration);
-    let out = say_nearest(out, planner, duration);
-    streams::finish(emission::say_emission(out, planner, duration));
+fn say_admissible(out: &impl Print, asked: Asked) -> io::Result<()> {
+    println!(out; "{} ns is admissible", asked.duration)?;
+    accepted::say_spare(out, asked)?;
+    accepted::say_run(out, asked)?;
+    accepted::say_margin_safe(out, asked)
 }
 
-fn answer(rt: HostRuntime, planner: Planner, duration: u64) {
-    let answer = planner::check(planner, duration);
+fn say_failing(out: &impl Print, asked: Asked) -> io::Result<()> {
+    println!(out; "{} ns is not admissible", asked.duration)?;
+    failing::say_ports(out, asked)?;
+    say_nearest(out, asked)?;
+    emission::say_emission(out, asked)
+}
+
+fn answer(rt: HostRuntime, asked: Asked) {
+    let answer = planner::check(*asked.planner, asked.duration);
     match answer {
-        CheckAnswer::Admissible => say_admissible(rt, planner, duration),
-        CheckAnswer::Failing { port: _, count: _ } => say_failing(rt, planner, duration),
-        _ => {
-            let out = say_refused(streams::standard_error(rt), planner::check_number(answer));
-            say(out, b"\n");
+        Ok(()) => finish(&rt, say_admissible(&rt, asked)),
+        Err(CheckRefusal::Failing { port: _, count: _ }) => finish(&rt, say_failing(&rt, asked)),
+        Err(_) => {
+            let number = planner::check_number(answer);
+            complain(&rt, format_args!("refused {number}"));
         }
     }
 }
@@ -76,66 +74,41 @@ fn answer(rt: HostRuntime, planner: Planner, duration: u64) {
 // A plan of either form, in bytes.
 fn ask_bytes(rt: HostRuntime, bytes: &[u8], duration: u64) {
     let outcome = planner::load(planner::empty(), bytes);
-    let held = outcome.planner;
-    let loaded = outcome.answer;
-    match loaded {
-        LoadAnswer::Refused { fault: _, offset } => {
-            let refusal = planner::load_number(loaded);
-            say_refused_plan(streams::standard_error(rt), true, refusal, offset);
-        }
-        LoadAnswer::Held { ports: _, flows: _ } => answer(rt, held, duration),
+    let planner = &outcome.planner;
+    match outcome.answer {
+        Ok(_) => answer(rt, Asked { planner, duration }),
+        Err(refusal) => complain(&rt, unheld(refusal)),
     }
 }
 
 fn ask_text(rt: HostRuntime, text: &[u8], duration: u64) {
     let outcome = read_text(text);
-    let held = outcome.planner;
-    let read = outcome.answer;
-    match read {
-        TextAnswer::Refused {
-            line,
-            fault,
-            item,
-            value,
-        } => {
-            say_refusal(streams::standard_error(rt), line, fault, item, value);
-        }
-        TextAnswer::Plan { newer: _ } => answer(rt, held, duration),
+    let planner = &outcome.planner;
+    match outcome.answer {
+        Ok(_) => answer(rt, Asked { planner, duration }),
+        Err(refusal) => complain(&rt, Told(refusal)),
     }
 }
 
-// Whether a plan's bytes begin so: with a tag of either form.
-fn is_tag(first: u8) -> bool {
-    (1 <= first && first <= 6) || (0x11 <= first && first <= 0x13)
-}
-
-// Bytes where the first of them is a tag, else text.
+// Bytes where the first of them is a tag of either form, else text.
 fn ask(rt: HostRuntime, given: &[u8], duration: u64) {
-    if 0 < given.len() {
-        if is_tag(given[0]) {
-            ask_bytes(rt, given, duration);
-            return;
-        }
+    match given.first() {
+        Some(1..=6 | 0x11..=0x13) => ask_bytes(rt, given, duration),
+        _ => ask_text(rt, given, duration),
     }
-    ask_text(rt, given, duration);
 }
 
 fn ask_input(rt: HostRuntime, duration: u64) {
     let mut input = [0u8; ROOM];
-    match streams::read_input(&mut rt.stdin(), &mut input) {
-        Input::Failed => {
-            say(streams::standard_error(rt), b"cannot read the plan\n");
-        }
-        Input::Bytes(n) => ask(rt, &input[..n], duration),
+    match read_input(&mut rt.stdin(), &mut input) {
+        Ok(n) => ask(rt, &input[..n], duration),
+        Err(_) => complain(&rt, Unheld::Unreadable),
     }
 }
 
 fn main(rt: HostRuntime) {
-    if arguments::count(&rt) == 2 {
-        if let Parsed::Number(duration) = arguments::number(&rt, 1) {
-            ask_input(rt, duration);
-            return;
-        }
+    match (arguments::count(&rt), arguments::number(&rt, 1)) {
+        (2, Some(duration)) => ask_input(rt, duration),
+        _ => complain(&rt, "usage: ask DURATION"),
     }
-    say(streams::standard_error(rt), b"usage: ask DURATION\n");
 }

@@ -1,38 +1,31 @@
 // Turns until no plan is pending.
-use batching::{PENDING, SLOTS};
-use planner::{Batch, ServeAnswer};
-use streams::{say_with, say_with_two, standard_error};
+use batching::PENDING;
+use planner::Batch;
+use streams::complain;
 
 // More turns than eight plans take: no search has more steps than the highest top, 100,000,000.
 const MOST: u64 = 50_000_000;
 
 // How far the plan in a slot has come.
-fn report(rt: HostRuntime, batch: Batch, slot: u64) {
-    if SLOTS <= slot {
+fn report(rt: HostRuntime, batch: &Batch, slot: u64) {
+    let Some(held) = batch.slots.get(slot as usize) else {
         return;
-    }
-    let at = slot as usize;
-    let held = batch.slots[at];
+    };
     if held.state == PENDING {
-        say_with_two(standard_error(rt), b"place % at %\n", slot, held.duration);
+        complain(&rt, format_args!("place {slot} at {}", held.duration));
     } else {
-        say_with(standard_error(rt), b"place % answered\n", slot);
+        complain(&rt, format_args!("place {slot} answered"));
     }
 }
 
-pub(crate) fn serve_all(rt: HostRuntime, batch: Batch) -> Batch {
-    let mut left = batch;
-    let mut made: u64 = 0;
-    while made < MOST {
-        let outcome = planner::serve(left);
-        let answer = outcome.answer;
-        let ServeAnswer::Served(slot) = answer else {
-            return left;
+pub(crate) fn serve_all(rt: HostRuntime, mut batch: Batch) -> Batch {
+    for _ in 0..MOST {
+        let outcome = planner::serve(batch);
+        let Some(slot) = outcome.answer else {
+            break;
         };
-        let next = outcome.batch;
-        left = next;
-        report(rt, left, slot);
-        made += 1;
+        batch = outcome.batch;
+        report(rt, &batch, slot);
     }
-    left
+    batch
 }

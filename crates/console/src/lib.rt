@@ -1,64 +1,89 @@
 // The programs' input: the plan on standard input, loaded into the empty planner; and what the converters print.
 #![tactic(auto)]
 
-ghost use Rattle.std.specs.Prelude.{◌≤◌, length};
-ghost use Rattle.console.specs.{LoadedAs, LoadedFrom, LoadedInput, Inside};
+mod held; // held.rt: a plan of the input that is held
 
-use planner::{ConvertAnswer, LoadOutcome};
-use streams::{Input, finish, read_input, say, say_refused_plan, standard_error, standard_output};
+ghost use Rattle.std.specs.Prelude.{◌≡◌, ◌≤◌, length, IfSome};
+ghost use Rattle.plan.specs.Answer.{fault_number};
+ghost use Rattle.streams.specs.declared.output.Unheld.{Unheld};
+ghost use Rattle.console.specs.{LoadedAs, LoadedInput, HeldAs, HeldInputAs, Inside};
+
+pub use held::HeldPlan;
+use plan::{Refusal, fault_number};
+use planner::{ConvertRefusal, LoadOutcome, convert_number};
+use streams::{Unheld, complain, finish, read_input};
 
 // One byte more than a plan may have: a longer input is read no further.
 pub const ROOM: usize = loading::MAX_BYTES + 1;
 
-// Whether the input could be read, and what a load of it gave; where it could not, that of no bytes.
-#[derive(Clone, Copy)]
-pub struct Given {
-    pub readable: bool,
-    pub outcome: LoadOutcome,
-}
-
-fn say_not_converted(rt: HostRuntime, answer: ConvertAnswer, place: usize) {
-    say_refused_plan(
-        standard_error(rt),
-        true,
-        planner::convert_number(answer),
-        place,
-    );
+fn place_of(refusal: ConvertRefusal) -> usize {
+    match refusal {
+        ConvertRefusal::Refused(refusal) => refusal.offset,
+        ConvertRefusal::LongRoute(offset) => offset,
+        ConvertRefusal::ShortBuffer(needed) => needed,
+    }
 }
 
 // What a converter gave: the bytes that it wrote in front of the buffer, or what it refused.
-pub fn say_converted(rt: HostRuntime, answer: ConvertAnswer, buffer: &[u8])
+pub fn say_converted(rt: HostRuntime, answer: Result<usize, ConvertRefusal>, buffer: &[u8])
     requires { Inside (length buffer.now) answer }
 {
     match answer {
-        ConvertAnswer::Written(size) => finish(say(standard_output(rt), &buffer[..size])),
-        ConvertAnswer::Refused { fault: _, offset } => say_not_converted(rt, answer, offset),
-        ConvertAnswer::LongRoute(offset) => say_not_converted(rt, answer, offset),
-        ConvertAnswer::ShortBuffer(needed) => say_not_converted(rt, answer, needed),
+        Ok(size) => finish(&rt, rt.write_all(&buffer[..size])),
+        Err(refusal) => {
+            let number = convert_number(answer);
+            let place = place_of(refusal);
+            complain(&rt, Unheld::Refused { number, place });
+        }
     }
 }
 
-fn load_bytes(readable: bool, bytes: &[u8]) -> Given
-    ensures { LoadedAs readable bytes.now result }
+// Why a load is refused, as the programs say it.
+pub fn unheld(refusal: Refusal) -> Unheld
+    ensures { result ≡ Unheld.Refused (fault_number refusal.fault) refusal.offset }
 {
-    let outcome = planner::load(planner::empty(), bytes);
-    Given { readable, outcome }
-}
-
-fn load_input(rt: HostRuntime, buffer: &mut [u8]) -> Given
-    ensures { LoadedFrom buffer.new result }
-{
-    let input = read_input(&mut rt.stdin(), buffer);
-    match input {
-        Input::Failed => load_bytes(false, b""),
-        Input::Bytes(n) => load_bytes(true, &buffer[..n]),
+    Unheld::Refused {
+        number: u32::from(fault_number(refusal.fault)),
+        place: refusal.offset,
     }
 }
 
-// The planner is the one that a load of the bytes read leaves, and the answer is that load's.
-pub fn given_plan(rt: HostRuntime) -> Given
+fn load_read(read: Option<usize>, buffer: &[u8]) -> Option<LoadOutcome>
+    requires { IfSome read (λ n. n ≤ length buffer.now) }
+    ensures { LoadedAs buffer.now read result }
+{
+    let n = read?;
+    Some(planner::load(planner::empty(), &buffer[..n]))
+}
+
+// The planner is the one that a load of the bytes read leaves, and the answer is that load's; none where nothing could be read.
+pub fn given_plan(rt: HostRuntime) -> Option<LoadOutcome>
     ensures { LoadedInput result }
 {
     let mut buffer = [0u8; ROOM];
-    load_input(rt, &mut buffer)
+    let read = read_input(&mut rt.stdin(), &mut buffer).ok();
+    load_read(read, &buffer)
+}
+
+fn held_of(given: Option<LoadOutcome>) -> Result<HeldPlan, Unheld>
+    requires { LoadedInput given }
+    ensures { HeldAs given result }
+{
+    let Some(outcome) = given else {
+        return Err(Unheld::Unreadable);
+    };
+    match outcome.answer {
+        Ok(loaded) => Ok(HeldPlan {
+            planner: outcome.planner,
+            loaded,
+        }),
+        Err(refusal) => Err(unheld(refusal)),
+    }
+}
+
+// The plan of the input, or why none is held.
+pub fn held_plan(rt: HostRuntime) -> Result<HeldPlan, Unheld>
+    ensures { HeldInputAs result }
+{
+    held_of(given_plan(rt))
 }

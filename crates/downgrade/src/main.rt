@@ -2,7 +2,7 @@
 #![tactic(auto)]
 
 use console::say_converted;
-use streams::{Input, say};
+use streams::{Unheld, complain, read_input};
 
 fn convert(rt: HostRuntime, plan: &[u8]) {
     let mut buffer = [0u8; loading::MAX_BYTES];
@@ -12,10 +12,8 @@ fn convert(rt: HostRuntime, plan: &[u8]) {
 
 fn main(rt: HostRuntime) {
     let mut input = [0u8; console::ROOM];
-    match streams::read_input(&mut rt.stdin(), &mut input) {
-        Input::Failed => {
-            say(streams::standard_error(rt), b"cannot read the plan\n");
-        }
-        Input::Bytes(n) => convert(rt, &input[..n]),
+    match read_input(&mut rt.stdin(), &mut input) {
+        Ok(n) => convert(rt, &input[..n]),
+        Err(_) => complain(&rt, Unheld::Unreadable),
     }
 }

@@ -7,22 +7,31 @@ const MOST_MARKS: u32 = 10;
 // A tenth of every top is below five times this.
 const LARGEST_POWER: u32 = 100_000_000;
 
-const MILLISECOND: u32 = 1_000_000;
+#[derive(Clone, Copy)]
+pub(crate) enum Unit {
+    Nanosecond,
+    Microsecond,
+    Millisecond,
+}
 
-const MICROSECOND: u32 = 1_000;
-
-fn tenth(top: u32) -> u32 {
-    if top % MOST_MARKS == 0 {
-        return top / MOST_MARKS;
+impl Unit {
+    // In ns.
+    pub(crate) fn size(self) -> u32
+        ensures { 1 ≤ result }
+    {
+        match self {
+            Unit::Nanosecond => 1,
+            Unit::Microsecond => 1_000,
+            Unit::Millisecond => 1_000_000,
+        }
     }
-    top / MOST_MARKS + 1
 }
 
 // The distance of two marks: the smallest of 1, 2 and 5 times the powers of ten that makes few enough of them.
 pub(crate) fn step_of(top: u32) -> u32
     ensures { 1 ≤ result }
 {
-    let least = tenth(top);
+    let least = top.div_ceil(MOST_MARKS);
     let mut power: u32 = 1;
     while power < LARGEST_POWER {
         if least <= power {
@@ -40,25 +49,10 @@ pub(crate) fn step_of(top: u32) -> u32
 }
 
 // The unit for marks at this distance, in ns.
-pub(crate) fn unit_of(step: u32) -> u32
-    ensures { 1 ≤ result }
-{
-    if MILLISECOND <= step {
-        return MILLISECOND;
+pub(crate) fn unit_of(step: u32) -> Unit {
+    match step {
+        1_000_000.. => Unit::Millisecond,
+        1_000.. => Unit::Microsecond,
+        _ => Unit::Nanosecond,
     }
-    if MICROSECOND <= step {
-        return MICROSECOND;
-    }
-    1
-}
-
-// Which unit it is: 0 for ns, 1 for us, 2 for ms.
-pub(crate) fn code(unit: u32) -> usize {
-    if unit == MILLISECOND {
-        return 2;
-    }
-    if unit == MICROSECOND {
-        return 1;
-    }
-    0
 }

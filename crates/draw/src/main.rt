@@ -10,85 +10,61 @@ mod scale; // scale.rt: which durations a column stands for
 mod strip; // strip.rt: the columns by what they stand for
 mod text; // text.rt: the drawing in 80 columns
 
-ghost use Rattle.std.specs.Prelude.{◌≤◌};
+use console::held_plan;
+use label::{Given, marks_of};
+use planner::{CheckRefusal, Planner};
+use run::Style;
+use streams::{complain, finish};
 
-use arguments::Parsed;
-use label::marks_of;
-use planner::{CheckAnswer, LoadAnswer, Planner};
-use streams::{say, say_refused, say_refused_plan};
-
-// A given duration of 0 is none.
-fn draw(rt: HostRuntime, planner: Planner, text: bool, given: u64, admissible: bool) {
-    let marks = marks_of(planner, given, admissible);
-    let out = if text {
-        text::say_text(streams::standard_output(rt), planner, marks)
-    } else {
-        picture::say_picture(streams::standard_output(rt), planner, marks)
+fn draw(rt: HostRuntime, planner: Planner, style: Style, given: Option<Given>) {
+    let marks = marks_of(planner, given);
+    let wrote = match style {
+        Style::Picture => picture::say_picture(&rt, planner, marks),
+        Style::Text => text::say_text(&rt, planner, marks),
     };
-    streams::finish(out);
+    finish(&rt, wrote);
 }
 
-fn draw_given(rt: HostRuntime, planner: Planner, text: bool, duration: u64) {
+fn draw_given(rt: HostRuntime, planner: Planner, style: Style, duration: u64) {
     let answer = planner::check(planner, duration);
-    match answer {
-        CheckAnswer::Admissible => draw(rt, planner, text, duration, true),
-        CheckAnswer::Failing { port: _, count: _ } => draw(rt, planner, text, duration, false),
-        _ => {
-            let out = say_refused(streams::standard_error(rt), planner::check_number(answer));
-            say(out, b"\n");
+    let admissible = match answer {
+        Ok(()) => true,
+        Err(CheckRefusal::Failing { port: _, count: _ }) => false,
+        Err(_) => {
+            let number = planner::check_number(answer);
+            return complain(&rt, format_args!("refused {number}"));
         }
-    }
+    };
+    let given = Given {
+        duration,
+        admissible,
+    };
+    draw(rt, planner, style, Some(given));
 }
 
 // Where a duration is given it is marked.
-fn draw_plan(rt: HostRuntime, text: bool, given: bool, duration: u64) {
-    let read = console::given_plan(rt);
-    let readable = read.readable;
-    let outcome = read.outcome;
-    let held = outcome.planner;
-    let answer = outcome.answer;
-    match answer {
-        LoadAnswer::Refused { fault: _, offset } => {
-            say_refused_plan(
-                streams::standard_error(rt),
-                readable,
-                planner::load_number(answer),
-                offset,
-            );
-        }
-        LoadAnswer::Held { ports: _, flows: _ } => {
-            if given {
-                draw_given(rt, held, text, duration);
-            } else {
-                draw(rt, held, text, 0, false);
-            }
-        }
+fn draw_plan(rt: HostRuntime, style: Style, given: Option<u64>) {
+    match (held_plan(rt), given) {
+        (Ok(held), Some(duration)) => draw_given(rt, held.planner, style, duration),
+        (Ok(held), None) => draw(rt, held.planner, style, None),
+        (Err(unheld), _) => complain(&rt, unheld),
     }
-}
-
-// The program's name, and the word for text where it is given.
-fn first_words(text: bool) -> usize
-    ensures { result ≤ 2 }
-{
-    if text { 2 } else { 1 }
 }
 
 fn main(rt: HostRuntime) {
-    let text = arguments::is_word(&rt, 1, b"text");
-    let before = first_words(text);
+    // The words behind the program's name, and behind the word for text where it is given.
+    let (style, before) = if arguments::is_word(&rt, 1, b"text") {
+        (Style::Text, 2)
+    } else {
+        (Style::Picture, 1)
+    };
     let words = arguments::count(&rt);
+    let duration = arguments::number(&rt, before);
     if words == before {
-        draw_plan(rt, text, false, 0);
-        return;
+        draw_plan(rt, style, None);
+    } else if words == before + 1 && duration.is_some() {
+        draw_plan(rt, style, duration);
+    } else {
+        complain(&rt, "usage: draw [text] [DURATION]");
     }
-    if words == before + 1 {
-        if let Parsed::Number(duration) = arguments::number(&rt, before) {
-            draw_plan(rt, text, true, duration);
-            return;
-        }
-    }
-    say(
-        streams::standard_error(rt),
-        b"usage: draw [text] [DURATION]\n",
-    );
 }

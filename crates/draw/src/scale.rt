@@ -10,11 +10,10 @@ pub(crate) struct Scale {
 }
 
 pub(crate) fn scale_of(top: u32, width: u32) -> Scale {
-    let columns = if top < width { top } else { width };
     Scale {
         top,
         width,
-        columns,
+        columns: top.min(width),
     }
 }
 
@@ -43,21 +42,9 @@ pub(crate) fn position(scale: Scale, duration: u32) -> u64 {
     share(duration, scale.width, scale.top) as u64
 }
 
-fn narrow(duration: u64, top: u32) -> u32
-    ensures { result ≤ top }
-{
-    if duration < (top as u64) {
-        return duration as u32;
-    }
-    top
-}
-
 // The place of the drawing, counted from 0, in which a duration from 1 to top lies: the one before its position rounded up.
 pub(crate) fn place(scale: Scale, duration: u64) -> u32 {
-    let behind = scale.top - narrow(duration, scale.top);
+    let behind = (scale.top as u64).saturating_sub(duration) as u32;
     let places = scale.width - share(behind, scale.width, scale.top);
-    if places == 0 {
-        return 0;
-    }
-    places - 1
+    places.saturating_sub(1)
 }

@@ -2,186 +2,173 @@
 // given duration, the axis in two lines, and what the characters mean.
 ghost use Rattle.std.specs.Prelude.{◌≤◌};
 
-use crate::axis::{code, step_of, unit_of};
-use crate::label::{Marks, say_given, say_least, say_safe, say_title};
-use crate::run::say_spaces;
+use crate::axis::{Unit, step_of, unit_of};
+use crate::label::{Given, Least, Marks, Safe, Title};
+use crate::run::{Style, say_spaces};
 use crate::scale::{Scale, place, scale_of};
 use crate::strip::say_strip;
 use planner::Planner;
-use streams::{Output, say, say_choice, say_number};
+use std::io;
 
 const WIDTH: u32 = 80;
 
 // Words stand behind a mark up to this column, and before it in a later one.
 const HALF: u64 = 40;
 
-// The digits of the first group of three.
-fn first_group(n: u64) -> u32
-    ensures { result ≤ 3 }
+// The digits of a number below 10,000.
+fn digits(n: u64) -> u32
+    ensures { result ≤ 4 }
 {
-    if n < 10 {
-        return 1;
+    match n {
+        0..10 => 1,
+        10..100 => 2,
+        100..1_000 => 3,
+        _ => 4,
     }
-    if n < 100 {
-        return 2;
-    }
-    3
 }
 
-// The columns that a duration in groups of three digits takes with its unit.
+// The columns that a duration below a second in groups of three digits takes with its unit.
 fn columns_of(duration: u64) -> u32
-    ensures { result ≤ 14 }
+    ensures { result ≤ 15 }
 {
-    if duration < 1_000 {
-        return 3 + first_group(duration);
+    match duration {
+        0..1_000 => 3 + digits(duration),
+        1_000..1_000_000 => 7 + digits(duration / 1_000),
+        _ => 11 + digits(duration / 1_000_000),
     }
-    if duration < 1_000_000 {
-        return 7 + first_group(duration / 1_000);
-    }
-    11 + first_group(duration / 1_000_000)
 }
 
-fn say_mark(out: Output, above: bool) -> Output {
-    say_choice(out, b"^|v", above as usize)
-}
+const ABOVE: char = 'v';
+
+const BENEATH: char = '^';
 
 // What stands before words of so many columns about a place.
-fn open_mark(out: Output, above: bool, place: u64, words: u32) -> Output {
+fn open_mark(out: &impl Print, mark: char, place: u64, words: u32) -> io::Result<()> {
     if place <= HALF {
-        let out = say_spaces(out, 0, place);
-        return say(say_mark(out, above), b" ");
+        say_spaces(out, 0, place)?;
+        return print!(out; "{mark} ");
     }
-    say_spaces(out, (words as u64) + 1, place)
+    say_spaces(out, u64::from(words) + 1, place)
 }
 
 // What stands behind them.
-fn close_mark(out: Output, above: bool, place: u64) -> Output {
+fn close_mark(out: &impl Print, mark: char, place: u64) -> io::Result<()> {
     if place <= HALF {
-        return say(out, b"\n");
+        return out.println("");
     }
-    let out = say_mark(say(out, b" "), above);
-    say(out, b"\n")
+    println!(out; " {mark}")
 }
 
-fn say_least_mark(out: Output, scale: Scale, least: u64) -> Output {
+fn say_least_mark(out: &impl Print, scale: Scale, least: u64) -> io::Result<()> {
     let at = place(scale, least) as u64;
-    let out = open_mark(out, true, at, 6 + columns_of(least));
-    close_mark(say_least(out, least), true, at)
+    open_mark(out, ABOVE, at, 6 + columns_of(least))?;
+    out.print(Least(Some(least)))?;
+    close_mark(out, ABOVE, at)
 }
 
-fn say_safe_mark(out: Output, scale: Scale, safe: u64) -> Output {
+fn say_safe_mark(out: &impl Print, scale: Scale, safe: u64) -> io::Result<()> {
     let at = place(scale, safe) as u64;
-    let out = open_mark(out, true, at, 12 + columns_of(safe));
-    close_mark(say_safe(out, safe), true, at)
+    open_mark(out, ABOVE, at, 12 + columns_of(safe))?;
+    out.print(Safe(Some(safe)))?;
+    close_mark(out, ABOVE, at)
 }
 
-fn say_marks(out: Output, scale: Scale, least: u64, safe: u64) -> Output {
-    if least == 0 {
-        return say(say_least(out, least), b"\n");
+fn say_marks(out: &impl Print, scale: Scale, marks: Marks) -> io::Result<()> {
+    let Some(least) = marks.least else {
+        return out.println(Least(None));
+    };
+    say_least_mark(out, scale, least)?;
+    match marks.safe {
+        Some(safe) => say_safe_mark(out, scale, safe),
+        None => out.println(Safe(None)),
     }
-    let out = say_least_mark(out, scale, least);
-    if safe == 0 {
-        return say(say_safe(out, safe), b"\n");
-    }
-    say_safe_mark(out, scale, safe)
 }
 
 // The columns of the words about the given duration.
-fn given_columns(duration: u64, admissible: bool) -> u32 {
-    if admissible {
-        return 18 + columns_of(duration);
+fn given_columns(given: Given) -> u32 {
+    if given.admissible {
+        18 + columns_of(given.duration)
+    } else {
+        15 + columns_of(given.duration)
     }
-    15 + columns_of(duration)
 }
 
-fn say_given_mark(out: Output, scale: Scale, duration: u64, admissible: bool) -> Output {
-    if duration == 0 {
-        return out;
-    }
-    let at = place(scale, duration) as u64;
-    let out = open_mark(out, false, at, given_columns(duration, admissible));
-    close_mark(say_given(out, duration, admissible), false, at)
+fn say_given_mark(out: &impl Print, scale: Scale, given: Given) -> io::Result<()> {
+    let at = place(scale, given.duration) as u64;
+    open_mark(out, BENEATH, at, given_columns(given))?;
+    out.print(given)?;
+    close_mark(out, BENEATH, at)
 }
 
-// A line up to a column.
+// The two lines of the axis.
 #[derive(Clone, Copy)]
-struct Line {
-    out: Output,
-    at: u64,
+enum Row {
+    Ticks,
+    Numbers,
 }
 
-fn digits(n: u32) -> u32
-    ensures { result ≤ 4 }
-{
-    if n < 10 {
-        return 1;
-    }
-    if n < 100 {
-        return 2;
-    }
-    if n < 1_000 {
-        return 3;
-    }
-    4
+// A tick, and what is told beneath it.
+#[derive(Clone, Copy)]
+struct Tick {
+    x: u32,
+    number: u32,
 }
 
-fn say_tick(line: Line, x: u32) -> Line {
-    let out = say_spaces(line.out, line.at, x as u64);
-    Line {
-        out: say(out, b"|"),
-        at: (x as u64) + 1,
-    }
-}
-
-// A number that begins at its tick, or ends with the line.
-fn say_label(line: Line, x: u32, n: u32) -> Line {
-    let size = digits(n);
-    let start = if WIDTH - size < x { WIDTH - size } else { x };
-    let out = say_spaces(line.out, line.at, start as u64);
-    Line {
-        out: say_number(out, n as u64),
-        at: (start as u64) + (size as u64),
+// A tick or its number behind so many columns; a number begins at its tick, or ends with the line. How far the line has come.
+fn say_tick(out: &impl Print, row: Row, at: u64, tick: Tick) -> io::Result<u64> {
+    match row {
+        Row::Ticks => {
+            say_spaces(out, at, u64::from(tick.x))?;
+            out.print('|')?;
+            Ok(u64::from(tick.x) + 1)
+        }
+        Row::Numbers => {
+            let size = digits(u64::from(tick.number));
+            let start = tick.x.min(WIDTH - size);
+            say_spaces(out, at, u64::from(start))?;
+            out.print(tick.number)?;
+            Ok(u64::from(start) + u64::from(size))
+        }
     }
 }
 
-fn say_next(line: Line, labels: bool, scale: Scale, tick: u32, unit: u32) -> Line
-    requires { 1 ≤ unit }
-{
-    let x = place(scale, tick as u64);
-    if labels {
-        return say_label(line, x, tick / unit);
-    }
-    say_tick(line, x)
-}
-
-// The ticks of the axis, or the numbers beneath them.
-fn say_axis(out: Output, labels: bool, scale: Scale) -> Output {
+fn say_row(out: &impl Print, row: Row, scale: Scale) -> io::Result<()> {
     let step = step_of(scale.top);
-    let unit = unit_of(step);
-    let mut line = Line { out, at: 0 };
-    let mut tick: u32 = 0;
-    while step <= scale.top - tick {
-        line = say_next(line, labels, scale, tick, unit);
-        tick += step;
+    let unit = unit_of(step).size();
+    let mut at = 0;
+    for mark in (0..=scale.top).step_by(step as usize) {
+        let tick = Tick {
+            x: place(scale, u64::from(mark)),
+            number: mark / unit,
+        };
+        at = say_tick(out, row, at, tick)?;
     }
-    let line = say_next(line, labels, scale, tick, unit);
-    say(line.out, b"\n")
+    out.println("")
 }
 
-fn say_legend(out: Output, top: u32) -> Output {
-    let out = say(
-        out,
-        b"# admissible, - refused, + both within a column; axis in ",
-    );
-    say_choice(out, b"ns\n|us\n|ms\n", code(unit_of(step_of(top))))
+fn unit_name(unit: Unit) -> &'static str {
+    match unit {
+        Unit::Nanosecond => "ns",
+        Unit::Microsecond => "us",
+        Unit::Millisecond => "ms",
+    }
 }
 
-pub(crate) fn say_text(out: Output, planner: Planner, marks: Marks) -> Output {
+fn say_legend(out: &impl Print, top: u32) -> io::Result<()> {
+    let unit = unit_name(unit_of(step_of(top)));
+    println!(out; "# admissible, - refused, + both within a column; axis in {unit}")
+}
+
+pub(crate) fn say_text(out: &impl Print, planner: Planner, marks: Marks) -> io::Result<()> {
     let scale = scale_of(planner.top, WIDTH);
-    let out = say(say_title(out, planner.top), b"\n");
-    let out = say_marks(out, scale, marks.least, marks.safe);
-    let out = say(say_strip(out, true, planner, scale), b"\n");
-    let out = say_given_mark(out, scale, marks.given, marks.admissible);
-    let out = say_axis(say_axis(out, false, scale), true, scale);
+    out.println(Title(planner.top))?;
+    say_marks(out, scale, marks)?;
+    say_strip(out, Style::Text, planner, scale)?;
+    out.println("")?;
+    if let Some(given) = marks.given {
+        say_given_mark(out, scale, given)?;
+    }
+    say_row(out, Row::Ticks, scale)?;
+    say_row(out, Row::Numbers, scale)?;
     say_legend(out, planner.top)
 }

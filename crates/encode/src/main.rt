@@ -4,31 +4,25 @@
 ghost use Rattle.std.specs.Prelude.{length};
 ghost use Rattle.text_coding.specs.Answer.{Inside};
 
-use streams::{Input, say};
-use text_coding::{EncodeAnswer, encode_text};
-use text_refusals::{say_long, say_refusal};
+use streams::{Unheld, complain, finish, read_input};
+use text_coding::{EncodeRefusal, encode_text};
+use text_refusals::Told;
 
 // One byte more than a text may have: a longer input is read no further.
 const ROOM: usize = plan_text::MAX_TEXT + 1;
 
-fn say_encoded(rt: HostRuntime, answer: EncodeAnswer, buffer: &[u8])
+fn say_encoded(rt: HostRuntime, answer: Result<usize, EncodeRefusal>, buffer: &[u8])
     requires { Inside (length buffer.now) answer }
 {
     match answer {
-        EncodeAnswer::Written(size) => {
-            streams::finish(say(streams::standard_output(rt), &buffer[..size]))
+        Ok(size) => finish(&rt, rt.write_all(&buffer[..size])),
+        Err(EncodeRefusal::Short(size)) => {
+            complain(
+                &rt,
+                format_args!("the plan has {size} bytes: at most 16384"),
+            );
         }
-        EncodeAnswer::Short(size) => {
-            say_long(streams::standard_error(rt), size);
-        }
-        EncodeAnswer::Refused {
-            line,
-            fault,
-            item,
-            value,
-        } => {
-            say_refusal(streams::standard_error(rt), line, fault, item, value);
-        }
+        Err(EncodeRefusal::Refused(refusal)) => complain(&rt, Told(refusal)),
     }
 }
 
@@ -41,10 +35,8 @@ fn encode(rt: HostRuntime, text: &[u8]) {
 
 fn main(rt: HostRuntime) {
     let mut input = [0u8; ROOM];
-    match streams::read_input(&mut rt.stdin(), &mut input) {
-        Input::Failed => {
-            say(streams::standard_error(rt), b"cannot read the plan\n");
-        }
-        Input::Bytes(n) => encode(rt, &input[..n]),
+    match read_input(&mut rt.stdin(), &mut input) {
+        Ok(n) => encode(rt, &input[..n]),
+        Err(_) => complain(&rt, Unheld::Unreadable),
     }
 }

@@ -5,7 +5,7 @@ ghost use Rattle.gate_lists.specs.GateList.{field_size};
 ghost use Rattle.gate_lists.specs.Playing.{first_states, first_interval};
 
 use gate_writing::{FIELD_SIZE, INTERVAL_AT, STATES_AT};
-use streams::{Output, say, say_hex, say_with};
+use std::io;
 
 // The interval is read in two halves.
 const LOW_HALF_AT: usize = INTERVAL_AT + 2;
@@ -27,19 +27,12 @@ fn interval(bytes: &[u8]) -> u32
     (high as u32) * 65536 + (low as u32)
 }
 
-fn say_entry(out: Output, states: u8, interval: u32) -> Output {
-    let out = say(out, b"sched-entry S ");
-    let out = say_hex(out, states as u64, 2);
-    say_with(out, b" %\n", interval as u64)
-}
-
-pub(crate) fn say_list(rt: HostRuntime, list: &[u8]) -> Output {
-    let mut out = streams::standard_output(rt);
-    let mut at: usize = 0;
-    while FIELD_SIZE <= list.len() - at {
-        let field = &list[at..];
-        out = say_entry(out, states(field), interval(field));
-        at += FIELD_SIZE;
+// A line for each field.
+pub(crate) fn say_list(out: &impl Print, list: &[u8]) -> io::Result<()> {
+    for field in list.chunks_exact(FIELD_SIZE) {
+        let states = states(field);
+        let interval = interval(field);
+        println!(out; "sched-entry S {states:02x} {interval}")?;
     }
-    out
+    Ok(())
 }

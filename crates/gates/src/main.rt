@@ -5,85 +5,71 @@
 mod entry; // entry.rt: the fields of a written list
 mod shortest; // shortest.rt: whether taprio may refuse it
 
-use arguments::Parsed;
+use console::held_plan;
 use entry::say_list;
 use gate_writing::MOST_BYTES;
-use planner::{GatesAnswer, LoadAnswer, Planner};
+use planner::{GatesRefusal, Planner, gates_number};
 use shortest::warn;
-use streams::{say, say_refused_plan, say_with, say_with_three};
+use streams::{complain, finish};
 
 // The program's name, and its three arguments.
 const WORDS: usize = 4;
 
-fn report_answer(rt: HostRuntime, answer: GatesAnswer) {
-    let refusal = planner::gates_number(answer) as u64;
-    if let GatesAnswer::Failing { port, count } = answer {
-        say_with_three(
-            streams::standard_error(rt),
-            b"refused % port % failing %\n",
-            refusal,
-            port as u64,
-            count as u64,
-        );
-        return;
-    }
-    say_with(streams::standard_error(rt), b"refused %\n", refusal);
+// What is asked for.
+#[derive(Clone, Copy)]
+struct Question {
+    duration: u64,
+    even: u64,
+    odd: u64,
 }
 
-fn say_gates(rt: HostRuntime, planner: Planner, duration: u64, even: u64, odd: u64) {
-    let mut list = [0u8; MOST_BYTES];
-    let answer = planner::gates(planner, duration, even, odd, &mut list);
-    match answer {
-        GatesAnswer::Written(n) => {
-            warn(rt, planner, duration);
-            streams::finish(say_list(rt, &list[..n]));
-        }
-        _ => report_answer(rt, answer),
+fn question_of(rt: HostRuntime) -> Option<Question> {
+    if arguments::count(&rt) != WORDS {
+        return None;
     }
+    Some(Question {
+        duration: arguments::number(&rt, 1)?,
+        even: arguments::number(&rt, 2)?,
+        odd: arguments::number(&rt, 3)?,
+    })
 }
 
-fn plan_gates(rt: HostRuntime, duration: u64, even: u64, odd: u64) {
-    let given = console::given_plan(rt);
-    let readable = given.readable;
-    let outcome = given.outcome;
-    let held = outcome.planner;
-    let answer = outcome.answer;
-    match answer {
-        LoadAnswer::Refused { fault: _, offset } => {
-            say_refused_plan(
-                streams::standard_error(rt),
-                readable,
-                planner::load_number(answer),
-                offset,
+fn report_refusal(rt: HostRuntime, refusal: GatesRefusal) {
+    let number = gates_number(Err(refusal));
+    match refusal {
+        GatesRefusal::Failing { port, count } => {
+            complain(
+                &rt,
+                format_args!("refused {number} port {port} failing {count}"),
             );
         }
-        LoadAnswer::Held { ports: _, flows: _ } => say_gates(rt, held, duration, even, odd),
+        _ => complain(&rt, format_args!("refused {number}")),
     }
 }
 
-fn report_usage(rt: HostRuntime) {
-    say(
-        streams::standard_error(rt),
-        b"usage: gates DURATION EVEN ODD\n",
-    );
+fn say_gates(rt: HostRuntime, planner: Planner, question: Question) {
+    let mut list = [0u8; MOST_BYTES];
+    match planner::gates(
+        planner,
+        question.duration,
+        question.even,
+        question.odd,
+        &mut list,
+    ) {
+        Ok(n) => {
+            warn(rt, planner, question.duration);
+            finish(&rt, say_list(&rt, &list[..n]));
+        }
+        Err(refusal) => report_refusal(rt, refusal),
+    }
 }
 
 fn main(rt: HostRuntime) {
-    if arguments::count(&rt) != WORDS {
-        report_usage(rt);
-        return;
+    let Some(question) = question_of(rt) else {
+        return complain(&rt, "usage: gates DURATION EVEN ODD");
+    };
+    match held_plan(rt) {
+        Ok(held) => say_gates(rt, held.planner, question),
+        Err(unheld) => complain(&rt, unheld),
     }
-    let Parsed::Number(duration) = arguments::number(&rt, 1) else {
-        report_usage(rt);
-        return;
-    };
-    let Parsed::Number(even) = arguments::number(&rt, 2) else {
-        report_usage(rt);
-        return;
-    };
-    let Parsed::Number(odd) = arguments::number(&rt, 3) else {
-        report_usage(rt);
-        return;
-    };
-    plan_gates(rt, duration, even, odd);
 }

@@ -6,46 +6,28 @@ ghost use Rattle.cqf.specs.Form.{form_from};
 ghost use Rattle.plan_reading.specs.Reading.{max_bytes};
 ghost use Rattle.plan_reading.specs.Saved.{form_bytes};
 ghost use Rattle.tables.specs.Tables.{plan_of};
-ghost use Rattle.normalize.specs.{Front, Saveable};
+ghost use Rattle.normalize.specs.{Front};
 
-use planner::{LoadAnswer, Planner, SaveAnswer};
-use streams::{say, say_refused_plan};
+use console::{HeldPlan, held_plan};
+use streams::{complain, finish};
 
 // The saved plan in front of the buffer, and its length: a buffer of the longest plan's length has room for every plan.
-fn saved(planner: Planner, buffer: &mut [u8]) -> usize
-    requires { Saveable planner × (max_bytes ≤ length buffer.old) }
-    ensures { Front (form_bytes (form_from planner.form) (plan_of planner)) buffer.new result }
+fn saved(held: HeldPlan, buffer: &mut [u8]) -> usize
+    requires { max_bytes ≤ length buffer.old }
+    ensures { Front (form_bytes (form_from held.planner.form) (plan_of held.planner)) buffer.new result }
 {
-    match planner::save(planner, buffer) {
-        SaveAnswer::Written(size) => size,
-        SaveAnswer::NoPlan => 0,
-        SaveAnswer::ShortBuffer(_) => 0,
-    }
+    planner::save(held.planner, buffer).unwrap()
 }
 
-fn write_saved(rt: HostRuntime, planner: Planner)
-    requires { Saveable planner }
-{
+fn write_saved(rt: HostRuntime, held: HeldPlan) {
     let mut buffer = [0u8; loading::MAX_BYTES];
-    let size = saved(planner, &mut buffer);
-    streams::finish(say(streams::standard_output(rt), &buffer[..size]));
+    let size = saved(held, &mut buffer);
+    finish(&rt, rt.write_all(&buffer[..size]));
 }
 
 fn main(rt: HostRuntime) {
-    let given = console::given_plan(rt);
-    let readable = given.readable;
-    let outcome = given.outcome;
-    let held = outcome.planner;
-    let answer = outcome.answer;
-    match answer {
-        LoadAnswer::Refused { fault: _, offset } => {
-            say_refused_plan(
-                streams::standard_error(rt),
-                readable,
-                planner::load_number(answer),
-                offset,
-            );
-        }
-        LoadAnswer::Held { ports: _, flows: _ } => write_saved(rt, held),
+    match held_plan(rt) {
+        Ok(held) => write_saved(rt, held),
+        Err(unheld) => complain(&rt, unheld),
     }
 }

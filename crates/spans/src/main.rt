@@ -2,86 +2,54 @@
 // neither end. With a duration as argument it prints the first that ends there or later. What is no span stands on standard error.
 #![tactic(auto)]
 
-ghost use Rattle.std.specs.Prelude.{◌≡◌, true};
-ghost use Rattle.cqf.specs.Plan.{valid_plan};
-ghost use Rattle.tables.specs.Tables.{plan_of};
+use console::{HeldPlan, held_plan};
+use planner::{Planner, SpanRecord};
+use std::io;
+use streams::{complain, finish};
 
-use arguments::Parsed;
-use planner::{LoadAnswer, Planner, SpanAnswer};
-use streams::{Output, say, say_refused_plan, say_with, say_with_two};
-
-fn say_span(out: Output, first: u64, last: u64) -> Output {
-    say_with_two(out, b"span % %\n", first, last)
+fn say_span(out: &impl Print, span: SpanRecord) -> io::Result<()> {
+    println!(out; "span {} {}", span.first, span.last)
 }
 
 // Every span by the question for one, each time from behind the last: there may be more than a list of any size takes.
-fn say_spans(rt: HostRuntime, planner: Planner) -> Output
-    requires { valid_plan (plan_of planner) ≡ true }
-{
-    let mut out = streams::standard_output(rt);
-    let top = planner.top as u64;
+fn say_spans(out: &impl Print, held: HeldPlan) -> io::Result<()> {
+    let top = held.planner.top as u64;
     let mut at: u64 = 1;
     while at <= top {
-        let SpanAnswer::Span(span) = planner::span(planner, at) else {
-            return out;
+        let Ok(span) = planner::span(held.planner, at) else {
+            break;
         };
-        out = say_span(out, span.first, span.last);
+        say_span(out, span)?;
         at = span.last + 1;
     }
-    out
+    Ok(())
 }
 
 fn say_one(rt: HostRuntime, planner: Planner, duration: u64) {
     let answer = planner::span(planner, duration);
     match answer {
-        SpanAnswer::Span(span) => {
-            let out = say_span(streams::standard_output(rt), span.first, span.last);
-            streams::finish(out);
-        }
-        _ => {
-            let refusal = planner::span_number(answer);
-            say_with(streams::standard_error(rt), b"refused %\n", refusal as u64);
+        Ok(span) => finish(&rt, say_span(&rt, span)),
+        Err(_) => {
+            let number = planner::span_number(answer);
+            complain(&rt, format_args!("refused {number}"));
         }
     }
 }
 
 // All spans, or one from a duration on.
-fn plan_spans(rt: HostRuntime, one: bool, duration: u64) {
-    let given = console::given_plan(rt);
-    let readable = given.readable;
-    let outcome = given.outcome;
-    let held = outcome.planner;
-    let answer = outcome.answer;
-    match answer {
-        LoadAnswer::Refused { fault: _, offset } => {
-            say_refused_plan(
-                streams::standard_error(rt),
-                readable,
-                planner::load_number(answer),
-                offset,
-            );
-        }
-        LoadAnswer::Held { ports: _, flows: _ } => {
-            if one {
-                say_one(rt, held, duration);
-            } else {
-                streams::finish(say_spans(rt, held));
-            }
-        }
+fn plan_spans(rt: HostRuntime, from: Option<u64>) {
+    match (held_plan(rt), from) {
+        (Ok(held), Some(duration)) => say_one(rt, held.planner, duration),
+        (Ok(held), None) => finish(&rt, say_spans(&rt, held)),
+        (Err(unheld), _) => complain(&rt, unheld),
     }
 }
 
 fn main(rt: HostRuntime) {
-    let words = arguments::count(&rt);
-    if words == 1 {
-        plan_spans(rt, false, 0);
-        return;
+    let duration = arguments::number(&rt, 1);
+    match (arguments::count(&rt), duration) {
+        (1, _) => plan_spans(rt, None),
+        (2, Some(_)) => plan_spans(rt, duration),
+        _ => complain(&rt, "usage: spans [DURATION]"),
     }
-    if words == 2 {
-        if let Parsed::Number(duration) = arguments::number(&rt, 1) {
-            plan_spans(rt, true, duration);
-            return;
-        }
-    }
-    say(streams::standard_error(rt), b"usage: spans [DURATION]\n");
 }

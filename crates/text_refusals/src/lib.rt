@@ -4,4 +4,4 @@
 mod name; // name.rt: the words for a number of a text
 mod refusal; // refusal.rt: the words of a refusal
 
-pub use refusal::{say_long, say_refusal};
+pub use refusal::Told;

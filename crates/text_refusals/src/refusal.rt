@@ -1,100 +1,108 @@
 // The words in which a text is refused.
-use crate::name::say_name;
+use crate::name::name_of;
+use plan_text::TextRefusal;
 use plan_text::grammar::{Fault, Item};
 use plan_text::ranges::{high_of, low_of};
-use streams::{Output, say, say_choice, say_with, say_with_two};
+use std::fmt;
+use std::fmt::{Display, Formatter};
 
 // The largest number that is told apart from larger ones.
 const LARGEST: u64 = 18_446_744_073_709_551_614;
 
-fn say_missing(out: Output, item: Item) -> Output {
-    say(say_name(out, item), b" is missing")
+// A number as the text has it.
+#[derive(Clone, Copy)]
+struct Value(u64);
+
+impl Display for Value {
+    fn fmt<W: fmt::Write>(&self, f: &mut Formatter<W>) -> fmt::Result {
+        let value = self.0;
+        if value < LARGEST {
+            write!(f, "{value}")
+        } else {
+            write!(f, "{value} or more")
+        }
+    }
 }
 
-fn say_word(out: Output, item: Item) -> Output {
+fn write_missing<W: fmt::Write>(f: &mut Formatter<W>, item: Item) -> fmt::Result {
+    write!(f, "{} is missing", name_of(item))
+}
+
+fn write_word<W: fmt::Write>(f: &mut Formatter<W>, item: Item) -> fmt::Result {
     match item {
-        Item::First => say(
-            out,
-            b"the first word is not guard, top, port, flow, clocks, or format before all others",
+        Item::First => write!(
+            f,
+            "the first word is not guard, top, port, flow, clocks, or format before all others"
         ),
-        Item::End => say(out, b"nothing more belongs on this line"),
-        _ => say_missing(say(out, b"the word "), item),
+        Item::End => write!(f, "nothing more belongs on this line"),
+        _ => write!(f, "the word {} is missing", name_of(item)),
     }
 }
 
-fn say_no_number(out: Output, item: Item) -> Output {
+fn write_no_number<W: fmt::Write>(f: &mut Formatter<W>, item: Item) -> fmt::Result {
     match item {
-        Item::Route => say(out, b"the route is not a row of numbers"),
-        _ => say(say_name(out, item), b" is not a number"),
+        Item::Route => write!(f, "the route is not a row of numbers"),
+        _ => write!(f, "{} is not a number", name_of(item)),
     }
 }
 
-fn say_value(out: Output, value: u64) -> Output {
-    let out = say_with(out, b" %", value);
-    say_choice(out, b"| or more", (LARGEST <= value) as usize)
+// A value outside the range of a number, with the word for it. 0 may be allowed beside the range.
+fn write_outside<W: fmt::Write>(
+    f: &mut Formatter<W>,
+    word: Item,
+    item: Item,
+    value: u64,
+    beside: &str,
+) -> fmt::Result {
+    let word = name_of(word);
+    let low = low_of(item);
+    let high = high_of(item);
+    write!(f, "{word} {} is not {beside}{low} to {high}", Value(value))
 }
 
-// A value outside the range of a number, with the word for it, and whether 0 is allowed beside the range.
-fn say_outside(out: Output, word: Item, item: Item, value: u64, zero: bool) -> Output {
-    let out = say_value(say_name(out, word), value);
-    let out = say_choice(out, b" is not | is not 0 or ", zero as usize);
-    say_with_two(out, b"% to %", low_of(item), high_of(item))
-}
-
-fn say_range(out: Output, item: Item, value: u64) -> Output {
+fn write_range<W: fmt::Write>(f: &mut Formatter<W>, item: Item, value: u64) -> fmt::Result {
     match item {
-        Item::Hops => say_hops(out, value),
-        Item::Format => say(say_value(say_name(out, item), value), b" is not 2"),
-        Item::Blocker => say_outside(out, item, item, value, true),
-        Item::Route => say_outside(out, Item::Port, item, value, false),
-        _ => say_outside(out, item, item, value, false),
+        Item::Hops => write!(
+            f,
+            "a route of {value} ports is too long: at most 16, or 24 behind format 2"
+        ),
+        Item::Format => write!(f, "{} {} is not 2", name_of(item), Value(value)),
+        Item::Blocker => write_outside(f, item, item, value, "0 or "),
+        Item::Route => write_outside(f, Item::Port, item, value, ""),
+        _ => write_outside(f, item, item, value, ""),
     }
 }
 
-fn say_hops(out: Output, ports: u64) -> Output {
-    say_with(
-        out,
-        b"a route of % ports is too long: at most 16, or 24 behind format 2",
-        ports,
-    )
-}
-
-fn say_again(out: Output, item: Item, value: u64) -> Output {
-    let out = match item {
-        Item::Drift => say(out, b"clocks"),
-        Item::Port => say_value(say_name(out, item), value),
-        Item::Flow => say_value(say_name(out, item), value),
-        _ => say_name(out, item),
-    };
-    say(out, b" is said again")
-}
-
-fn say_absent(out: Output, port: u64) -> Output {
-    say(
-        say_value(say_name(out, Item::Port), port),
-        b" is not in the plan",
-    )
-}
-
-fn say_fault(out: Output, fault: Fault, item: Item, value: u64) -> Output {
-    match fault {
-        Fault::Word => say_word(out, item),
-        Fault::Number => say_no_number(out, item),
-        Fault::Range => say_range(out, item, value),
-        Fault::Again => say_again(out, item, value),
-        Fault::Twice => say(out, b"the route names a port twice"),
-        Fault::Incomplete => say_missing(out, item),
-        Fault::Absent => say_absent(out, value),
-        Fault::Size => say(out, b"the text has over 65536 bytes"),
+fn write_again<W: fmt::Write>(f: &mut Formatter<W>, item: Item, value: u64) -> fmt::Result {
+    match item {
+        Item::Drift => write!(f, "clocks is said again"),
+        Item::Port | Item::Flow => { write!(f, "{} {} is said again", name_of(item), Value(value)) }
+        _ => write!(f, "{} is said again", name_of(item)),
     }
 }
 
-pub fn say_refusal(out: Output, line: u32, fault: Fault, item: Item, value: u64) -> Output {
-    let out = say_with(out, b"line %: ", line as u64);
-    say(say_fault(out, fault, item, value), b"\n")
-}
+// Why a text is refused, and in which line.
+#[derive(Clone, Copy)]
+pub struct Told(pub TextRefusal);
 
-// A plan of more bytes than a plan may have.
-pub fn say_long(out: Output, size: usize) -> Output {
-    say_with(out, b"the plan has % bytes: at most 16384\n", size as u64)
+impl Display for Told {
+    fn fmt<W: fmt::Write>(&self, f: &mut Formatter<W>) -> fmt::Result {
+        let TextRefusal {
+            line,
+            fault,
+            item,
+            value,
+        } = self.0;
+        write!(f, "line {line}: ")?;
+        match fault {
+            Fault::Word => write_word(f, item),
+            Fault::Number => write_no_number(f, item),
+            Fault::Range => write_range(f, item, value),
+            Fault::Again => write_again(f, item, value),
+            Fault::Twice => write!(f, "the route names a port twice"),
+            Fault::Incomplete => write_missing(f, item),
+            Fault::Absent => write!(f, "port {} is not in the plan", Value(value)),
+            Fault::Size => write!(f, "the text has over 65536 bytes"),
+        }
+    }
 }

@@ -1,5 +1,5 @@
 -- The text of a valid plan, written into a buffer of the longest text's length.
-use Rattle.std.specs.Prelude.{◌≡◌, true, List, ℕ, ◌≤◌, length}
+use Rattle.std.specs.Prelude.{◌≡◌, refl, true, List, ℕ, ◌≤◌, length, Result, Ok, Err, IsOk}
 use Rattle.std.proofs.Common.{sym, ap, ◌∙◌, arith}
 use Rattle.answers.specs.Answer.{Answer, result, refusal}
 use Rattle.cqf.specs.Form.{Form}
@@ -7,9 +7,11 @@ use Rattle.cqf.specs.Plan.{Plan, valid_plan}
 use Rattle.plan_text.specs.Print.{text_of}
 use Rattle.plan_text.specs.Text.{max_text}
 use Rattle.writing.specs.laws.Laid.{over_length}
+use Rattle.text_writing.specs.Answer.{text_answer_of}
 use Rattle.text_writing.specs.Text.{text_answer, text_leaves}
 use Rattle.text_writing.specs.laws.Text.{text_answer_lem, text_lays, text_front, text_size}
 use Rattle.text_writing.specs.laws.Length.{text_fits}
+use Rattle.writing.specs.declared.SaveRefusal.{SaveRefusal}
 use Rattle.decode.specs.{Front}
 
 module _
@@ -39,3 +41,9 @@ module _
         let written = sym (text_answer_lem form p buffer valid room) ∙ sym answers ∙ is in
         let z : ◌≡◌ {A = ℕ} 0 1 = cc in
         absurd (omega arith)
+
+    -- the answer is the length
+    pub written : (r : Result ℕ SaveRefusal) → text_answer_of r ≡ answer → IsOk r
+    written (Ok n) e = refl
+    written (Err SaveRefusal.NoPlan) e = absurd (not_refused _ _ (sym e))
+    written (Err (SaveRefusal.ShortBuffer n)) e = absurd (not_refused _ _ (sym e))

@@ -1,22 +1,17 @@
 -- A valid plan is written.
-use Rattle.std.proofs.Common.{ap}
+use Rattle.std.proofs.Common.{refl, ap}
 use Rattle.cqf.specs.Form.{form_from}
 use Rattle.tables.specs.Tables.{plan_of}
 use Rattle.saving.specs.Answer.{save_of}
-use Rattle.normalize.specs.laws.Front.{in_front, not_refused}
+use Rattle.normalize.specs.laws.Front.{in_front, written}
 use Rattle.normalize.proofs.saved.Goals as goal
 
-pub returns-in-Written : goal.returns-in-Written
-returns-in-Written c =
+pub unwrap-requires : goal.unwrap-requires
+unwrap-requires c =
     let a = c.args in
-    in_front (form_from a.planner.form) (plan_of a.planner) a.buffer.now c.requires.0.0 c.requires.0.1 c.requires.1 c.save.ensures.0 c.save.ensures.1 _ (ap save_of c.in-Written.is)
+    written (form_from a.held.planner.form) (plan_of a.held.planner) a.buffer.now a.held.valid a.held.short c.requires c.save.ensures.0 c.save.ensures.1 _ refl
 
-pub returns-in-NoPlan : goal.returns-in-NoPlan
-returns-in-NoPlan c =
+pub returns : goal.returns
+returns c =
     let a = c.args in
-    absurd (not_refused (form_from a.planner.form) (plan_of a.planner) a.buffer.now c.requires.0.0 c.requires.0.1 c.requires.1 c.save.ensures.0 c.save.ensures.1 _ _ (ap save_of c.in-NoPlan.is))
-
-pub returns-in-ShortBuffer : goal.returns-in-ShortBuffer
-returns-in-ShortBuffer c =
-    let a = c.args in
-    absurd (not_refused (form_from a.planner.form) (plan_of a.planner) a.buffer.now c.requires.0.0 c.requires.0.1 c.requires.1 c.save.ensures.0 c.save.ensures.1 _ _ (ap save_of c.in-ShortBuffer.is))
+    in_front (form_from a.held.planner.form) (plan_of a.held.planner) a.buffer.now a.held.valid a.held.short c.requires c.save.ensures.0 c.save.ensures.1 _ (ap save_of c.unwrap.ensures)

@@ -1,5 +1,5 @@
 -- A valid plan that is saved into a buffer of the longest plan's length.
-use Rattle.std.specs.Prelude.{◌≡◌, true, List, ℕ, ◌≤◌, length}
+use Rattle.std.specs.Prelude.{◌≡◌, refl, true, List, ℕ, ◌≤◌, length, Result, Ok, Err, IsOk}
 use Rattle.std.proofs.Common.{sym, ap, ◌∙◌, arith}
 use Rattle.cqf.specs.Form.{Form}
 use Rattle.cqf.specs.Plan.{Plan, valid_plan}
@@ -7,8 +7,10 @@ use Rattle.plan_reading.specs.Reading.{max_bytes}
 use Rattle.plan_reading.specs.Saved.{form_bytes}
 use Rattle.writing.specs.laws.Laid.{over_length}
 use Rattle.answers.specs.Answer.{Answer, result, refusal}
+use Rattle.saving.specs.Answer.{save_of}
 use Rattle.saving.specs.Save.{save_answer, save_leaves}
 use Rattle.saving.specs.laws.Saved.{save_written, save_lays, save_front, save_size}
+use Rattle.writing.specs.declared.SaveRefusal.{SaveRefusal}
 use Rattle.normalize.specs.{Front}
 
 module _
@@ -39,3 +41,9 @@ module _
         let written = sym (save_written form p buffer valid room) ∙ sym answers ∙ is in
         let z : ◌≡◌ {A = ℕ} 0 1 = cc in
         absurd (omega arith)
+
+    -- the answer is the length
+    pub written : (r : Result ℕ SaveRefusal) → save_of r ≡ answer → IsOk r
+    written (Ok n) e = refl
+    written (Err SaveRefusal.NoPlan) e = absurd (not_refused _ _ (sym e))
+    written (Err (SaveRefusal.ShortBuffer n)) e = absurd (not_refused _ _ (sym e))

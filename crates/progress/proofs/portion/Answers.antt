@@ -33,27 +33,39 @@ single
 single {used = used} r e = ap (plus_steps used) e ∙ sym (portioned r portion_steps)
 
 pub overflow_add-result : goal.overflow_add-result
-overflow_add-result c = record { fits = omega (arith, few c.requires, found_within c.requires portion_steps (asked c.requires c.in-Duration.ensures.answers refl refl)) }
+overflow_add-result c = record { fits = omega (arith, few c.requires, found_within c.requires portion_steps (asked c.requires c.in-Ok.ensures.answers refl refl)) }
 
-pub overflow_add-result-in-Failing : goal.overflow_add-result-in-Failing
-overflow_add-result-in-Failing c = record { fits = omega (arith, few c.requires, none_within c.requires portion_steps (asked c.requires c.in-Failing.ensures.answers refl refl)) }
+pub overflow_add-result-in-Err-Failing : goal.overflow_add-result-in-Err-Failing
+overflow_add-result-in-Err-Failing c =
+    let e = rw c.in-Err-Failing.field-0-is at c.in-Err-Failing.ensures.answers in
+    record { fits = omega (arith, few c.requires, none_within c.requires portion_steps (asked c.requires e refl refl)) }
 
-pub overflow_add-result-in-Unfinished : goal.overflow_add-result-in-Unfinished
-overflow_add-result-in-Unfinished c = record { fits = omega (arith, few c.requires, stopped_within c.requires portion_steps (asked c.requires c.in-Unfinished.ensures.answers refl refl)) }
+pub overflow_add-result-in-Err-Unfinished : goal.overflow_add-result-in-Err-Unfinished
+overflow_add-result-in-Err-Unfinished c =
+    let e = rw c.in-Err-Unfinished.field-0-is at c.in-Err-Unfinished.ensures.answers in
+    record { fits = omega (arith, few c.requires, stopped_within c.requires portion_steps (asked c.requires e refl refl)) }
 
-pub returns-in-Duration : goal.returns-in-Duration
-returns-in-Duration c = single c.requires (asked c.requires c.in-Duration.ensures.answers refl refl)
+pub returns-in-Ok : goal.returns-in-Ok
+returns-in-Ok c = single c.requires (asked c.requires c.in-Ok.ensures.answers refl refl)
 
-pub returns-in-NoPlan : goal.returns-in-NoPlan
-returns-in-NoPlan c = absurd (not_20 c.requires portion_steps (asked c.requires c.in-NoPlan.ensures.answers refl refl))
+pub returns-in-Err-NoPlan : goal.returns-in-Err-NoPlan
+returns-in-Err-NoPlan c =
+    let e = rw c.in-Err-NoPlan.field-0-is at c.in-Err-NoPlan.ensures.answers in
+    absurd (not_20 c.requires portion_steps (asked c.requires e refl refl))
 
-pub returns-in-BadStart : goal.returns-in-BadStart
-returns-in-BadStart c = absurd (not_10 c.requires portion_steps (asked c.requires c.in-BadStart.ensures.answers refl refl))
+pub returns-in-Err-BadStart : goal.returns-in-Err-BadStart
+returns-in-Err-BadStart c =
+    let e = rw c.in-Err-BadStart.field-0-is at c.in-Err-BadStart.ensures.answers in
+    absurd (not_10 c.requires portion_steps (asked c.requires e refl refl))
 
-pub returns-in-Failing : goal.returns-in-Failing
+pub returns-in-Err-Failing : goal.returns-in-Err-Failing
 unfolding last_plus
-returns-in-Failing c = single c.requires (asked c.requires c.in-Failing.ensures.answers refl refl)
+returns-in-Err-Failing c =
+    let e = rw c.in-Err-Failing.field-0-is at c.in-Err-Failing.ensures.answers in
+    single c.requires (asked c.requires e refl refl)
 
-pub returns-in-Unfinished : goal.returns-in-Unfinished
+pub returns-in-Err-Unfinished : goal.returns-in-Err-Unfinished
 unfolding last_plus
-returns-in-Unfinished c = single c.requires (asked c.requires c.in-Unfinished.ensures.answers refl refl)
+returns-in-Err-Unfinished c =
+    let e = rw c.in-Err-Unfinished.field-0-is at c.in-Err-Unfinished.ensures.answers in
+    single c.requires (asked c.requires e refl refl)

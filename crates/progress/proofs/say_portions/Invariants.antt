@@ -5,7 +5,7 @@ use Rattle.progress.specs.Portion.{Reached}
 use Rattle.progress.proofs.say_portions.Given as goal
 
 abbrev pub invariant-loop-duration : goal.invariant-loop-duration
-invariant-loop-duration l = Reached (plan_of l.planner) l.at l.used
+invariant-loop-duration g l = Reached (plan_of l.held.planner) l.at l.used
 
 abbrev pub decreases-loop-duration : goal.decreases-loop-duration
-decreases-loop-duration l = (plan_of l.planner).top - l.used
+decreases-loop-duration g l = (plan_of l.held.planner).top - l.used

@@ -6,6 +6,4 @@ most : (a b : ℕ) → a ≤ 4294967295 → b ≤ 4294967295 → a * b ≤ 18446
 most a b k l = omega (arith, mul-le-mul k l)
 
 pub overflow_mul-result : goal.overflow_mul-result
-overflow_mul-result c =
-    let a = c.args in
-    record { fits = omega (arith, most a.a a.b (omega arith) (omega arith)) }
+overflow_mul-result c = record { fits = omega (arith, most c.from.result c.from-2.result (omega arith) (omega arith)) }

@@ -1,2 +1,0 @@
--- Laws of numbers in decimal digits.
-pub mod Decimal

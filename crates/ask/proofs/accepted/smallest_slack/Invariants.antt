@@ -1,9 +1,0 @@
--- `smallest_slack` is safe and ends.
-use Rattle.std.proofs.Common.{◌-◌}
-use Rattle.ask.proofs.accepted.smallest_slack.Given as goal
-
-abbrev pub invariant-loop-q : goal.invariant-loop-q
-invariant-loop-q l = Unit {0}
-
-abbrev pub decreases-loop-q : goal.decreases-loop-q
-decreases-loop-q l = 64 - l.q

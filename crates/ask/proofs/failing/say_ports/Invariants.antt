@@ -1,9 +1,0 @@
--- `say_ports` is safe and ends.
-use Rattle.std.proofs.Common.{◌-◌}
-use Rattle.ask.proofs.failing.say_ports.Given as goal
-
-abbrev pub invariant-loop-q : goal.invariant-loop-q
-invariant-loop-q l = Unit {0}
-
-abbrev pub decreases-loop-q : goal.decreases-loop-q
-decreases-loop-q l = 64 - l.q

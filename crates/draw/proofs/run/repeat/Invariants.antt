@@ -1,9 +1,0 @@
--- `repeat` is safe and ends.
-use Prim.Native.Nat.{◌-◌}
-use Rattle.draw.proofs.run.repeat.Given as goal
-
-abbrev pub invariant-loop-at : goal.invariant-loop-at
-invariant-loop-at l = Unit {0}
-
-abbrev pub decreases-loop-at : goal.decreases-loop-at
-decreases-loop-at l = l.to - l.at

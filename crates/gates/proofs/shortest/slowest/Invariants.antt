@@ -1,9 +1,0 @@
--- `slowest` is safe and ends.
-use Prim.Native.Nat.{◌-◌}
-use Rattle.gates.proofs.shortest.slowest.Given as goal
-
-abbrev pub invariant-loop-q : goal.invariant-loop-q
-invariant-loop-q l = Unit {0}
-
-abbrev pub decreases-loop-q : goal.decreases-loop-q
-decreases-loop-q l = 64 - l.q

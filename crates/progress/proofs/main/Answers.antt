@@ -1,8 +1,0 @@
--- A plan that is held is valid.
-use Rattle.std.proofs.Common.{ap}
-use Rattle.loading.specs.Answer.{load_of}
-use Rattle.console.specs.laws.Held.{held_valid}
-use Rattle.progress.proofs.main.Goals as goal
-
-pub say_portions-out-requires : goal.say_portions-out-requires
-say_portions-out-requires c = held_valid _ c.given_plan-given.ensures (ap load_of c.in-Held.is)
