@@ -19,7 +19,7 @@ use plan::split::{field_value, split_head};
 use tables::columns;
 
 // What is sought: a flow whose route names a port without a rate here, the jitter of a flow without a period here, extra bytes of such a
-// port, or a flow over more ports than the older form allows.
+// port, or a flow over more ports than the older form allows. An enum: each closure in its place would repeat the contract of a whole field.
 #[derive(Clone, Copy)]
 pub enum Sought<'a> {
     AbsentPort(&'a columns::Rates),
@@ -59,7 +59,8 @@ fn names_absent(plan: &[u8], at: usize, tag: u8, rates: &columns::Rates) -> bool
     }
 }
 
-// Whether the whole field at this offset says the jitter of a flow not in the plan.
+// Whether the whole field at this offset says the jitter of a flow not in the plan. This test and the next are one line each over
+// definitions of their own: one function of both would take the tag, the column and the definition.
 fn jitter_absent(plan: &[u8], at: usize, tag: u8, periods: &columns::Periods) -> bool
     requires { (whole_at plan.now at ≡ true) × (tag ≡ tag_at plan.now at) }
     ensures { result ≡ jitter_absent periods.now plan.now at }
