@@ -54,7 +54,7 @@ fn newer_kind(k: usize) -> Kind
     }
 }
 
-// The kinds of a form in the order in which they are saved.
+// The kinds of a form in the order in which they are saved, by place: a slice of them would need the same fact for each of its places.
 pub(crate) fn kind_at(form: Form, k: usize) -> Kind
     ensures { result ≡ kind_at (form_of form) k }
 {
