@@ -1,28 +1,16 @@
 -- What the searches port by port speak of: how far one port's steps go, and which port needs most.
-use Rattle.std.specs.Prelude.{◌≡◌, Bool, true, false, List, ℕ, suc, max, ◌≤◌, ◌<◌, get_or}
+use Rattle.std.specs.Prelude.{◌≡◌, false, List, ℕ, ◌≤◌, ◌<◌, get_or}
 use Rattle.cqf.specs.Limits.{port_slots}
-use Rattle.cqf.specs.Plan.{Plan, valid_plan}
+use Rattle.cqf.specs.Plan.{Plan}
 use Rattle.cqf.specs.Condition.{fails}
 use Rattle.cqf.specs.Need.{need_by}
-use Rattle.cqf.specs.PortSteps.{PortSteps, port_margin_safe}
+use Rattle.cqf.specs.PortSteps.{PortSteps}
 use Rattle.cqf.specs.Bounded.{max_to}
 
 -- the port in slot q took steps from a duration until it passes, or until they passed top
 pub record Raised (p : Plan) (q from reached : ℕ) : Type 0 where
   pub steps : PortSteps p from reached
   pub passes : reached ≤ p.top → fails p reached q ≡ false
-
--- Both ways of one walk: up from a duration, with top as the end; or down from top, with the least that is asked for as the end.
-pub record Walkable (p : Plan) (q : ℕ) (up : Bool) (end from : ℕ) : Type 0 where
-  pub valid : valid_plan p ≡ true
-  pub slot : q < port_slots
-  pub upward : up ≡ true → (1 ≤ from) × (end ≡ p.top)
-  pub downward : up ≡ false → (from ≡ p.top) × (1 ≤ end) × (end ≤ suc p.top)
-
--- where it stops: up as `Raised` says; down one below the larger of the end and the port's own margin-safe duration
-pub record Walked (p : Plan) (q : ℕ) (up : Bool) (end from stop : ℕ) : Type 0 where
-  pub raised : up ≡ true → Raised p q from stop
-  pub lowered : up ≡ false → (stop ≤ p.top) × (suc stop ≡ max end (port_margin_safe p q))
 
 -- what the port in slot q needs, by the columns
 abbrev pub need_in : (guard : ℕ) (rates blockings extras demands : List ℕ) → ℕ → ℕ

@@ -5,7 +5,6 @@ pub mod Sets
 pub mod WordBits
 pub mod FlowSets
 pub mod Neediest
-pub mod Walk
 pub mod LeanSearch
 pub mod Leanly
 pub mod Fails

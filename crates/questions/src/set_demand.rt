@@ -63,6 +63,7 @@ fn set_demand(lent: Lent, extra: u8, set: FlowSet, duration: u64) -> u64
 }
 
 // What the port in slot q needs for the demand of its flows at a duration.
+#[inline(always)]
 pub(crate) fn set_need(lent: Lent, q: usize, set: FlowSet, duration: u64) -> u64
     requires set_countable { SetCountable lent.periods.now lent.counts.now lent.lengths.now lent.jitters.now set }
     requires extra_le_max_extra { (q < port_slots) × (get_or lent.extras.now q 0 ≤ max_extra) × (widened_by (clock_of lent.clock) duration ≤ most_widened) }
