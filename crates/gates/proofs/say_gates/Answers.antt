@@ -7,10 +7,10 @@ use Rattle.gates.proofs.say_gates.Goals as goal
 
 -- the list that was written is within the buffer
 module _ (c : goal.After-warn) where
-  room : c.in-Written.n ≤ 6 * field_size
+  room : c.in-Ok.n ≤ 6 * field_size
   room =
       let a = c.args in
-      (gates_fit (plan_of a.planner) a.duration a.even a.odd _ _ (sym c.in-Written.ensures.answers.0)).room
+      (gates_fit (plan_of a.planner) a.question.duration a.question.even a.question.odd _ _ (sym c.in-Ok.ensures.answers.0)).room
 
 pub slice_bounds-list-end : goal.slice_bounds-list-end
 slice_bounds-list-end c = omega (arith, room c)
