@@ -8,7 +8,7 @@ ghost use Rattle.tables.specs.Lent.{plan_lent};
 ghost use Rattle.emissions.specs.Burst.{burst, burst_answer, burst_of, told_burst, instant_is};
 
 use crate::frames::instant_of;
-use crate::hop::{hop_on, latest_hop, route};
+use crate::hop::{hop_on, latest_hop};
 use numbers::clock::widened;
 use numbers::limits::between;
 use questions::flow_frames;
@@ -70,7 +70,7 @@ fn burst_of(held: Held, duration: u64, q: usize, f: usize, k: u64) -> Burst
     ensures { told_burst result ≡ burst (plan_lent held.entry.lent) duration q f k }
 {
     let lent = held.lent;
-    let ports = route(held, f);
+    let ports = held.route(f);
     let length = ports.len();
     let at = hop_on(ports, q);
     let latest = latest_hop(held, q);

@@ -1,23 +1,11 @@
 // Where a port stands on the routes.
 ghost use Rattle.std.specs.Prelude.{◌≡◌, ◌<◌};
-ghost use Rattle.cqf.specs.Limits.{port_slots, flow_slots};
-ghost use Rattle.cqf.specs.Plan.{route_of};
+ghost use Rattle.cqf.specs.Limits.{port_slots};
 ghost use Rattle.tables.specs.Lent.{plan_lent};
 ghost use Rattle.emissions.specs.BadEmission.{hop_on, latest_hop};
 ghost use Rattle.emissions.specs.Burst.{late_on};
 
-use tables::{FLOWS, Held, STRIDE};
-
-// The ports of the route of the flow in slot f.
-pub(crate) fn route<'a>(held: Held<'a>, f: usize) -> &'a [u8]
-    requires { f < flow_slots }
-    ensures { result.now ≡ route_of (plan_lent held.entry.lent) f }
-{
-    let hops = usize::from(held.lent.hops[f]);
-    let base = f * STRIDE;
-    let routes = held.lent.routes;
-    &routes[base..base + hops]
-}
+use tables::{FLOWS, Held};
 
 // Where the port in slot q stands on a route, from 0 on; the route's length where it does not.
 pub(crate) fn hop_on(route: &[u8], q: usize) -> usize
@@ -49,7 +37,7 @@ pub(crate) fn latest_hop(held: Held, q: usize) -> usize
 {
     let mut latest: usize = 0;
     for f in 0..FLOWS {
-        latest = latest.max(late_on(route(held, f), q));
+        latest = latest.max(late_on(held.route(f), q));
     }
     latest
 }

@@ -5,7 +5,7 @@ ghost use Rattle.tables.specs.Lent.{plan_lent};
 ghost use Rattle.emissions.specs.BadEmission.{latest_hop, burst_bits};
 ghost use Rattle.emissions.specs.Queued.{queued_port};
 
-use crate::hop::{hop_on, route};
+use crate::hop::hop_on;
 use numbers::clock::widened;
 use questions::flow_bits;
 use tables::{FLOWS, Held, PORTS};
@@ -51,7 +51,7 @@ pub(crate) fn cycle_bits(
 {
     let over = widened(held.lent.clock, duration as u32) as u32;
     for f in 0..FLOWS {
-        let n = usize::from(queued_port(route(held, f), q, latest, c));
+        let n = usize::from(queued_port(held.route(f), q, latest, c));
         if n != 0 {
             let r = n - 1;
             let more = flow_bits(

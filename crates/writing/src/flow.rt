@@ -73,7 +73,7 @@ pub fn put_flow(out: &mut [u8], number: u16, period: u32, count: u16, bytes: u16
     put_route(&mut out[ROUTE..], route);
 }
 
-// The newer form's flow: its jitter stands before its route.
+// The newer form's flow: its jitter stands before its route. Not one function with `put_flow`: no older flow has a jitter to hand in.
 pub fn put_flow2(
     out: &mut [u8],
     number: u16,

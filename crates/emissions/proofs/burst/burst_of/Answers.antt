@@ -42,8 +42,8 @@ returns c =
     let a = c.args in
     let p = plan_lent a.held.lent in
     let v = a.held.valid in
-    let at = rw c.route-ports.ensures at c.hop_on-at.ensures in
-    let long = ap length c.route-ports.ensures ∙ sublist_length p.routes (a.f * route_stride) (hops_of p a.f) in
+    let at = rw c.route-ports.ensures.route at c.hop_on-at.ensures in
+    let long = ap length c.route-ports.ensures.route ∙ sublist_length p.routes (a.f * route_stride) (hops_of p a.f) in
     burst_is p v a.duration a.q a.f a.k
     (cycle_is p v a.duration a.q a.f c.latest_hop-latest.ensures at c.saturating_sub-cycle.ensures)
     (frames_is p v a.duration a.q a.f c.requires.2 c.requires.3 at (brought_is p v a.duration a.q a.f c.widened-over.ensures c.flow_frames-brought.ensures) (rw long at c.frames_if-frames.ensures))
