@@ -1,5 +1,5 @@
 -- What the encoding of a text answers as numbers: the refusal, 0 for a result, and what is told with it.
-use Rattle.std.specs.Prelude.{ℕ, List, [], ◌∷◌, get_or}
+use Rattle.std.specs.Prelude.{ℕ, get_or}
 use Rattle.answers.specs.Answer.{Answer, result, refusal}
 use Rattle.plan_text.specs.declared.grammar.Fault.{Fault}
 use Rattle.plan_text.specs.declared.grammar.Item.{Item}

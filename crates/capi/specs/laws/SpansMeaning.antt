@@ -1,5 +1,5 @@
 -- The numbers of the answers that name spans mean what the answers mean.
-use Rattle.std.specs.Prelude.{◌≡◌, refl, ◌↔◌, List, [], ◌∷◌, ℕ, Result, Ok, Err}
+use Rattle.std.specs.Prelude.{◌≡◌, refl, List, [], ◌∷◌, ℕ, Result, Ok, Err}
 use Rattle.std.proofs.Common.{sym, ap, ◌∙◌, arith}
 use Rattle.cqf.specs.Plan.{Plan}
 use Rattle.span_lists.specs.Span.{Span}
@@ -9,7 +9,7 @@ use Rattle.questions.specs.SpanAnswer.{span_answer_of, spans_answer_of}
 use Rattle.questions.specs.declared.one_span.SpanRefusal.{SpanRefusal}
 use Rattle.questions.specs.declared.one_span.SpanRecord.{SpanRecord}
 use Rattle.questions.specs.declared.span_list.SpansRefusal.{SpansRefusal}
-use Rattle.sequences.specs.SpansMeaning.{OneSpan, AllSpans, SpanMeans, SpansMean}
+use Rattle.sequences.specs.SpansMeaning.{OneSpan, SpanMeans, SpansMean}
 use Rattle.capi.specs.declared.AnswerNumbers.{AnswerNumbers}
 use Rattle.capi.specs.Numbers.{search_numbers, span_numbers}
 use Rattle.capi.specs.Meaning.{SpanNumbersMean, SpansNumbersMean}

@@ -1,5 +1,5 @@
 -- The numbers of an answer of the fixed-point iteration mean what the answer means.
-use Rattle.std.specs.Prelude.{◌≡◌, refl, ◌↔◌, [], ◌∷◌, ℕ, Result, Ok, Err}
+use Rattle.std.specs.Prelude.{◌≡◌, [], ◌∷◌, ℕ, Result, Ok, Err}
 use Rattle.std.proofs.Common.{sym, ap, ◌∙◌, arith}
 use Rattle.cqf.specs.Plan.{Plan}
 use Rattle.answers.specs.Answer.{Answer, result, refusal}
