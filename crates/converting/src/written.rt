@@ -16,7 +16,7 @@ use saving::save_tables;
 use tables::Lent;
 use writing::SaveRefusal;
 
-// The plan in these tables, written in this form.
+// The plan in these tables, written in this form. They are not `Held`: that they are valid is known of the reading, and asked here alone.
 pub(crate) fn write_plan(form: Form, lent: Lent, buffer: &mut [u8]) -> Result<usize, ConvertRefusal>
     requires { valid_plan (plan_lent lent) ≡ true }
     ensures { Converts (form_of form) (accepted (plan_lent lent.entry) 0 0) buffer.old (convert_of result) buffer.new }

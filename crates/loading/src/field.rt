@@ -21,7 +21,7 @@ pub(crate) struct Place {
     pub last: usize,
 }
 
-// Whether a plan of this form is read strictly: one of the newer form always is.
+// Whether a plan of this form is read strictly: one of the newer form always is. It stays a flag: one test asks it, and `read_plan` takes it so.
 pub(crate) fn strict_in(form: Form, strict: bool) -> bool
     ensures { mode_of result ≡ mode_in (form_of form) (mode_of strict) }
 {

@@ -9,7 +9,7 @@ use crate::refusal::{TextRefusal, at_line, refused};
 // A text has at most so many bytes.
 pub const MAX_TEXT: usize = 65_536;
 
-// A text that says a plan: whether it asks for the newer form.
+// A text that says a plan: whether it asks for the newer form. A flag here, and where lines are read: this crate knows no plan's `Form`.
 #[derive(Clone, Copy, Debug, PartialEq, Eq)]
 pub struct TextPlan {
     pub newer: bool,

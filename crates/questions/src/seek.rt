@@ -8,7 +8,7 @@ use super::ascend::ascend;
 use super::descend::descend;
 use tables::Held;
 
-// What a search looks for.
+// What a search looks for. An enum with a match for each kind of scratch: a closure would bring the contract of a whole search to each caller.
 #[derive(Clone, Copy)]
 pub enum Goal {
     Least,

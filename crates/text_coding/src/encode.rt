@@ -21,7 +21,7 @@ fn form_of(newer: bool) -> Form
     if newer { Form::Newer } else { Form::Older }
 }
 
-// The plan of a planner, written in this form.
+// The plan of a planner, written in this form. Not lent as `Held`: that it is valid is known of the reading, and asked here alone.
 fn write_plan(form: Form, planner: &Planner, out: &mut [u8]) -> Result<usize, EncodeRefusal>
     requires { valid_plan (plan_of planner.now) ≡ true }
     ensures { EncodesReading (reads (form_of form) (plan_of planner.now)) out.old (encoded_of result) out.new }
