@@ -17,6 +17,7 @@ use turns::serve_all;
 // A slot for each file.
 const FILES: usize = batching::SLOTS as usize;
 
+// As progress says the end of its portions. Each program has an error of its own to match, and one function over both would be no shorter.
 fn say_answer(out: &impl Print, answer: Result<FixedPoint, CollectRefusal>) -> io::Result<()> {
     let number = planner::collect_number(answer);
     match answer {

@@ -8,6 +8,7 @@ use crate::run::{Style, say_spaces};
 use crate::scale::{Scale, place, scale_of};
 use crate::strip::say_strip;
 use planner::Planner;
+use std::fmt::Display;
 use std::io;
 
 const WIDTH: u32 = 80;
@@ -59,27 +60,42 @@ fn close_mark(out: &impl Print, mark: char, place: u64) -> io::Result<()> {
     println!(out; " {mark}")
 }
 
-fn say_least_mark(out: &impl Print, scale: Scale, least: u64) -> io::Result<()> {
-    let at = place(scale, least) as u64;
-    open_mark(out, ABOVE, at, 6 + columns_of(least))?;
-    out.print(Least(Some(least)))?;
-    close_mark(out, ABOVE, at)
-}
-
-fn say_safe_mark(out: &impl Print, scale: Scale, safe: u64) -> io::Result<()> {
-    let at = place(scale, safe) as u64;
-    open_mark(out, ABOVE, at, 12 + columns_of(safe))?;
-    out.print(Safe(Some(safe)))?;
-    close_mark(out, ABOVE, at)
+// Words of so many columns about a duration, and the mark at its place.
+fn say_mark(
+    out: &impl Print,
+    scale: Scale,
+    duration: u64,
+    mark: char,
+    columns: u32,
+    words: impl Display + Drop,
+) -> io::Result<()> {
+    let at = place(scale, duration) as u64;
+    open_mark(out, mark, at, columns)?;
+    out.print(words)?;
+    close_mark(out, mark, at)
 }
 
 fn say_marks(out: &impl Print, scale: Scale, marks: Marks) -> io::Result<()> {
     let Some(least) = marks.least else {
         return out.println(Least(None));
     };
-    say_least_mark(out, scale, least)?;
+    say_mark(
+        out,
+        scale,
+        least,
+        ABOVE,
+        6 + columns_of(least),
+        Least(Some(least)),
+    )?;
     match marks.safe {
-        Some(safe) => say_safe_mark(out, scale, safe),
+        Some(safe) => say_mark(
+            out,
+            scale,
+            safe,
+            ABOVE,
+            12 + columns_of(safe),
+            Safe(Some(safe)),
+        ),
         None => out.println(Safe(None)),
     }
 }
@@ -91,13 +107,6 @@ fn given_columns(given: Given) -> u32 {
     } else {
         15 + columns_of(given.duration)
     }
-}
-
-fn say_given_mark(out: &impl Print, scale: Scale, given: Given) -> io::Result<()> {
-    let at = place(scale, given.duration) as u64;
-    open_mark(out, BENEATH, at, given_columns(given))?;
-    out.print(given)?;
-    close_mark(out, BENEATH, at)
 }
 
 // The two lines of the axis.
@@ -166,7 +175,14 @@ pub(crate) fn say_text(out: &impl Print, planner: Planner, marks: Marks) -> io::
     say_strip(out, Style::Text, planner, scale)?;
     out.println("")?;
     if let Some(given) = marks.given {
-        say_given_mark(out, scale, given)?;
+        say_mark(
+            out,
+            scale,
+            given.duration,
+            BENEATH,
+            given_columns(given),
+            given,
+        )?;
     }
     say_row(out, Row::Ticks, scale)?;
     say_row(out, Row::Numbers, scale)?;

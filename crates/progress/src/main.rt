@@ -41,6 +41,7 @@ fn portion(planner: Planner, at: u64, used: u64) -> Result<FixedPoint, FixedPoin
     }
 }
 
+// As batch says a collected answer, of another error.
 fn say_end(out: &impl Print, answer: Result<FixedPoint, FixedPointRefusal>) -> io::Result<()> {
     let number = planner::fixed_point_number(answer);
     match answer {
