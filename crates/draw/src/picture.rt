@@ -148,8 +148,8 @@ fn say_axis(out: &impl Print, scale: Scale) -> io::Result<()> {
     println!(out; "</g>\n<path class='axis' d='M0 170H800'/>")?;
     let step = step_of(scale.top);
     let unit = unit_of(step);
-    for tick in (0..=scale.top).step_by(step as usize) {
-        say_tick(out, scale, tick, unit)?;
+    for n in 0..=scale.top / step {
+        say_tick(out, scale, n.saturating_mul(step), unit)?;
     }
     Ok(())
 }

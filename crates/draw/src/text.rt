@@ -145,7 +145,8 @@ fn say_row(out: &impl Print, row: Row, scale: Scale) -> io::Result<()> {
     let step = step_of(scale.top);
     let unit = unit_of(step).size();
     let mut at = 0;
-    for mark in (0..=scale.top).step_by(step as usize) {
+    for n in 0..=scale.top / step {
+        let mark = n.saturating_mul(step);
         let tick = Tick {
             x: place(scale, u64::from(mark)),
             number: mark / unit,
