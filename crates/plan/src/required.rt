@@ -99,6 +99,29 @@ impl Value for Flow {
 
     ghost most_is = { refl };
 
+    // One case for each length that it may have, and none for any other.
+    fn hops_by_length(size: usize) -> Option<usize> {
+        match size {
+            12 => Some(1),
+            14 => Some(2),
+            16 => Some(3),
+            18 => Some(4),
+            20 => Some(5),
+            22 => Some(6),
+            24 => Some(7),
+            26 => Some(8),
+            28 => Some(9),
+            30 => Some(10),
+            32 => Some(11),
+            34 => Some(12),
+            36 => Some(13),
+            38 => Some(14),
+            40 => Some(15),
+            42 => Some(16),
+            _ => None,
+        }
+    }
+
     fn read(value: &[u8], hops: usize) -> Flow {
         Flow {
             number: be16(value, FLOW_AT),

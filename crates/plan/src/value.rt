@@ -26,6 +26,19 @@ pub(crate) trait Value: Copy {
     // The most ports of the route: 0 where none follows.
     const MOST_HOPS: usize;
 
+    // How many ports a value of this length names, if it may have this length.
+    fn hops_by_length(size: usize) -> Option<usize>
+        ensures { result ≡ cond (size_ok kind size) (Some (hops_in kind size)) None }
+    {
+        let hops = size.saturating_sub(Self::SIZE) / HOP_SIZE;
+        let allowed = Self::MOST_HOPS.min(1) <= hops && hops <= Self::MOST_HOPS;
+        if allowed && size == Self::SIZE + HOP_SIZE * hops {
+            Some(hops)
+        } else {
+            None
+        }
+    }
+
     // What a value says that has the length of so many ports.
     fn read(value: &[u8], hops: usize) -> Self
         requires sized { length value.now ≡ numbers_size kind + 2 * hops }
@@ -44,24 +57,11 @@ pub(crate) trait Value: Copy {
     ghost most_is: { MOST_HOPS ≡ (layout kind).most_hops };
 }
 
-// How many ports a value of this length names, if it may have this length.
-fn hops_by_length<V: Value>(size: usize) -> Option<usize>
-    ensures { result ≡ cond (size_ok V.kind size) (Some (hops_in V.kind size)) None }
-{
-    let hops = size.saturating_sub(V::SIZE) / HOP_SIZE;
-    let allowed = V::MOST_HOPS.min(1) <= hops && hops <= V::MOST_HOPS;
-    if allowed && size == V::SIZE + HOP_SIZE * hops {
-        Some(hops)
-    } else {
-        None
-    }
-}
-
 // A field of this kind with its value: tests 4 and 5.
 pub(crate) fn value_of<V: Value>(value: &[u8], at: usize, next: usize) -> Result<FieldAt, Refusal>
     ensures { field_read_of result ≡ value_in V.kind value.now at next }
 {
-    let Some(hops) = hops_by_length::<V>(value.len()) else {
+    let Some(hops) = V::hops_by_length(value.len()) else {
         return Err(Refusal {
             fault: Fault::WrongLength,
             offset: at,

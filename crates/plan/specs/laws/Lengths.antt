@@ -12,7 +12,7 @@ module _ (k : Kind) (m : ℕ) (routed : (layout k).most_hops ≡ suc m) where
   ports h = ap (λ (n : ℕ). hops_allowed n h) routed
 
   -- an allowed length is that of a number of ports
-  allowed_hops
+  pub allowed_hops
       : (size : ℕ)
       → size_ok k size ≡ true
       → (1 ≤ hops_in k size) × ((hops_in k size ≤ suc m) × (size ≡ numbers_size k + 2 * hops_in k size))
