@@ -1,11 +1,11 @@
 // The tables lent column by column, and those of them that hold a plan.
-ghost use Rattle.std.specs.Prelude.{◌≡◌, ◌≤◌, ◌<◌, true, false, length, MatchOption};
+ghost use Rattle.std.specs.Prelude.{◌≡◌, [], ◌≤◌, ◌<◌, true, false, length, MatchOption};
 ghost use Rattle.cqf.specs.Limits.{flow_slots, max_hops};
 ghost use Rattle.cqf.specs.Plan.{route_of, valid_plan};
 ghost use Rattle.tables.specs.Columns.{plan_by};
 ghost use Rattle.tables.specs.Lent.{plan_lent, LentOf};
 
-use crate::{Planner, STRIDE, columns, valid_tables};
+use crate::{FLOWS, Planner, STRIDE, columns, valid_tables};
 use numbers::clock::Clock;
 
 // The numbers and the columns of a planner, or of a caller that has them apart.
@@ -42,14 +42,18 @@ impl<'a> Lent<'a> {
 }
 
 impl<'a> Held<'a> {
-    // The ports of a flow's route, as they stand in the table of routes.
+    // The ports of a flow's route, as they stand in the table of routes; none behind the last slot.
+    #[inline(always)]
     pub fn route(self, f: usize) -> &'a [u8]
-        requires { f < flow_slots }
-        ensures route { result.now ≡ route_of (plan_lent self.entry.lent) f }
+        ensures route { f < flow_slots → result.now ≡ route_of (plan_lent self.entry.lent) f }
+        ensures behind { flow_slots ≤ f → result.now ≡ [] }
         ensures few { length result.now ≤ max_hops }
     {
-        let base = f * STRIDE;
         let routes = self.lent.routes;
+        if FLOWS <= f {
+            return &routes[..0];
+        }
+        let base = f * STRIDE;
         &routes[base..base + usize::from(self.lent.hops[f])]
     }
 }
@@ -75,7 +79,8 @@ impl Planner {
     }
 }
 
-// The tables, where they hold a plan.
+// The tables, where they hold a plan: part of its callers in the machine, so that nothing is handed back in memory.
+#[inline(always)]
 pub fn hold<'a>(lent: Lent<'a>) -> Option<Held<'a>>
     ensures { MatchOption result (valid_plan (plan_lent lent.entry) ≡ false)
         (λ held. held.lent ≡ lent.entry) }

@@ -9,6 +9,8 @@ use crate::ports::valid_ports;
 use numbers::clock::clock_ok;
 use numbers::limits::{guard_ok, top_ok};
 
+// A function of its own in the machine: where it is part of `hold`, its loops prepare at each slot what `hold` gives of no plan.
+#[inline(never)]
 pub fn valid_tables(lent: Lent) -> bool
     ensures { result ≡ valid_plan (plan_lent lent.entry) }
 {
