@@ -6,7 +6,7 @@ ghost use Rattle.sequences.specs.SpansMeaning.{SpansMean};
 ghost use Rattle.column_calls.specs.Formed.{plan_formed};
 
 use crate::forms::formed;
-use questions::{SpanRecord, SpansRefusal, spans};
+use questions::{SpanRecord, SpansRefusal, spans_tables};
 use tables::Lent;
 
 // All spans, rising, into the first records of a list; 13 with how many there are where it is shorter, and then it is left as it was.
@@ -15,5 +15,5 @@ pub fn spans_columns(form: u32, lent: Lent, list: &mut [SpanRecord]) -> Result<u
         × (list.new ≡ spans_leaves (plan_formed form lent.entry) list.old) }
     ensures means { SpansMean (plan_formed form lent.entry) list.old list.new (spans_answer_of result) }
 {
-    spans(formed(form, lent), list)
+    spans_tables(formed(form, lent), list)
 }

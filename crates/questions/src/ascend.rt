@@ -7,11 +7,11 @@ ghost use Rattle.tables.specs.Lent.{plan_lent};
 ghost use Rattle.questions.specs.Search.{Found};
 
 use super::demand::demands;
-use super::failing::some_fails;
+use super::failing::port_fails;
 use super::need::neediest;
 use super::port_search::raise_port;
 use numbers::port::window;
-use tables::Held;
+use tables::{Held, PORTS};
 
 // The least duration, or one above top where there is none. No shorter duration than t is admissible. Where there is one, out is left
 // with the demands at it.
@@ -22,11 +22,24 @@ pub(crate) fn ascend(held: Held, out: &mut [u64]) -> u64
     let lent = held.lent;
     let limit = lent.top as u64;
     let mut t: u64 = 1;
-    loop {
+    let found = loop {
         demands(held, t, out);
         let available = window(lent.guard, t);
-        if !some_fails(lent, available, &out[..]) {
-            return t;
+        let mut passes = true;
+        'ports: for q in 0..PORTS {
+            if port_fails(
+                lent.rates[q],
+                lent.blockings[q],
+                lent.extras[q],
+                available,
+                out[q],
+            ) {
+                passes = false;
+                break 'ports;
+            }
+        }
+        if passes {
+            break t;
         }
         let worst = neediest(lent, &out[..]);
         let reached = raise_port(held, worst.slot, t);
@@ -34,5 +47,6 @@ pub(crate) fn ascend(held: Held, out: &mut [u64]) -> u64
             return limit + 1;
         }
         t = reached;
-    }
+    };
+    found
 }

@@ -26,7 +26,7 @@ pub fn check_tables(lent: Lent, duration: u64) -> Result<(), CheckRefusal>
         return Err(CheckRefusal::BadDuration);
     }
     let mut out = [0u64; PORTS];
-    let ports = failing_at(held, duration, &mut out);
+    let ports = failing_at(&held, duration, &mut out);
     if ports.count != 0 {
         return Err(CheckRefusal::Failing {
             port: ports.port,

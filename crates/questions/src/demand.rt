@@ -22,7 +22,7 @@ fn periods_begun(widened: u32, jitter: u32, period: u32) -> u32
 }
 
 // The frames that a flow brings in it.
-pub fn flow_frames(period: u32, count: u16, jitter: u32, widened: u32) -> u64
+pub(crate) fn flow_frames(period: u32, count: u16, jitter: u32, widened: u32) -> u64
     requires { (min_period ≤ period)
         × (period ≤ max_period)
         × (count ≤ max_count)

@@ -26,7 +26,7 @@ pub(crate) fn workload(blocking: u16, extra: u8, bits: u64) -> u64
 }
 
 // Whether a port fails; a demand of 0 is that of a port that no flow crosses.
-pub fn port_fails(rate: u32, blocking: u16, extra: u8, window: u64, bits: u64) -> bool
+pub(crate) fn port_fails(rate: u32, blocking: u16, extra: u8, window: u64, bits: u64) -> bool
     requires { (window ≤ max_top) × (bits ≤ most_demand) }
     ensures { result ≡ fails_by_of rate blocking extra window bits }
 {
@@ -85,12 +85,12 @@ pub(crate) fn failing_by<F: Fn(usize) -> u64>(
     failing_ports(set)
 }
 
-// Those ports by a table of the demands, which is left in out.
-pub(crate) fn failing_at(held: Held, duration: u64, out: &mut [u64]) -> FailingPorts
-    requires { (1 ≤ duration) × (duration ≤ held.lent.top) × (length out.old ≡ port_slots) }
-    ensures { FailingAt (plan_lent held.entry.lent) duration result.port result.count out.new }
+// Those ports by a table of the demands, which is left in out. The tables by reference: a copy for this call takes stack in each caller.
+pub(crate) fn failing_at(held: &Held, duration: u64, out: &mut [u64]) -> FailingPorts
+    requires { (1 ≤ duration) × (duration ≤ held.now.lent.top) × (length out.old ≡ port_slots) }
+    ensures { FailingAt (plan_lent held.now.lent) duration result.port result.count out.new }
 {
-    demands(held, duration, out);
+    demands(*held, duration, out);
     let table = &out[..];
-    failing_by(held, duration, |q| table[q])
+    failing_by(*held, duration, |q| table[q])
 }

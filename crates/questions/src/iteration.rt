@@ -33,7 +33,7 @@ fn none_found(held: Held, steps: u64, out: &mut [u64]) -> FixedPointRefusal
     requires { length out.old ≡ port_slots }
     ensures { fixed_point_refused result ≡ outcome_answer (plan_lent held.entry.lent) steps (none steps) }
 {
-    let ports = failing_at(held, held.lent.top as u64, out);
+    let ports = failing_at(&held, held.lent.top as u64, out);
     FixedPointRefusal::Failing {
         port: ports.port,
         count: ports.count,

@@ -15,7 +15,7 @@ fn lean_least(held: Held) -> u64
     let limit = held.lent.top as u64;
     let mut t: u64 = 1;
     let mut q: usize = 0;
-    loop {
+    let found = loop {
         let mut reached = t;
         'ports: for _passed in 0..PORTS {
             reached = raise_port(held, q, t);
@@ -25,13 +25,14 @@ fn lean_least(held: Held) -> u64
             }
         }
         if reached <= t {
-            return t;
+            break t;
         }
         if limit < reached {
             return limit + 1;
         }
         t = reached;
-    }
+    };
+    found
 }
 
 // The margin-safe duration, or one above top where there is none: the largest of the ports' own.

@@ -13,7 +13,14 @@ use numbers::frame::wire_bits;
 use tables::{FLOWS, Held, STRIDE};
 
 // The wire bits of the frames that a flow brings to a port.
-pub fn flow_bits(period: u32, count: u16, bytes: u16, jitter: u32, extra: u8, widened: u32) -> u64
+pub(crate) fn flow_bits(
+    period: u32,
+    count: u16,
+    bytes: u16,
+    jitter: u32,
+    extra: u8,
+    widened: u32,
+) -> u64
     requires { (min_period ≤ period)
         × (period ≤ max_period)
         × (count ≤ max_count)

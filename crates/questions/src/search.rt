@@ -25,7 +25,7 @@ fn answer(goal: Goal, held: Held, out: &mut [u64]) -> Result<u64, SearchRefusal>
     let found = seek(goal, held, out);
     let limit = held.lent.top as u64;
     if limit < found {
-        let ports = failing_at(held, limit, out);
+        let ports = failing_at(&held, limit, out);
         return Err(SearchRefusal::Failing {
             port: ports.port,
             count: ports.count,

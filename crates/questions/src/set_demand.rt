@@ -14,6 +14,7 @@ use numbers::clock::widened;
 use tables::Lent;
 
 // What the flow in slot f brings to a port.
+#[inline(always)]
 fn bits_at(lent: Lent, extra: u8, over: u32, f: usize) -> u64
     requires { Countable lent.periods.now lent.counts.now lent.lengths.now lent.jitters.now f × (f < flow_slots) × (extra ≤ max_extra) × (over ≤ most_widened) }
     ensures { result ≡ flow_bits lent.entry.periods.now lent.entry.counts.now lent.entry.lengths.now lent.entry.jitters.now extra over f }
@@ -29,6 +30,7 @@ fn bits_at(lent: Lent, extra: u8, over: u32, f: usize) -> u64
 }
 
 // What the flows of one number of a set bring: from one 1 to the next, which is no count of an index.
+#[inline(always)]
 fn word_bits(lent: Lent, extra: u8, over: u32, word: u64, base: usize) -> u64
     requires word_countable { WordCountable lent.periods.now lent.counts.now lent.lengths.now lent.jitters.now word base }
     requires word_slots_bound { (base + word_slots ≤ flow_slots) × (extra ≤ max_extra) × (over ≤ most_widened) }
@@ -48,6 +50,7 @@ fn word_bits(lent: Lent, extra: u8, over: u32, word: u64, base: usize) -> u64
 }
 
 // What the flows of a set bring at a duration.
+#[inline(always)]
 fn set_demand(lent: Lent, extra: u8, set: FlowSet, duration: u64) -> u64
     requires set_countable { SetCountable lent.periods.now lent.counts.now lent.lengths.now lent.jitters.now set }
     requires extra_le_max_extra { (extra ≤ max_extra) × (widened_by (clock_of lent.clock) duration ≤ most_widened) }

@@ -1,12 +1,13 @@
 // All spans, into a lent list of records.
 ghost use Rattle.std.specs.Prelude.{◌≡◌, length};
 ghost use Rattle.tables.specs.Lent.{plan_lent};
+ghost use Rattle.tables.specs.Tables.{plan_of};
 ghost use Rattle.questions.specs.Spans.{spans_answer, spans_leaves};
 ghost use Rattle.questions.specs.SpanAnswer.{spans_answer_of};
 
 use super::one_span::{SpanRecord, span_from};
 use super::span_count::count_spans;
-use tables::{Lent, hold};
+use tables::{Lent, Planner, held_top, hold};
 
 #[derive(Clone, Copy)]
 pub enum SpansRefusal {
@@ -15,7 +16,7 @@ pub enum SpansRefusal {
 }
 
 // All spans, rising, into the first records of a list, and how many they are; a list that is shorter is left as it was.
-pub fn spans(lent: Lent, list: &mut [SpanRecord]) -> Result<u64, SpansRefusal>
+pub fn spans_tables(lent: Lent, list: &mut [SpanRecord]) -> Result<u64, SpansRefusal>
     ensures { (spans_answer_of result ≡ spans_answer (plan_lent lent.entry) (length list.old))
         × (list.new ≡ spans_leaves (plan_lent lent.entry) list.old) }
 {
@@ -35,4 +36,13 @@ pub fn spans(lent: Lent, list: &mut [SpanRecord]) -> Result<u64, SpansRefusal>
         from = span.last + 1;
     }
     Ok(count)
+}
+
+// The same of a planner, by the top that its form allows. It is taken by value, so that what is lent is the list alone.
+pub fn spans(planner: Planner, list: &mut [SpanRecord]) -> Result<u64, SpansRefusal>
+    ensures { (spans_answer_of result ≡ spans_answer (plan_of planner) (length list.old))
+        × (list.new ≡ spans_leaves (plan_of planner) list.old) }
+{
+    let top = held_top(planner.form, &planner.hops, planner.top);
+    spans_tables(planner.lend().upto(top), list)
 }

@@ -8,4 +8,4 @@ use Rattle.questions.proofs.failing.failing_at.Goals as goal
 pub failing_by-requires-clause-demands : goal.failing_by-requires-clause-demands
 failing_by-requires-clause-demands c = λ q bits l e.
     let is : bits ≡ get_or c.demands.new.out q 0 = search rules in
-    is ∙ filled_bits (filled_by c.args.held.valid c.requires.1 c.demands.ensures) q l
+    is ∙ filled_bits (filled_by c.args.held.now.valid c.requires.1 c.demands.ensures) q l

@@ -28,8 +28,8 @@ ports-preserved c =
     let stays : c.raise_port-reached.result ≤ c.loop-reached.t = omega (arith, c.if-t-reached.false) in
     (turn_next c.ports.invariant.0 (reached_stays c.loop-reached.invariant.0 c.raise_port-reached.ensures stays), stays)
 
-pub returns-then-reached-t : goal.returns-then-reached-t
-returns-then-reached-t c =
+pub returns : goal.returns
+returns c =
     let none : (k : ℕ) → k < port_slots → fails (plan_lent c.args.held.lent) c.loop-reached.t k ≡ false =
     elim c.ports-test.branch [
       | else-ports-test w ↦ turn_all c.ports.invariant.0 (omega (arith, w.ports-test.false))

@@ -12,7 +12,7 @@ use Rattle.questions.specs.declared.one_span.SpanRecord.{SpanRecord}
 use Rattle.questions.specs.laws.Spans.{next_some}
 use Rattle.questions.specs.laws.SpanList.{nth-from, nth-none, filled-next, count_ends}
 use Rattle.questions.specs.laws.Counted.{spans-none, spans_keeps, spans-listed, spans_short, filled_all}
-use Rattle.questions.proofs.span_list.spans.Goals as goal
+use Rattle.questions.proofs.span_list.spans_tables.Goals as goal
 
 pub returns-in_default : goal.returns-in_default
 returns-in_default c =
