@@ -7,11 +7,10 @@ ghost use Rattle.cqf.specs.Plan.{period_of};
 ghost use Rattle.tables.specs.Lent.{plan_lent};
 ghost use Rattle.emissions.specs.Burst.{burst, burst_answer, burst_of, told_burst, instant_is};
 
-use crate::frames::instant_of;
+use crate::frames::{flow_frames, instant_of};
 use crate::hop::{hop_on, latest_hop};
 use numbers::clock::widened;
 use numbers::limits::between;
-use questions::flow_frames;
 use tables::{FLOWS, Held, Lent, PORTS, hold};
 
 // A flow's burst: its cycle, how many frames it has, and the instant of the one that is asked for, if it has that one.

@@ -17,7 +17,7 @@ pub(crate) fn first_unsent(held: Held, duration: u64, q: usize, latest: u64) -> 
 {
     let end = latest + 1;
     for c in 0..end {
-        if overrun_in(held, duration, q, latest, c).is_some() {
+        if overrun_in(&held, duration, q, latest, c).is_some() {
             return c;
         }
     }

@@ -1,13 +1,17 @@
 // What each port must send in a cycle of the bad emission.
-ghost use Rattle.std.specs.Prelude.{◌≡◌, ℕ, ◌≤◌, ◌<◌, length, get_or};
-ghost use Rattle.cqf.specs.Limits.{port_slots};
+ghost use Rattle.std.specs.Prelude.{◌≡◌, ℕ, ◌*◌, ◌≤◌, ◌<◌, length, get_or};
+ghost use Rattle.cqf.specs.Limits.{port_slots, min_period, max_period, max_count, max_length, max_jitter, max_extra};
+ghost use Rattle.cqf.specs.Overflow.{most_widened};
+ghost use Rattle.cqf.specs.Port.{bits_of};
+ghost use Rattle.cqf.specs.Condition.{frames_by};
 ghost use Rattle.tables.specs.Lent.{plan_lent};
 ghost use Rattle.emissions.specs.BadEmission.{latest_hop, burst_bits};
 ghost use Rattle.emissions.specs.Queued.{queued_port};
 
+use crate::frames::flow_frames;
 use crate::hop::hop_on;
 use numbers::clock::widened;
-use questions::flow_bits;
+use numbers::frame::wire_bits;
 use tables::{FLOWS, Held, PORTS};
 
 // The port at a place of a route, 0 behind its end.
@@ -31,6 +35,21 @@ fn queued_port(route: &[u8], q: usize, latest: u64, c: u64) -> u8
         return 0;
     }
     port_at(route, (c - own - 1) as usize)
+}
+
+// The wire bits of the frames that a flow brings to a port.
+// `questions` has one too, for itself: a public function takes any input, and this one leans on ranges that its callers know.
+fn flow_bits(period: u32, count: u16, bytes: u16, jitter: u32, extra: u8, widened: u32) -> u64
+    requires { (min_period ≤ period)
+        × (period ≤ max_period)
+        × (count ≤ max_count)
+        × (bytes ≤ max_length)
+        × (jitter ≤ max_jitter)
+        × (extra ≤ max_extra)
+        × (widened ≤ most_widened) }
+    ensures { result ≡ frames_by count widened jitter period * bits_of bytes extra }
+{
+    flow_frames(period, count, jitter, widened) * wire_bits(bytes, extra)
 }
 
 // The bits that each port must send in cycle c of the bad emission of the port in slot q: port n at position n - 1.

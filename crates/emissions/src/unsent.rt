@@ -3,6 +3,8 @@ ghost use Rattle.std.specs.Prelude.{◌≡◌, true, ◌≤◌, ◌<◌};
 ghost use Rattle.cqf.specs.Limits.{port_slots};
 ghost use Rattle.cqf.specs.Condition.{fails};
 ghost use Rattle.tables.specs.Lent.{plan_lent};
+ghost use Rattle.questions.specs.Outcome.{check_answer};
+ghost use Rattle.questions.specs.Answer.{check_of};
 ghost use Rattle.emissions.specs.Unsent.{unsent, unsent_answer, unsent_of, told_unsent};
 ghost use Rattle.emissions.specs.Meaning.{UnsentMeans};
 
@@ -39,7 +41,7 @@ fn unsent_of(held: Held, duration: u64, q: usize) -> Unsent
 {
     let latest = latest_hop(held, q) as u64;
     let cycle = first_unsent(held, duration, q, latest);
-    let over = overrun_in(held, duration, q, latest, cycle).unwrap();
+    let over = overrun_in(&held, duration, q, latest, cycle).unwrap();
     let slot = over.slot;
     let lent = held.lent;
     let available = window(lent.guard, duration);
@@ -58,13 +60,21 @@ fn unsent_of(held: Held, duration: u64, q: usize) -> Unsent
     }
 }
 
+// The plain question, a function of its own in the machine: its table of demands is off the stack when cycles are looked at.
+#[inline(never)]
+fn asked(lent: Lent, duration: u64) -> Result<(), CheckRefusal>
+    ensures { check_of result ≡ check_answer (plan_lent lent.entry) duration }
+{
+    check_tables(lent, duration)
+}
+
 // Of the bad emission of the lowest port that fails, the first cycle in which a frame is left unsent, and the lowest port there; none
 // of an admissible duration.
 pub fn unsent_tables(lent: Lent, duration: u64) -> Result<Option<Unsent>, UnsentRefusal>
     ensures answers { unsent_of result ≡ unsent_answer (plan_lent lent.entry) duration }
     ensures means { UnsentMeans (plan_lent lent.entry) duration (unsent_of result) }
 {
-    match check_tables(lent, duration) {
+    match asked(lent, duration) {
         Ok(()) => Ok(None),
         Err(CheckRefusal::NoPlan) => Err(UnsentRefusal::NoPlan),
         Err(CheckRefusal::BadDuration) => Err(UnsentRefusal::BadDuration),

@@ -1,15 +1,15 @@
 -- `burst_of` meets its contract.
-use Prim.Native.Nat.{◌*◌, ◌≤◌}
+use Prim.Native.Nat.{◌*◌}
 use native.Mathlib.Omega.{arith}
 use mathlib.Core.Path.{ap, ◌∙◌}
 use lib.ListN.{length}
 use Rattle.cqf.specs.Plan.{hops_of}
 use Rattle.cqf.proofs.laws.Lists.{sublist_length}
 use Rattle.cqf.specs.Limits.{max_count, route_stride}
-use Rattle.cqf.specs.Overflow.{most_widened, most_begun}
+use Rattle.cqf.specs.Overflow.{most_begun}
 use Rattle.cqf.proofs.laws.Ranges.{top_most}
 use Rattle.tables.specs.Lent.{plan_lent}
-use Rattle.emissions.specs.laws.Burst.{over_fits, flow_held, frames_few, latest_most, cycle_is, brought_is, frames_is, burst_is, kept_most}
+use Rattle.emissions.specs.laws.Burst.{over_fits, flow_held, latest_most, cycle_is, brought_is, frames_is, burst_is, kept_most}
 use Rattle.emissions.proofs.burst.burst_of.Goals as goal
 
 pub overflow_cast-over : goal.overflow_cast-over
@@ -27,14 +27,12 @@ pub instant_in-instant-requires : goal.instant_in-instant-requires
 instant_in-instant-requires c =
     let a = c.args in
     let p = plan_lent a.held.lent in
-    let h = flow_held p a.held.valid a.f c.requires.2 c.requires.3 in
-    let fits : c.widened-over.result ≤ most_widened = omega (arith, c.widened-over.ensures, over_fits p a.held.valid a.duration c.requires.0) in
-    let few : c.flow_frames-brought.result ≤ max_count * most_begun = rw c.flow_frames-brought.ensures (frames_few p a.held.valid a.f c.widened-over.result h fits) in (
+    let h = flow_held p a.held.valid a.f c.requires.2 c.requires.3 in (
       omega (arith, c.saturating_sub-cycle.ensures, c.latest_hop-latest.ensures, latest_most p a.held.valid a.q),
       omega (arith, c.requires.0, top_most p a.held.valid),
       h.count_least,
       h.period_most,
-      omega (arith, c.frames_if-frames.ensures, kept_most c.hop_on-at.result (length c.route-ports.result.now) c.flow_frames-brought.result (max_count * most_begun) few),
+      omega (arith, c.frames_if-frames.ensures, kept_most c.hop_on-at.result (length c.route-ports.result.now) c.flow_frames-brought.result (max_count * most_begun) c.flow_frames-brought.ensures.1),
     )
 
 pub returns : goal.returns
@@ -42,9 +40,9 @@ returns c =
     let a = c.args in
     let p = plan_lent a.held.lent in
     let v = a.held.valid in
-    let at = rw c.route-ports.ensures.route at c.hop_on-at.ensures in
-    let long = ap length c.route-ports.ensures.route ∙ sublist_length p.routes (a.f * route_stride) (hops_of p a.f) in
+    let at = rw (c.route-ports.ensures.route (omega arith)) at c.hop_on-at.ensures in
+    let long = ap length (c.route-ports.ensures.route (omega arith)) ∙ sublist_length p.routes (a.f * route_stride) (hops_of p a.f) in
     burst_is p v a.duration a.q a.f a.k
     (cycle_is p v a.duration a.q a.f c.latest_hop-latest.ensures at c.saturating_sub-cycle.ensures)
-    (frames_is p v a.duration a.q a.f c.requires.2 c.requires.3 at (brought_is p v a.duration a.q a.f c.widened-over.ensures c.flow_frames-brought.ensures) (rw long at c.frames_if-frames.ensures))
+    (frames_is p v a.duration a.q a.f c.requires.2 c.requires.3 at (brought_is p v a.duration a.q a.f c.widened-over.ensures c.flow_frames-brought.ensures.0) (rw long at c.frames_if-frames.ensures))
     c.instant_in-instant.ensures

@@ -17,7 +17,7 @@ pub loop-f-preserved : goal.loop-f-preserved
 loop-f-preserved c =
     let p = plan_lent c.args.held.lent in
     c.max-latest.ensures
-    ∙ latest_next p c.args.q c.loop-f.f c.loop-f.invariant (c.late_on.ensures ∙ ap (λ (r : List ℕ). late_on r c.args.q) c.route.ensures.route)
+    ∙ latest_next p c.args.q c.loop-f.f c.loop-f.invariant (c.late_on.ensures ∙ ap (λ (r : List ℕ). late_on r c.args.q) (c.route.ensures.route (omega arith)))
 
 pub returns : goal.returns
 returns c =

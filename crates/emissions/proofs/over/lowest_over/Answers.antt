@@ -8,15 +8,15 @@ use Rattle.emissions.proofs.over.lowest_over.Goals as goal
 pub loop-r-init : goal.loop-r-init
 loop-r-init c = λ j l. absurd (omega arith)
 
-pub port_fails-requires : goal.port_fails-requires
-port_fails-requires c = (c.requires.0, c.requires.1 c.loop-r.r (omega arith))
+pub port_overruns-requires : goal.port_overruns-requires
+port_overruns-requires c = (c.requires.0, c.requires.1 c.loop-r.r (omega arith))
 
-pub returns-then-port_fails : goal.returns-then-port_fails
-returns-then-port_fails c =
-    (omega arith, lowest_is port_slots _ c.loop-r.r (omega arith) (sym c.port_fails.ensures ∙ c.if-port_fails.true) c.loop-r.invariant)
+pub returns-then-port_overruns : goal.returns-then-port_overruns
+returns-then-port_overruns c =
+    (omega arith, lowest_is port_slots _ c.loop-r.r (omega arith) (sym c.port_overruns.ensures ∙ c.if-port_overruns.true) c.loop-r.invariant)
 
 pub loop-r-preserved : goal.loop-r-preserved
-loop-r-preserved c = below_more _ _ c.loop-r.invariant (sym c.port_fails.ensures ∙ c.if-port_fails.false)
+loop-r-preserved c = below_more _ _ c.loop-r.invariant (sym c.port_overruns.ensures ∙ c.if-port_overruns.false)
 
 pub returns : goal.returns
 returns c =

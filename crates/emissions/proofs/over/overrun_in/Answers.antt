@@ -17,8 +17,8 @@ cycle_bits-requires c = (c.requires.0, c.requires.1, c.requires.2, refl, tabulat
 pub lowest_over-requires : goal.lowest_over-requires
 lowest_over-requires c =
     let a = c.args in
-    let p = plan_lent a.held.lent in
-    let v = a.held.valid in (
+    let p = plan_lent a.held.now.lent in
+    let v = a.held.now.valid in (
       omega (arith, c.window-available.ensures, window_most p v a.duration c.requires.0 a.q a.c),
       each_most p v a.duration c.requires.0 a.q a.c c.cycle_bits.new.bits c.cycle_bits.ensures,
     )
@@ -26,20 +26,20 @@ lowest_over-requires c =
 pub returns-in_err-slot : goal.returns-in_err-slot
 returns-in_err-slot c =
     let a = c.args in
-    let l = a.held.lent in
+    let l = a.held.now.lent in
     let bits = c.cycle_bits.new.bits in
     let same =
     ap (λ (w : ℕ). lowest port_slots (fails_in l.rates.now l.blockings.now l.extras.now w bits)) c.window-available.ensures
-    ∙ over_is (plan_lent l) a.held.valid a.duration c.requires.0 a.q a.c bits c.cycle_bits.ensures in
+    ∙ over_is (plan_lent l) a.held.now.valid a.duration c.requires.0 a.q a.c bits c.cycle_bits.ensures in
     rw c.from_residual.ensures (sym same ∙ c.in_err-slot.ensures)
 
 pub returns : goal.returns
 returns c =
     let a = c.args in
-    let l = a.held.lent in
+    let l = a.held.now.lent in
     let bits = c.cycle_bits.new.bits in
     let same =
     ap (λ (w : ℕ). lowest port_slots (fails_in l.rates.now l.blockings.now l.extras.now w bits)) c.window-available.ensures
-    ∙ over_is (plan_lent l) a.held.valid a.duration c.requires.0 a.q a.c bits c.cycle_bits.ensures in
+    ∙ over_is (plan_lent l) a.held.now.valid a.duration c.requires.0 a.q a.c bits c.cycle_bits.ensures in
     let found = rw c.in_ok-slot.was at c.lowest_over.ensures in
     (found.0, sym same ∙ found.1, c.cycle_bits.ensures c.in_ok-slot.slot found.0)

@@ -40,28 +40,28 @@ pub bounds-held-r : goal.bounds-held-r
 bounds-held-r c =
     let a = c.args in
     let p = plan_lent a.held.lent in
-    in_slots p a.held.valid a.q a.latest a.c c.loop-f.f (omega arith) c.from-n.result (c.from-n.ensures ∙ (rw c.route.ensures.route at c.queued_port.ensures)) c.if-n-ne0.true
+    in_slots p a.held.valid a.q a.latest a.c c.loop-f.f (omega arith) c.from-n.result (c.from-n.ensures ∙ (rw (c.route.ensures.route (omega arith)) at c.queued_port.ensures)) c.if-n-ne0.true
 
 pub flow_bits-more-requires : goal.flow_bits-more-requires
 flow_bits-more-requires c =
     let a = c.args in
     let p = plan_lent a.held.lent in
-    let h = held p a.held.valid a.q a.latest a.c c.loop-f.f (omega arith) c.from-n.result (c.from-n.ensures ∙ (rw c.route.ensures.route at c.queued_port.ensures)) c.if-n-ne0.true in
-    let slot = in_slots p a.held.valid a.q a.latest a.c c.loop-f.f (omega arith) c.from-n.result (c.from-n.ensures ∙ (rw c.route.ensures.route at c.queued_port.ensures)) c.if-n-ne0.true in
+    let h = held p a.held.valid a.q a.latest a.c c.loop-f.f (omega arith) c.from-n.result (c.from-n.ensures ∙ (rw (c.route.ensures.route (omega arith)) at c.queued_port.ensures)) c.if-n-ne0.true in
+    let slot = in_slots p a.held.valid a.q a.latest a.c c.loop-f.f (omega arith) c.from-n.result (c.from-n.ensures ∙ (rw (c.route.ensures.route (omega arith)) at c.queued_port.ensures)) c.if-n-ne0.true in
     (h.period_least, h.period_most, h.count_most, h.bytes_most, h.jitter_most, extra_most p a.held.valid _ slot, omega (arith, c.widened-over.ensures, over_fits p a.held.valid a.duration c.requires.0))
 
 pub bounds-bits-r : goal.bounds-bits-r
 bounds-bits-r c =
     let a = c.args in
     let p = plan_lent a.held.lent in
-    in_slots p a.held.valid a.q a.latest a.c c.loop-f.f (omega arith) c.from-n.result (c.from-n.ensures ∙ (rw c.route.ensures.route at c.queued_port.ensures)) c.if-n-ne0.true
+    in_slots p a.held.valid a.q a.latest a.c c.loop-f.f (omega arith) c.from-n.result (c.from-n.ensures ∙ (rw (c.route.ensures.route (omega arith)) at c.queued_port.ensures)) c.if-n-ne0.true
 
 pub overflow_add-bits : goal.overflow_add-bits
 overflow_add-bits c =
     let a = c.args in
     let p = plan_lent a.held.lent in
-    let slot = in_slots p a.held.valid a.q a.latest a.c c.loop-f.f (omega arith) c.from-n.result (c.from-n.ensures ∙ (rw c.route.ensures.route at c.queued_port.ensures)) c.if-n-ne0.true in
-    let at = port_is p a.held.valid a.q a.latest a.c c.loop-f.f (omega arith) c.from-n.result (c.from-n.ensures ∙ (rw c.route.ensures.route at c.queued_port.ensures)) c.if-n-ne0.true in
+    let slot = in_slots p a.held.valid a.q a.latest a.c c.loop-f.f (omega arith) c.from-n.result (c.from-n.ensures ∙ (rw (c.route.ensures.route (omega arith)) at c.queued_port.ensures)) c.if-n-ne0.true in
+    let at = port_is p a.held.valid a.q a.latest a.c c.loop-f.f (omega arith) c.from-n.result (c.from-n.ensures ∙ (rw (c.route.ensures.route (omega arith)) at c.queued_port.ensures)) c.if-n-ne0.true in
     let most : c.widened-over.result ≤ most_widened = omega (arith, c.widened-over.ensures, over_fits p a.held.valid a.duration c.requires.0) in
     omega
     (arith, c.loop-f.invariant.1 (c.from-n.result - 1) slot, c.flow_bits-more.ensures, next_most p a.held.valid a.q a.latest a.c c.widened-over.result most (c.from-n.result - 1) slot c.loop-f.f (omega arith) at)
@@ -70,7 +70,7 @@ pub bounds-bits-r-then-n-ne0 : goal.bounds-bits-r-then-n-ne0
 bounds-bits-r-then-n-ne0 c =
     let a = c.args in
     let p = plan_lent a.held.lent in
-    in_slots p a.held.valid a.q a.latest a.c c.loop-f.f (omega arith) c.from-n.result (c.from-n.ensures ∙ (rw c.route.ensures.route at c.queued_port.ensures)) c.if-n-ne0.true
+    in_slots p a.held.valid a.q a.latest a.c c.loop-f.f (omega arith) c.from-n.result (c.from-n.ensures ∙ (rw (c.route.ensures.route (omega arith)) at c.queued_port.ensures)) c.if-n-ne0.true
 
 pub loop-f-preserved : goal.loop-f-preserved
 loop-f-preserved c =
@@ -81,11 +81,11 @@ loop-f-preserved c =
     let inv = c.loop-f.invariant in
     elim c.if-n-ne0.branch [
       | then-n-ne0 w ↦
-          let slot = in_slots p a.held.valid a.q a.latest a.c c.loop-f.f (omega arith) c.from-n.result (c.from-n.ensures ∙ (rw c.route.ensures.route at c.queued_port.ensures)) w.if-n-ne0.true in
-          let at = port_is p a.held.valid a.q a.latest a.c c.loop-f.f (omega arith) c.from-n.result (c.from-n.ensures ∙ (rw c.route.ensures.route at c.queued_port.ensures)) w.if-n-ne0.true in
+          let slot = in_slots p a.held.valid a.q a.latest a.c c.loop-f.f (omega arith) c.from-n.result (c.from-n.ensures ∙ (rw (c.route.ensures.route (omega arith)) at c.queued_port.ensures)) w.if-n-ne0.true in
+          let at = port_is p a.held.valid a.q a.latest a.c c.loop-f.f (omega arith) c.from-n.result (c.from-n.ensures ∙ (rw (c.route.ensures.route (omega arith)) at c.queued_port.ensures)) w.if-n-ne0.true in
           (rw w.bits-is (simp length-set inv.0), rw w.bits-is (sums_add p over a.q a.latest a.c c.loop-f.f bits (c.from-n.result - 1) w.flow_bits-more.result (omega (arith, slot, inv.0)) slot at w.flow_bits-more.ensures inv.1))
       | else-n-ne0 w ↦
-          (rw w.bits-is inv.0, rw w.bits-is (sums_skip p over a.q a.latest a.c c.loop-f.f bits (sym (c.from-n.ensures ∙ (rw c.route.ensures.route at c.queued_port.ensures)) ∙ w.if-n-ne0.false) inv.1))
+          (rw w.bits-is inv.0, rw w.bits-is (sums_skip p over a.q a.latest a.c c.loop-f.f bits (sym (c.from-n.ensures ∙ (rw (c.route.ensures.route (omega arith)) at c.queued_port.ensures)) ∙ w.if-n-ne0.false) inv.1))
     ]
 
 pub returns : goal.returns
