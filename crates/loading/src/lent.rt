@@ -42,7 +42,8 @@ pub fn load_columns(
 {
     let told = form_by(plan);
     let mut fresh = empty();
-    let loaded = read_tables(told, strict, plan, &mut fresh)?;
+    let answer = read_tables(told, strict, plan, &mut fresh);
+    let loaded = answer?;
     *form = form_number(told);
     *guard = fresh.guard;
     *top = fresh.top;

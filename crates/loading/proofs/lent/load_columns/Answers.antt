@@ -7,8 +7,8 @@ use Rattle.loading.specs.laws.Lent.{refused_lent, accepted_lent}
 use Rattle.loading.specs.Answer.{load_of}
 use Rattle.loading.proofs.lent.load_columns.Goals as goal
 
-pub read_tables-requires : goal.read_tables-requires
-read_tables-requires c = empty_tables _ c.empty-fresh.ensures.plan c.empty-fresh.ensures.form
+pub read_tables-answer-requires : goal.read_tables-answer-requires
+read_tables-answer-requires c = empty_tables _ c.empty-fresh.ensures.plan c.empty-fresh.ensures.form
 
 pub returns-in_err-loaded : goal.returns-in_err-loaded
 returns-in_err-loaded c =

@@ -32,5 +32,5 @@ returns c =
     let few : length (route_of p f) ≤ max_hops = omega (arith, route_ports p f, (valid_range p a.held.valid).hops_most f c.requires) in
     slot_one (field_in Kind.Flow2 p f) a.out.now (period_of p f) c.if-period-eq0.false
     (c.put_flow2.ensures
-    ∙ ap (λ (r : List ℕ). laid (allowed_bytes wire.Kind.flow2 ((f + 1) ∷ ns) r) a.out.now) c.route.ensures.route
+    ∙ ap (λ (r : List ℕ). laid (allowed_bytes wire.Kind.flow2 ((f + 1) ∷ ns) r) a.out.now) (c.route.ensures.route (omega arith))
     ∙ ap (λ (bs : List ℕ). laid bs a.out.now) (flow_part wire.Kind.flow2 f ns (route_of p f) few))
