@@ -1,12 +1,11 @@
 // Which ports fail at a duration, from each port's demand.
-ghost use Rattle.std.specs.Prelude.{◌≡◌, ℕ, ◌≤◌, ◌<◌, length, get_or};
-ghost use Rattle.cqf.specs.Bounded.{any_to};
+ghost use Rattle.std.specs.Prelude.{◌≡◌, ℕ, ◌≤◌, ◌<◌, length};
 ghost use Rattle.cqf.specs.Limits.{port_slots, max_top};
 ghost use Rattle.cqf.specs.Port.{workload_of, fails_by_of};
 ghost use Rattle.cqf.specs.Overflow.{most_demand};
 ghost use Rattle.cqf.specs.Condition.{demand, failing, lowest_failing};
 ghost use Rattle.tables.specs.Lent.{plan_lent};
-ghost use Rattle.questions.specs.Failing.{fails_in, FailingAt};
+ghost use Rattle.questions.specs.Failing.{FailingAt};
 
 use super::demand::demands;
 use numbers::frame::blocking_bits;
@@ -31,28 +30,6 @@ pub(crate) fn port_fails(rate: u32, blocking: u16, extra: u8, window: u64, bits:
     ensures { result ≡ fails_by_of rate blocking extra window bits }
 {
     bits != 0 && (rate as u64) * window < workload(blocking, extra, bits)
-}
-
-// Whether some port fails.
-pub(crate) fn some_fails(lent: Lent, window: u64, demands: &[u64]) -> bool
-    requires { (length demands.now ≡ port_slots)
-        × (window ≤ max_top)
-        × ((q : ℕ) → q < port_slots → get_or demands.now q 0 ≤ most_demand) }
-    ensures { result ≡ any_to port_slots
-        (fails_in lent.entry.rates.now lent.entry.blockings.now lent.entry.extras.now window demands.now) }
-{
-    for q in 0..PORTS {
-        if port_fails(
-            lent.rates[q],
-            lent.blockings[q],
-            lent.extras[q],
-            window,
-            demands[q],
-        ) {
-            return true;
-        }
-    }
-    false
 }
 
 // The ports that fail at a duration, by each port's demand there: the lowest, and how many.

@@ -7,7 +7,7 @@ ghost use Rattle.questions.specs.Answer.{fixed_point_of, fixed_point_refused};
 ghost use Rattle.questions.specs.FixedPoint.{outcome_answer, fixed_point_answer};
 
 use super::demand::demands;
-use super::failing::{failing_at, some_fails};
+use super::failing::{failing_at, port_fails};
 use super::need::neediest;
 use numbers::limits::between;
 use numbers::port::window;
@@ -49,26 +49,43 @@ fn iterate(held: Held, start: u64, steps: u64) -> Result<FixedPoint, FixedPointR
     let lent = held.lent;
     let limit = lent.top as u64;
     let mut out = [0u64; PORTS];
+    let mut used: u64 = 0;
     let mut t = start;
-    for made in 0..steps {
+    let duration = loop {
+        if steps <= used {
+            return Err(FixedPointRefusal::Unfinished { duration: t, steps });
+        }
+        used += 1;
         demands(held, t, &mut out);
         let available = window(lent.guard, t);
-        if !some_fails(lent, available, &out) {
-            let found = FixedPoint {
-                duration: t,
-                steps: made + 1,
-            };
-            return Ok(found);
+        let mut passes = true;
+        'ports: for q in 0..PORTS {
+            if port_fails(
+                lent.rates[q],
+                lent.blockings[q],
+                lent.extras[q],
+                available,
+                out[q],
+            ) {
+                passes = false;
+                break 'ports;
+            }
+        }
+        if passes {
+            break t;
         }
         let worst = neediest(lent, &out);
         let next = worst.needed;
         if limit < next {
-            let refusal = none_found(held, made + 1, &mut out);
+            let refusal = none_found(held, used, &mut out);
             return Err(refusal);
         }
         t = next;
-    }
-    Err(FixedPointRefusal::Unfinished { duration: t, steps })
+    };
+    Ok(FixedPoint {
+        duration,
+        steps: used,
+    })
 }
 
 // The least admissible duration from a start on, by at most so many steps; 26 where they end before.

@@ -1,15 +1,13 @@
 -- The test of the ports at a duration, and what it gives.
-use Rattle.std.specs.Prelude.{◌≡◌, refl, Bool, true, false, List, ℕ, ◌+◌, ◌<◌}
-use Rattle.std.proofs.Common.{sym, ap₂, ◌∙◌, true≢false, le-leb, arith}
+use Rattle.std.specs.Prelude.{◌≡◌, Bool, true, false, List, ℕ, ◌+◌, ◌<◌}
+use Rattle.std.proofs.Common.{sym, ap₂, ◌∙◌, le-leb, arith}
 use Rattle.std.proofs.Math.Decide.{ℕ_discrete}
-use Rattle.cqf.specs.Bounded.{any_to}
 use Rattle.cqf.specs.Limits.{port_slots}
 use Rattle.cqf.specs.Plan.{Plan, rate_of, blocking_of, extra_of}
 use Rattle.cqf.specs.Port.{window_of, fails_by_of}
 use Rattle.cqf.specs.Condition.{fails}
 use Rattle.cqf.specs.Need.{largest_need}
 use Rattle.cqf.specs.FixedPoint.{settles}
-use Rattle.cqf.proofs.laws.Bounded.{any_to_true, any_to_some}
 use Rattle.cqf.proofs.laws.Search.{fails-largest, none-largest}
 use Rattle.questions.specs.Failing.{fails_in}
 use Rattle.questions.specs.laws.Fails.{fails_by}
@@ -34,21 +32,11 @@ module _ {p : Plan} {out : List ℕ} {t window : ℕ} (f : Filled p out t) (long
   pub one_fails : (q : ℕ) → q < port_slots → fails_in p.rates p.blockings p.extras window out q ≡ true → t < largest_need p t
   one_fails q slot e = fails-largest p f.valid t q long slot (sym (port_tested q slot) ∙ e)
 
-  -- of all of them
-  module _ {r : Bool} (e : r ≡ any_to port_slots (fails_in p.rates p.blockings p.extras window out)) where
-    pub none_fails : r ≡ false → (q : ℕ) → q < port_slots → fails p t q ≡ false
-    none_fails none q slot = go (fails_in p.rates p.blockings p.extras window out q) refl
-      where
-        go : (b : Bool) → fails_in p.rates p.blockings p.extras window out q ≡ b → fails p t q ≡ false
-        go true h = absurd (true≢false (sym (any_to_some port_slots _ q slot h) ∙ sym e ∙ none))
-        go false h = sym (port_tested q slot) ∙ h
+  -- all of them pass
+  module _ (pass : (q : ℕ) → q < port_slots → fails_in p.rates p.blockings p.extras window out q ≡ false) where
+    pub none_fails : (q : ℕ) → q < port_slots → fails p t q ≡ false
+    none_fails q slot = sym (port_tested q slot) ∙ pass q slot
 
     -- none needs more than t
-    pub none_settles : r ≡ false → settles p t ≡ true
-    none_settles none = le-leb _ _ (none-largest p f.valid t (none_fails none))
-
-    -- one that fails needs more
-    pub one_needs_more : r ≡ true → t < largest_need p t
-    one_needs_more one =
-        let at = any_to_true port_slots _ (sym e ∙ one) in
-        one_fails at.0 at.1 at.2
+    pub none_settles : settles p t ≡ true
+    none_settles = le-leb _ _ (none-largest p f.valid t none_fails)

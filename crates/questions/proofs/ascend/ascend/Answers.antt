@@ -9,7 +9,7 @@ use Rattle.cqf.specs.Need.{largest_need}
 use Rattle.tables.specs.Lent.{plan_lent}
 use Rattle.questions.specs.laws.LeanSearch.{reached_start, reached_first, reached_least, reached_further, reached_next, reached_above}
 use Rattle.questions.specs.laws.Neediest.{neediest_fails}
-use Rattle.questions.specs.laws.PortTest.{port_tested, one_fails, passed_next}
+use Rattle.questions.specs.laws.PortTest.{one_fails, none_fails, passed_next}
 use Rattle.questions.specs.laws.Scratch.{filled_by, filled_length, filled_short, filled_most, filled-served}
 use Rattle.questions.proofs.ascend.ascend.Goals as goal
 use Rattle.questions.proofs.ascend.ascend.Goals.{else-ports-test, then-ports-test+then-port_fails}
@@ -71,7 +71,7 @@ returns c =
     let full = filled_by c.args.held.valid s.within c.demands.ensures in
     let none : (k : ℕ) → k < port_slots → fails (plan_lent c.args.held.lent) c.loop-q.t k ≡ false =
     elim c.ports-test.branch [
-      | else-ports-test w ↦ λ k l. sym (port_tested full (reached_first s) c.window-available.ensures k l) ∙ c.ports.invariant.0 k (omega (arith, l, w.ports-test.false))
+      | else-ports-test w ↦ none_fails full (reached_first s) c.window-available.ensures (λ k l. c.ports.invariant.0 k (omega (arith, l, w.ports-test.false)))
       | then-ports-test+then-port_fails w ↦ absurd (true≢false (sym c.if-passes.true ∙ w.passes-is))
     ] in
     record { is = reached_least s none; demands = λ _. c.demands.ensures }

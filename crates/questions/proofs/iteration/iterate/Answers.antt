@@ -1,50 +1,79 @@
 use mathlib.Core.Path.{◌≡◌, refl, sym, ap, subst, ◌∙◌}
+use Prim.Native.Nat.{◌<◌}
 use native.Mathlib.Omega.{arith}
+use Rattle.std.proofs.Common.{true≢false}
 use Rattle.cqf.specs.Need.{largest_need}
 use Rattle.tables.specs.Lent.{plan_lent}
 use Rattle.questions.specs.FixedPoint.{outcome_answer}
 use Rattle.questions.specs.laws.Iteration.{Stepped, stepped_start, steps_end, step_settles, step_exceeds, step_rises}
-use Rattle.questions.specs.laws.PortTest.{none_settles, one_needs_more}
+use Rattle.questions.specs.laws.PortTest.{one_fails, none_settles, passed_next}
 use Rattle.questions.specs.laws.Scratch.{Filled, filled_by, filled_length, filled_short, filled_most, filled-served, filled-largest}
 use Rattle.questions.proofs.iteration.iterate.Goals as goal
+use Rattle.questions.proofs.iteration.iterate.Goals.{else-ports-test, then-ports-test+then-port_fails}
 
-pub loop-made-init : goal.loop-made-init
-loop-made-init c = (refl, stepped_start _ _ _ c.requires.0 c.requires.1)
+pub loop-used-init : goal.loop-used-init
+loop-used-init c = (refl, stepped_start _ _ _ c.requires.0 c.requires.1)
 
-pub some_fails-requires : goal.some_fails-requires
-some_fails-requires c =
-    let full = filled_by c.args.held.valid c.loop-made.invariant.1.within c.demands.ensures in
-    (filled_length full, omega (arith, c.window-available.ensures, filled_short full), filled_most full)
+pub returns-then-steps-used : goal.returns-then-steps-used
+returns-then-steps-used c = ap (outcome_answer (plan_lent c.args.held.lent) c.args.steps) (steps_end c.loop-used.invariant.1 (omega (arith, c.if-steps-used.true)))
 
-pub returns-then-not-some_fails : goal.returns-then-not-some_fails
-returns-then-not-some_fails c =
-    let p = plan_lent c.args.held.lent in
-    let s = c.loop-made.invariant.1 in
-    let full : Filled p c.demands.new.out c.loop-made.t = filled_by c.args.held.valid s.within c.demands.ensures in
-    ap (outcome_answer p c.args.steps) (step_settles s c.loop-made-test.true (none_settles full s.first c.window-available.ensures c.some_fails.ensures c.if-not-some_fails.true))
+pub overflow_add-used : goal.overflow_add-used
+overflow_add-used c = omega (arith, c.if-steps-used.false)
+
+pub ports-init : goal.ports-init
+ports-init c = (λ k l. absurd (omega (arith, l)), refl)
+
+pub bounds-out-q : goal.bounds-out-q
+bounds-out-q c =
+    omega (arith, filled_length (filled_by c.args.held.valid c.loop-used.invariant.1.within c.demands.ensures), c.ports-test.true)
+
+pub port_fails-requires : goal.port_fails-requires
+port_fails-requires c =
+    let full = filled_by c.args.held.valid c.loop-used.invariant.1.within c.demands.ensures in
+    (omega (arith, c.window-available.ensures, filled_short full), filled_most full _ c.ports-test.true)
+
+pub ports-preserved : goal.ports-preserved
+ports-preserved c = (passed_next c.ports.invariant.0 (sym c.port_fails.ensures ∙ c.if-port_fails.false), c.ports.invariant.1)
 
 pub neediest-worst-requires-clause-by_index : goal.neediest-worst-requires-clause-by_index
 neediest-worst-requires-clause-by_index c =
-    let full = filled_by c.args.held.valid c.loop-made.invariant.1.within c.demands.ensures in
+    let full = filled_by c.args.held.valid c.loop-used.invariant.1.within c.demands.ensures in
     λ q l. (filled_most full q l, filled-served full q l)
 
 pub returns-then-limit-next : goal.returns-then-limit-next
 returns-then-limit-next c =
     let p = plan_lent c.args.held.lent in
-    let s = c.loop-made.invariant.1 in
-    let full : Filled p c.demands.new.out c.loop-made.t = filled_by c.args.held.valid s.within c.demands.ensures in
-    let more = one_needs_more full s.first c.window-available.ensures c.some_fails.ensures c.if-not-some_fails.false in
+    let s = c.loop-used.invariant.1 in
+    let full : Filled p c.demands.new.out c.loop-used.t = filled_by c.args.held.valid s.within c.demands.ensures in
+    let more : c.loop-used.t < largest_need p c.loop-used.t =
+    elim c.ports-test.branch [
+      | else-ports-test w ↦ absurd (true≢false (sym c.ports.invariant.1 ∙ sym w.passes-is ∙ c.if-passes.false))
+      | then-ports-test+then-port_fails w ↦ one_fails full s.first c.window-available.ensures c.ports.q w.ports-test.true (sym w.port_fails.ensures ∙ w.if-port_fails.true)
+    ] in
     let next = filled-largest full c.neediest-worst.ensures.most in
-    c.none_found-refusal.ensures ∙ ap (outcome_answer p c.args.steps) (step_exceeds s c.loop-made-test.true more (omega (arith, next, c.if-limit-next.true)))
+    c.none_found-refusal.ensures ∙ ap (outcome_answer p c.args.steps) (step_exceeds s (omega (arith, c.if-steps-used.false)) more (omega (arith, next, c.if-limit-next.true)))
 
-pub loop-made-preserved : goal.loop-made-preserved
-loop-made-preserved c =
+pub loop-used-preserved : goal.loop-used-preserved
+loop-used-preserved c =
     let p = plan_lent c.args.held.lent in
-    let s = c.loop-made.invariant.1 in
-    let full : Filled p c.demands.new.out c.loop-made.t = filled_by c.args.held.valid s.within c.demands.ensures in
-    let more = one_needs_more full s.first c.window-available.ensures c.some_fails.ensures c.if-not-some_fails.false in
-    let next : c.neediest-worst.result.needed ≡ largest_need p c.loop-made.t = filled-largest full c.neediest-worst.ensures.most in
-    (filled_length full, subst (Stepped p _ _ _) (sym next) (step_rises s c.loop-made-test.true more (omega (arith, next, c.if-limit-next.false))))
+    let s = c.loop-used.invariant.1 in
+    let full : Filled p c.demands.new.out c.loop-used.t = filled_by c.args.held.valid s.within c.demands.ensures in
+    let more : c.loop-used.t < largest_need p c.loop-used.t =
+    elim c.ports-test.branch [
+      | else-ports-test w ↦ absurd (true≢false (sym c.ports.invariant.1 ∙ sym w.passes-is ∙ c.if-passes.false))
+      | then-ports-test+then-port_fails w ↦ one_fails full s.first c.window-available.ensures c.ports.q w.ports-test.true (sym w.port_fails.ensures ∙ w.if-port_fails.true)
+    ] in
+    let next : c.neediest-worst.result.needed ≡ largest_need p c.loop-used.t = filled-largest full c.neediest-worst.ensures.most in
+    (filled_length full, subst (Stepped p _ _ _) (sym next) (step_rises s (omega (arith, c.if-steps-used.false)) more (omega (arith, next, c.if-limit-next.false))))
 
 pub returns : goal.returns
-returns c = ap (outcome_answer (plan_lent c.args.held.lent) c.args.steps) (steps_end c.loop-made.invariant.1 (omega arith))
+returns c =
+    let p = plan_lent c.args.held.lent in
+    let s = c.loop-used.invariant.1 in
+    let full : Filled p c.demands.new.out c.loop-used.t = filled_by c.args.held.valid s.within c.demands.ensures in
+    elim c.ports-test.branch [
+      | else-ports-test w ↦
+          ap (outcome_answer p c.args.steps)
+          (step_settles s (omega (arith, c.if-steps-used.false)) (none_settles full s.first c.window-available.ensures (λ k l. c.ports.invariant.0 k (omega (arith, l, w.ports-test.false)))))
+      | then-ports-test+then-port_fails w ↦ absurd (true≢false (sym c.if-passes.true ∙ w.passes-is))
+    ]
