@@ -2,6 +2,7 @@
 // box, a hatched one, and one that stands out above and below; or three characters.
 use crate::scale::{Scale, left};
 use std::io;
+use streams::say_choice;
 
 #[derive(Clone, Copy, PartialEq, Eq)]
 pub(crate) enum Kind {
@@ -10,15 +11,12 @@ pub(crate) enum Kind {
     Both,
 }
 
-impl Kind {
-    fn character(self) -> char {
-        match self {
-            Kind::Admissible => '#',
-            Kind::Refused => '-',
-            Kind::Both => '+',
-        }
-    }
+// The characters in their places, each kind's by its number, and behind them the space.
+const CHARACTERS: &[u8] = b"#|-|+| ";
 
+const SPACE: usize = 3;
+
+impl Kind {
     fn rectangle(self) -> &'static str {
         match self {
             Kind::Admissible => "class='admissible' y='104' height='40'",
@@ -35,16 +33,16 @@ pub(crate) enum Style {
     Text,
 }
 
-// A character in each place from one up to another.
-fn repeat(out: &impl Print, character: char, from: u64, to: u64) -> io::Result<()> {
+// The character of this number in each place from one up to another.
+fn repeat(out: &impl Print, number: usize, from: u64, to: u64) -> io::Result<()> {
     for _ in from..to {
-        out.print(character)?;
+        say_choice(out, CHARACTERS, number)?;
     }
     Ok(())
 }
 
 pub(crate) fn say_spaces(out: &impl Print, from: u64, to: u64) -> io::Result<()> {
-    repeat(out, ' ', from, to)
+    repeat(out, SPACE, from, to)
 }
 
 // The columns from one up to another that is no longer of the kind.
@@ -62,7 +60,7 @@ pub(crate) fn say_run(
         return Ok(());
     }
     match style {
-        Style::Text => repeat(out, kind.character(), x, end),
+        Style::Text => repeat(out, kind as usize, x, end),
         Style::Picture => {
             let rectangle = kind.rectangle();
             println!(out; "<rect {rectangle} x='{x}' width='{}'/>", end - x)
