@@ -7,7 +7,7 @@ ghost use Rattle.tables.specs.Lent.{plan_lent};
 ghost use Rattle.questions.specs.Search.{Found};
 
 use super::demand::demands;
-use super::failing::port_fails;
+use super::failing::held_fails;
 use super::need::neediest;
 use super::port_search::raise_port;
 use numbers::port::window;
@@ -27,7 +27,7 @@ pub(crate) fn ascend(held: Held, out: &mut [u64]) -> u64
         let available = window(lent.guard, t);
         let mut passes = true;
         'ports: for q in 0..PORTS {
-            if port_fails(
+            if held_fails(
                 lent.rates[q],
                 lent.blockings[q],
                 lent.extras[q],

@@ -21,8 +21,26 @@ fn periods_begun(widened: u32, jitter: u32, period: u32) -> u32
     (widened + jitter + (period - 1)) / period
 }
 
-// The frames that a flow brings in it.
-pub(crate) fn flow_frames(period: u32, count: u16, jitter: u32, widened: u32) -> u64
+// The same of any numbers, in 64 bits; 0 for a period of 0, as of any quotient by 0.
+fn wide_begun(widened: u32, jitter: u32, period: u32) -> u64
+    ensures { result ≡ begun_by widened jitter period }
+{
+    if period == 0 {
+        return 0;
+    }
+    (u64::from(widened) + u64::from(jitter) + u64::from(period - 1)) / u64::from(period)
+}
+
+// The frames that a flow brings in a length of time, whatever its numbers.
+pub fn flow_frames(period: u32, count: u16, jitter: u32, widened: u32) -> u64
+    ensures { result ≡ frames_by count widened jitter period }
+{
+    let begun = wide_begun(widened, jitter, period);
+    u64::from(count) * begun
+}
+
+// The same of the numbers of a plan that is held, whose ranges it leans on.
+pub(crate) fn held_frames(period: u32, count: u16, jitter: u32, widened: u32) -> u64
     requires { (min_period ≤ period)
         × (period ≤ max_period)
         × (count ≤ max_count)
@@ -70,7 +88,7 @@ pub(crate) fn demands(held: Held, duration: u64, out: &mut [u64])
     for f in 0..FLOWS {
         let period = lent.periods[f];
         if period != 0 {
-            let frames = flow_frames(period, lent.counts[f], lent.jitters[f], over);
+            let frames = held_frames(period, lent.counts[f], lent.jitters[f], over);
             add_route(held, f, frames, out);
         }
     }

@@ -24,8 +24,23 @@ pub(crate) fn workload(blocking: u16, extra: u8, bits: u64) -> u64
     NS_PER_BIT * (bits + blocking_bits(blocking, extra))
 }
 
-// Whether a port fails; a demand of 0 is that of a port that no flow crosses.
-pub(crate) fn port_fails(rate: u32, blocking: u16, extra: u8, window: u64, bits: u64) -> bool
+// The same of any demand, in 128 bits.
+fn wide_workload(blocker: u16, extra: u8, bits: u64) -> u128
+    ensures { result ≡ workload_of blocker extra bits }
+{
+    u128::from(NS_PER_BIT) * (u128::from(bits) + u128::from(blocking_bits(blocker, extra)))
+}
+
+// Whether a port fails, whatever its numbers; a demand of 0 is that of a port that no flow crosses.
+pub fn port_fails(rate: u32, blocking: u16, extra: u8, window: u64, bits: u64) -> bool
+    ensures { result ≡ fails_by_of rate blocking extra window bits }
+{
+    let capacity = u128::from(rate) * u128::from(window);
+    bits != 0 && capacity < wide_workload(blocking, extra, bits)
+}
+
+// The same of the numbers of a plan that is held, whose ranges it leans on.
+pub(crate) fn held_fails(rate: u32, blocking: u16, extra: u8, window: u64, bits: u64) -> bool
     requires { (window ≤ max_top) × (bits ≤ most_demand) }
     ensures { result ≡ fails_by_of rate blocking extra window bits }
 {
@@ -49,7 +64,7 @@ pub(crate) fn failing_by<F: Fn(usize) -> u64>(
     let mut set: u64 = 0;
     for q in 0..PORTS {
         let bits = demand_of(q);
-        if port_fails(
+        if held_fails(
             lent.rates[q],
             lent.blockings[q],
             lent.extras[q],

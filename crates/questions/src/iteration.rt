@@ -7,7 +7,7 @@ ghost use Rattle.questions.specs.Answer.{fixed_point_of, fixed_point_refused};
 ghost use Rattle.questions.specs.FixedPoint.{outcome_answer, fixed_point_answer};
 
 use super::demand::demands;
-use super::failing::{failing_at, port_fails};
+use super::failing::{failing_at, held_fails};
 use super::need::neediest;
 use numbers::limits::between;
 use numbers::port::window;
@@ -60,7 +60,7 @@ fn iterate(held: Held, start: u64, steps: u64) -> Result<FixedPoint, FixedPointR
         let available = window(lent.guard, t);
         let mut passes = true;
         'ports: for q in 0..PORTS {
-            if port_fails(
+            if held_fails(
                 lent.rates[q],
                 lent.blockings[q],
                 lent.extras[q],

@@ -31,10 +31,13 @@ mod span_list;
 mod upward;
 
 pub use check::{CheckRefusal, check_tables};
+pub use demand::flow_frames;
+pub use failing::port_fails;
 pub use iteration::{FixedPoint, FixedPointRefusal, fixed_point_tables};
 pub use lean::lean_tables;
 pub use nearest::{Nearest, NearestRefusal, nearest_tables};
 pub use one_span::{SpanRecord, SpanRefusal, span_tables};
+pub use port_demand::flow_bits;
 pub use port_slack::{SlackRefusal, slack_tables};
 pub use reprice::{RepriceRefusal, reprice_tables};
 pub use search::{SearchRefusal, search_tables};

@@ -1,5 +1,5 @@
 // The demand of one port at a duration, in bits.
-ghost use Rattle.std.specs.Prelude.{◌≡◌, ◌*◌, ◌≤◌, ◌<◌};
+ghost use Rattle.std.specs.Prelude.{◌≡◌, ◌-◌, ◌*◌, ◌^◌, ◌≤◌, ◌<◌, min};
 ghost use Rattle.cqf.specs.Limits.{port_slots, flow_slots, min_period, max_period, max_count, max_length, max_jitter, max_extra};
 ghost use Rattle.cqf.specs.Overflow.{most_widened};
 ghost use Rattle.cqf.specs.Plan.{crosses};
@@ -7,13 +7,29 @@ ghost use Rattle.cqf.specs.Port.{bits_of};
 ghost use Rattle.cqf.specs.Condition.{frames_by, demand};
 ghost use Rattle.tables.specs.Lent.{plan_lent};
 
-use super::demand::flow_frames;
+use super::demand::{flow_frames, held_frames};
 use numbers::clock::widened;
 use numbers::frame::wire_bits;
 use tables::{FLOWS, Held, STRIDE};
 
-// The wire bits of the frames that a flow brings to a port.
-pub(crate) fn flow_bits(
+// The wire bits of the frames that a flow brings to a port, whatever its numbers; the largest number of 64 bits where they are more.
+pub fn flow_bits(period: u32, count: u16, bytes: u16, jitter: u32, extra: u8, widened: u32) -> u64
+    ensures bits { result ≡ min (frames_by count widened jitter period * bits_of bytes extra) (2 ^ 64 - 1) }
+    ensures in_range { (min_period ≤ period)
+        → (period ≤ max_period)
+        → (count ≤ max_count)
+        → (bytes ≤ max_length)
+        → (jitter ≤ max_jitter)
+        → (extra ≤ max_extra)
+        → (widened ≤ most_widened)
+        → result ≡ frames_by count widened jitter period * bits_of bytes extra }
+{
+    let frames = flow_frames(period, count, jitter, widened);
+    frames.saturating_mul(wire_bits(bytes, extra))
+}
+
+// The same of the numbers of a plan that is held, whose ranges it leans on.
+pub(crate) fn held_bits(
     period: u32,
     count: u16,
     bytes: u16,
@@ -30,7 +46,7 @@ pub(crate) fn flow_bits(
         × (widened ≤ most_widened) }
     ensures { result ≡ frames_by count widened jitter period * bits_of bytes extra }
 {
-    flow_frames(period, count, jitter, widened) * wire_bits(bytes, extra)
+    held_frames(period, count, jitter, widened) * wire_bits(bytes, extra)
 }
 
 // Whether the route of the flow in slot f holds the port in slot q. For speed two places at a time, and the
@@ -65,7 +81,7 @@ pub(crate) fn port_demand(held: Held, duration: u64, q: usize) -> u64
     let mut bits: u64 = 0;
     for f in 0..FLOWS {
         if route_holds(held, f, q) {
-            bits += flow_bits(
+            bits += held_bits(
                 lent.periods[f],
                 lent.counts[f],
                 lent.lengths[f],

@@ -8,7 +8,7 @@ ghost use Rattle.tables.specs.Lent.{plan_lent};
 ghost use Rattle.questions.specs.Answer.{reprice_of};
 ghost use Rattle.questions.specs.Reprice.{Reprices};
 
-use super::port_demand::{flow_bits, port_demand};
+use super::port_demand::{held_bits, port_demand};
 use super::port_slack::port_slack;
 use numbers::clock::widened;
 use numbers::limits::{MAX_FLOW, MAX_LENGTH, MIN_LENGTH, between};
@@ -39,8 +39,8 @@ fn changed_demand(held: Held, duration: u64, f: usize, bytes: u16, q: usize) -> 
     let jitter = lent.jitters[f];
     let extra = lent.extras[q];
     let length = lent.lengths[f];
-    let old = flow_bits(period, count, length, jitter, extra, over);
-    let new = flow_bits(period, count, bytes, jitter, extra, over);
+    let old = held_bits(period, count, length, jitter, extra, over);
+    let new = held_bits(period, count, bytes, jitter, extra, over);
     bits - old + new
 }
 

@@ -9,7 +9,7 @@ ghost use Rattle.questions.specs.FlowSet.{word_slots, flow_bits, word_bits, set_
 
 use super::flow_set::FlowSet;
 use super::need::need;
-use super::port_demand::flow_bits;
+use super::port_demand::held_bits;
 use numbers::clock::widened;
 use tables::Lent;
 
@@ -19,7 +19,7 @@ fn bits_at(lent: Lent, extra: u8, over: u32, f: usize) -> u64
     requires { Countable lent.periods.now lent.counts.now lent.lengths.now lent.jitters.now f × (f < flow_slots) × (extra ≤ max_extra) × (over ≤ most_widened) }
     ensures { result ≡ flow_bits lent.entry.periods.now lent.entry.counts.now lent.entry.lengths.now lent.entry.jitters.now extra over f }
 {
-    flow_bits(
+    held_bits(
         lent.periods[f],
         lent.counts[f],
         lent.lengths[f],

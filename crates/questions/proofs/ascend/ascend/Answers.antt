@@ -12,7 +12,7 @@ use Rattle.questions.specs.laws.Neediest.{neediest_fails}
 use Rattle.questions.specs.laws.PortTest.{one_fails, none_fails, passed_next}
 use Rattle.questions.specs.laws.Scratch.{filled_by, filled_length, filled_short, filled_most, filled-served}
 use Rattle.questions.proofs.ascend.ascend.Goals as goal
-use Rattle.questions.proofs.ascend.ascend.Goals.{else-ports-test, then-ports-test+then-port_fails}
+use Rattle.questions.proofs.ascend.ascend.Goals.{else-ports-test, then-ports-test+then-held_fails}
 
 pub loop-q-init : goal.loop-q-init
 loop-q-init c = (c.requires, reached_start _ c.args.held.valid)
@@ -24,13 +24,13 @@ pub bounds-out-q : goal.bounds-out-q
 bounds-out-q c =
     omega (arith, filled_length (filled_by c.args.held.valid c.loop-q.invariant.1.within c.demands.ensures), c.ports-test.true)
 
-pub port_fails-requires : goal.port_fails-requires
-port_fails-requires c =
+pub held_fails-requires : goal.held_fails-requires
+held_fails-requires c =
     let full = filled_by c.args.held.valid c.loop-q.invariant.1.within c.demands.ensures in
     (omega (arith, c.window-available.ensures, filled_short full), filled_most full _ c.ports-test.true)
 
 pub ports-preserved : goal.ports-preserved
-ports-preserved c = (passed_next c.ports.invariant.0 (sym c.port_fails.ensures ∙ c.if-port_fails.false), c.ports.invariant.1)
+ports-preserved c = (passed_next c.ports.invariant.0 (sym c.held_fails.ensures ∙ c.if-held_fails.false), c.ports.invariant.1)
 
 pub neediest-worst-requires-clause-by_index : goal.neediest-worst-requires-clause-by_index
 neediest-worst-requires-clause-by_index c =
@@ -54,7 +54,7 @@ loop-q-smaller c =
     let more : c.loop-q.t < largest_need (plan_lent c.args.held.lent) c.loop-q.t =
     elim c.ports-test.branch [
       | else-ports-test w ↦ absurd (true≢false (sym c.ports.invariant.1 ∙ sym w.passes-is ∙ c.if-passes.false))
-      | then-ports-test+then-port_fails w ↦ one_fails full (reached_first s) c.window-available.ensures c.ports.q w.ports-test.true (sym w.port_fails.ensures ∙ w.if-port_fails.true)
+      | then-ports-test+then-held_fails w ↦ one_fails full (reached_first s) c.window-available.ensures c.ports.q w.ports-test.true (sym w.held_fails.ensures ∙ w.if-held_fails.true)
     ] in
     -- the port that needs most fails
     let worst = neediest_fails full more c.neediest-worst.ensures.inside c.neediest-worst.ensures.here in
@@ -72,6 +72,6 @@ returns c =
     let none : (k : ℕ) → k < port_slots → fails (plan_lent c.args.held.lent) c.loop-q.t k ≡ false =
     elim c.ports-test.branch [
       | else-ports-test w ↦ none_fails full (reached_first s) c.window-available.ensures (λ k l. c.ports.invariant.0 k (omega (arith, l, w.ports-test.false)))
-      | then-ports-test+then-port_fails w ↦ absurd (true≢false (sym c.if-passes.true ∙ w.passes-is))
+      | then-ports-test+then-held_fails w ↦ absurd (true≢false (sym c.if-passes.true ∙ w.passes-is))
     ] in
     record { is = reached_least s none; demands = λ _. c.demands.ensures }

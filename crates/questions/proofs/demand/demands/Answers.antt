@@ -19,8 +19,8 @@ overflow_cast-over c = omega (arith, c.widened-over.ensures, widened_fits _ c.ar
 pub loop-f-init : goal.loop-f-init
 loop-f-init c = sums_none _ _ _ (λ q l. c.clear.ensures q (omega (arith, c.requires.1)))
 
-pub flow_frames-frames-requires : goal.flow_frames-frames-requires
-flow_frames-frames-requires c =
+pub held_frames-frames-requires : goal.held_frames-frames-requires
+held_frames-frames-requires c =
     let r = slot_in_range _ c.args.held.valid c.loop-f.f c.loop-f-test.true in
     (r.period_least c.if-period-ne0.true, r.period_most, r.count_most, r.jitter_most, omega (arith, c.widened-over.ensures, widened_fits _ c.args.held.valid c.args.duration c.requires.0))
 
@@ -33,8 +33,8 @@ add_route-requires-clause-by_index c = λ q h.
     let is = widened_is p T c.widened-over.ensures in
     let fits = widened_short p T valid c.requires.0 in
     let slots = slot_in_range p valid in
-    let few : c.flow_frames-frames.result * bits_of (length_of p f) (extra_of p q) ≤ most_bits =
-    rw (framed p T f is c.flow_frames-frames.ensures) (flow_most p slots (extra_most p valid) T fits f c.loop-f-test.true c.if-period-ne0.true q h) in
+    let few : c.held_frames-frames.result * bits_of (length_of p f) (extra_of p q) ≤ most_bits =
+    rw (framed p T f is c.held_frames-frames.ensures) (flow_most p slots (extra_most p valid) T fits f c.loop-f-test.true c.if-period-ne0.true q h) in
     omega (arith, few, c.loop-f.invariant q h, sum_most p slots (extra_most p valid) T fits q f h (omega arith))
 
 pub loop-f-preserved : goal.loop-f-preserved
@@ -46,7 +46,7 @@ loop-f-preserved c =
     let sums = c.loop-f.invariant in
     let is = widened_is p T c.widened-over.ensures in
     elim c.if-period-ne0.branch [
-      | then-period-ne0 w ↦ rw w.out-is (sums_add p T f w.flow_frames-frames.result out w.add_route.new.out (framed p T f is w.flow_frames-frames.ensures) w.add_route.ensures sums)
+      | then-period-ne0 w ↦ rw w.out-is (sums_add p T f w.held_frames-frames.result out w.add_route.new.out (framed p T f is w.held_frames-frames.ensures) w.add_route.ensures sums)
       | else-period-ne0 w ↦ rw w.out-is (sums_skip p T f out ((slot_in_range p c.args.held.valid f c.loop-f-test.true).absent w.if-period-ne0.false) sums)
     ]
 

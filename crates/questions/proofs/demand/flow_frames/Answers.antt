@@ -1,18 +1,15 @@
--- `questions::demand::flow_frames` meets its contract: the product is within the most frames that a flow brings.
-use mathlib.Core.Path.{ap}
-use Prim.Native.Nat.{ℕ, ◌*◌, ◌≤◌}
-use native.Mathlib.Nat.{mul-le-mul}
+-- `questions::demand::flow_frames` meets its contract: there are no more periods than ns.
+use Prim.Native.Nat.{ℕ, pred, ◌+◌, ◌^◌, ◌≤◌}
+use native.Mathlib.Nat.{mul-le-mul, div-le_self}
 use native.Mathlib.Omega.{arith}
-use Rattle.cqf.specs.Overflow.{most_begun}
-use Rattle.cqf.proofs.laws.Begun.{begun_most}
+use Rattle.cqf.specs.Ceil.{ceil_div}
 use Rattle.questions.proofs.demand.flow_frames.Goals as goal
 
 pub overflow_mul-result : goal.overflow_mul-result
+unfolding ceil_div
 overflow_mul-result c =
-    let s = c.before in
-    let few : c.periods_begun-begun.result ≤ most_begun =
-    rw c.periods_begun-begun.ensures (begun_most s.args.widened s.args.jitter s.requires.4 s.requires.3 s.requires.0) in
-    omega (arith, mul-le-mul s.requires.2 few)
-
-pub returns : goal.returns
-returns c = ap (λ (n : ℕ). c.args.count * n) c.periods_begun-begun.ensures
+    let a = c.args in
+    let few : c.wide_begun-begun.result ≤ 2 ^ 34 =
+    omega (arith, c.wide_begun-begun.ensures, div-le_self (a.widened + a.jitter + pred a.period) a.period) in
+    let count : c.from.result ≤ 2 ^ 16 = omega (arith, c.from.ensures) in
+    omega (arith, mul-le-mul count few)

@@ -13,14 +13,14 @@ use Rattle.questions.specs.laws.Fails.{fails_by, set_lowest_failing, set_failing
 use Rattle.questions.specs.laws.Sets.{set_or, set_skip}
 use Rattle.questions.specs.laws.Widened.{demand_fits}
 use Rattle.questions.proofs.failing.failing_by.Goals as goal
-use Rattle.questions.proofs.failing.failing_by.Goals.{then-port_fails, else-port_fails}
+use Rattle.questions.proofs.failing.failing_by.Goals.{then-held_fails, else-held_fails}
 
 pub loop-q-init : goal.loop-q-init
 unfolding set_to
 loop-q-init g c = search rules
 
-pub port_fails-requires : goal.port_fails-requires
-port_fails-requires g c =
+pub held_fails-requires : goal.held_fails-requires
+held_fails-requires g c =
     let valid = c.args.held.valid in
     let p = plan_lent c.args.held.lent in
     let q = c.loop-q.q in
@@ -34,14 +34,14 @@ loop-q-preserved g c =
     let q = c.loop-q.q in
     let T = c.args.duration in
     let bits : c.demand_of-bits.result ≡ demand p q T = c.requires.demands q _ c.loop-q-test.true c.demand_of-bits.ensures in
-    let tested : c.port_fails.result ≡ fails p T q =
-    c.port_fails.ensures
+    let tested : c.held_fails.result ≡ fails p T q =
+    c.held_fails.ensures
     ∙ ap₂ (fails_by_of (rate_of p q) (blocking_of p q) (extra_of p q)) c.window-available.ensures bits
     ∙ sym (fails_by p c.args.held.valid T c.requires.range.0 q)
     in
-    elim c.if-port_fails.branch [
-      | then-port_fails w ↦ w.set-is ∙ set_or q _ c.loop-q-test.true c.loop-q.invariant (sym tested ∙ w.if-port_fails.true)
-      | else-port_fails w ↦ w.set-is ∙ set_skip q _ c.loop-q.invariant (sym tested ∙ w.if-port_fails.false)
+    elim c.if-held_fails.branch [
+      | then-held_fails w ↦ w.set-is ∙ set_or q _ c.loop-q-test.true c.loop-q.invariant (sym tested ∙ w.if-held_fails.true)
+      | else-held_fails w ↦ w.set-is ∙ set_skip q _ c.loop-q.invariant (sym tested ∙ w.if-held_fails.false)
     ]
 
 pub returns : goal.returns

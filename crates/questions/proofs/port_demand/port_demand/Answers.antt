@@ -19,8 +19,8 @@ pub loop-f-init : goal.loop-f-init
 unfolding sum_to
 loop-f-init c = search rules
 
-pub flow_bits-bits-requires : goal.flow_bits-bits-requires
-flow_bits-bits-requires c =
+pub held_bits-bits-requires : goal.held_bits-bits-requires
+held_bits-bits-requires c =
     let p = plan_lent c.args.held.lent in
     let valid = c.args.held.valid in
     let slots = slot_in_range p valid in
@@ -38,7 +38,7 @@ overflow_add-bits c =
     let fits = widened_short p T valid c.requires.0 in
     let next : f + 1 ≤ flow_slots = omega (arith, c.loop-f-test.true) in
     omega
-    (arith, sum_crossing p c.args.q T f c.loop-f.invariant (sym c.route_holds.ensures ∙ c.if-route_holds.true) is c.flow_bits-bits.ensures, sum_most p (slot_in_range p valid) (extra_most p valid) T fits c.args.q (f + 1) c.requires.1 next)
+    (arith, sum_crossing p c.args.q T f c.loop-f.invariant (sym c.route_holds.ensures ∙ c.if-route_holds.true) is c.held_bits-bits.ensures, sum_most p (slot_in_range p valid) (extra_most p valid) T fits c.args.q (f + 1) c.requires.1 next)
 
 pub loop-f-preserved : goal.loop-f-preserved
 loop-f-preserved c =
@@ -50,7 +50,7 @@ loop-f-preserved c =
     let sum = c.loop-f.invariant in
     let holds = c.route_holds.ensures in
     elim c.if-route_holds.branch [
-      | then-route_holds w ↦ w.bits-is ∙ sum_crossing p q T f sum (sym holds ∙ w.if-route_holds.true) is w.flow_bits-bits.ensures
+      | then-route_holds w ↦ w.bits-is ∙ sum_crossing p q T f sum (sym holds ∙ w.if-route_holds.true) is w.held_bits-bits.ensures
       | else-route_holds w ↦ w.bits-is ∙ sum_apart p q T f sum (sym holds ∙ w.if-route_holds.false)
     ]
 
