@@ -1,4 +1,4 @@
-// The numbers are worked by hand from document 01's condition.
+// The numbers are worked by hand, from document 01's condition with the extra bytes and the jitter of document 02.
 use questions::{flow_bits, flow_frames, port_fails};
 
 const MOST: u32 = 4_294_967_295;
