@@ -13,7 +13,7 @@ fn periods_begun(widened: u32, jitter: u32, period: u32) -> u32
 }
 
 // The frames that a flow brings in it.
-// `questions` has one too, for itself: a public function takes any input, and this one leans on ranges that its callers know.
+// That of `questions` takes any numbers, in 64 bits; this one leans on ranges that its callers know, as `held_frames` does there.
 pub(crate) fn flow_frames(period: u32, count: u16, jitter: u32, widened: u32) -> u64
     requires { (min_period ≤ period)
         × (period ≤ max_period)

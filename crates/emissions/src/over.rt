@@ -25,7 +25,7 @@ fn workload(blocking: u16, extra: u8, bits: u64) -> u64
 }
 
 // Whether a port that must send these bits leaves a frame unsent; one that must send none does not.
-// `questions` has both too, for itself: a public function takes any input, and these lean on ranges that their callers know.
+// `questions::port_fails` takes any numbers, in 128 bits; these lean on ranges that their callers know, as `held_fails` does there.
 fn port_overruns(rate: u32, blocking: u16, extra: u8, window: u64, bits: u64) -> bool
     requires { (window ≤ max_top) × (bits ≤ most_demand) }
     ensures { result ≡ fails_by_of rate blocking extra window bits }

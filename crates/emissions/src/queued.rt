@@ -38,7 +38,7 @@ fn queued_port(route: &[u8], q: usize, latest: u64, c: u64) -> u8
 }
 
 // The wire bits of the frames that a flow brings to a port.
-// `questions` has one too, for itself: a public function takes any input, and this one leans on ranges that its callers know.
+// That of `questions` takes any numbers; this one leans on ranges that its callers know, as `held_bits` does there.
 fn flow_bits(period: u32, count: u16, bytes: u16, jitter: u32, extra: u8, widened: u32) -> u64
     requires { (min_period ≤ period)
         × (period ≤ max_period)

@@ -1,5 +1,5 @@
 -- `questions::demand::flow_frames` meets its contract: there are no more periods than ns.
-use Prim.Native.Nat.{ℕ, pred, ◌+◌, ◌^◌, ◌≤◌}
+use Prim.Native.Nat.{pred, ◌+◌, ◌^◌, ◌≤◌}
 use native.Mathlib.Nat.{mul-le-mul, div-le_self}
 use native.Mathlib.Omega.{arith}
 use Rattle.cqf.specs.Ceil.{ceil_div}

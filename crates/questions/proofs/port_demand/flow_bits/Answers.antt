@@ -1,6 +1,6 @@
 -- `questions::port_demand::flow_bits` meets its contract: the most bits that a flow of a plan brings are below 2 ^ 64.
-use mathlib.Core.Path.{◌≡◌, ap₂, ◌∙◌}
-use Prim.Native.Nat.{ℕ, ◌*◌, ◌-◌, ◌^◌, min}
+use mathlib.Core.Path.{◌≡◌, ap₂}
+use Prim.Native.Nat.{ℕ, ◌*◌}
 use native.Mathlib.Omega.{arith}
 use Rattle.cqf.specs.Port.{bits_of}
 use Rattle.cqf.specs.Condition.{frames_by}
